@@ -1,0 +1,50 @@
+//! The program `rustsec_audit`: `rustsec_commands` over its arguments, its input and its output.
+#![tactic(auto)]
+
+use rustsec_commands::{Fault, run};
+use std::alloc::Global;
+use std::io::ErrorKind;
+use std::process::ExitCode;
+use std::{env, io};
+
+/// The words behind the program's name; none at all where one of them is no text.
+fn words(rt: &HostRuntime) -> Result<Vec<String>, Fault> {
+    let mut words = Vec::new(rt.alloc());
+    match env::args(rt) {
+        Ok(args) => {
+            for word in args.skip(1) {
+                words.push(word).map_err(|_| Fault::Memory)?;
+            }
+        }
+        Err(e) if e.kind() == ErrorKind::OutOfMemory => return Err(Fault::Memory),
+        Err(_) => {}
+    }
+    Ok(words)
+}
+
+/// The words as texts.
+fn texts(alloc: Global, words: &[String]) -> Result<Vec<&str>, Fault> {
+    let mut texts = Vec::new(alloc);
+    for word in words {
+        texts.push(word.as_str()).map_err(|_| Fault::Memory)?;
+    }
+    Ok(texts)
+}
+
+/// Carries out the command that the arguments name.
+fn carry_out(rt: &HostRuntime) -> Result<u8, Fault> {
+    let words = words(rt)?;
+    let texts = texts(rt.alloc(), &words)?;
+    run(rt, &texts, &mut rt.stdin(), &mut io::writer(rt))
+}
+
+fn main(rt: HostRuntime) -> ExitCode {
+    match carry_out(&rt) {
+        Ok(status) => ExitCode::from(status),
+        Err(_) => {
+            // The status tells of the fault even where the error output cannot be written.
+            let _ = eprintln!(rt; "failed");
+            ExitCode::from(3)
+        }
+    }
+}

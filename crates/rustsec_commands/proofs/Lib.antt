@@ -1,0 +1,2 @@
+pub mod OneOutput
+pub mod Turns

@@ -1,0 +1,95 @@
+-- How what the lines ask follows a loop over them.
+use Rattle.std.proofs.Common.{◌≡◌, ℕ, ◌+◌, ◌<◌, ◌≤◌, Bool, true, false, cond, List, [], ◌∷◌, ◌++◌, Option, Some, None, length, take, get_or, map, refl, sym, ap, ◌∙◌, append-nil, arith, below_more, subst}
+use Rattle.std.specs.Prelude.{filter_map, is_none, nat_lt, position}
+use Rattle.std.specs.List.{position_or_len}
+use Rattle.std.proofs.lemmas.Bool.Decides.{nat_tests}
+use Rattle.std.proofs.lemmas.List.{get_or-map, take_all, take_more}
+use Rattle.std.proofs.lemmas.List.Elements.{filter_map-append}
+use Rattle.std.proofs.lemmas.List.Sums.{position_or_len_is}
+use Rattle.std.proofs.Math.ListN.{length-map}
+use Rattle.std.specs.Borrow.{Bor}
+use Rattle.rustsec_commands.specs.Asked.{Asked, asked, first_malformed, patched_in, says, unaffected_in, version_in}
+use Rattle.rustsec_commands.specs.Line.{Line, asked_by, blank, line_says, lines_of, patched, unaffected, version}
+use Rattle.rustsec_commands.specs.Output.{AreRangeLines, AreRangeLinesOr, IsRangesOutput, Output, affected_output, malformed, verdicts, verdicts_or}
+use Rattle.rustsec_commands.specs.Views.{with_line}
+use Rattle.rustsec_commands.specs.declared.asked.Question.TheVariants as question
+use Rattle.rustsec_commands.specs.declared.asked.Question.{Question}
+
+-- ---- the first malformed line
+
+-- no line before a place is malformed
+abbrev pub NoneBefore : List (Option Line) → ℕ → Type 0
+NoneBefore lines i = (k : ℕ) → k < i → is_none (get_or lines k None) ≡ false
+
+pub malformed-here : (lines : List (Option Line)) (i : ℕ) → i < length lines → NoneBefore lines i → get_or lines i None ≡ None → first_malformed lines ≡ Some i
+malformed-here lines i lt before at =
+    let e : position_or_len is_none lines ≡ i = position_or_len_is is_none lines i None (omega arith) before (λ h. rw at refl) in
+    let low : nat_lt i (length lines) ≡ true = grind (arith, nat_tests) in
+    rw (e, low) refl
+
+pub malformed-nowhere : (lines : List (Option Line)) (i : ℕ) → length lines ≤ i → NoneBefore lines i → first_malformed lines ≡ None
+malformed-nowhere lines i all before =
+    let e : position_or_len is_none lines ≡ length lines = position_or_len_is is_none lines (length lines) None (omega arith) (λ k h. before k (omega arith)) (λ h. absurd (omega arith)) in
+    let high : nat_lt (length lines) (length lines) ≡ false = grind (arith, nat_tests) in
+    rw (e, high) refl
+
+some-there : (o : Option Line) (l : Line) → o ≡ Some l → is_none o ≡ false
+some-there o l h = rw h refl
+
+pub none-more : (lines : List (Option Line)) (i : ℕ) (l : Line) → NoneBefore lines i → get_or lines i None ≡ Some l → NoneBefore lines (i + 1)
+none-more lines i l before at = below_more _ i before (some-there (get_or lines i None) l at)
+
+-- ---- what the lines ask
+
+asked-push : (lines : List (Option Line)) (l : Line) → asked (lines ++ Some l ∷ []) ≡ with_line (asked lines) l
+asked-push lines blank = rw (filter_map-append patched_in, filter_map-append unaffected_in, filter_map-append version_in) (simp append-nil)
+asked-push lines (patched r) = rw (filter_map-append patched_in, filter_map-append unaffected_in, filter_map-append version_in) (simp append-nil)
+asked-push lines (unaffected r) = rw (filter_map-append patched_in, filter_map-append unaffected_in, filter_map-append version_in) (simp append-nil)
+asked-push lines (version v) = rw (filter_map-append patched_in, filter_map-append unaffected_in, filter_map-append version_in) (simp append-nil)
+
+pub asked-more : (lines : List (Option Line)) (i : ℕ) (l : Line) → i < length lines → get_or lines i None ≡ Some l
+    → asked (take (i + 1) lines) ≡ with_line (asked (take i lines)) l
+asked-more lines i l lt at = rw (take_more lines i None lt, at) (asked-push (take i lines) l)
+
+-- ---- lines behind references
+
+module _ (q : Question) where
+  abbrev pub said_of : List (Bor (List ℕ)) → List (Option Line)
+  said_of lines = map (λ x. asked_by q (line_says x.now)) lines
+
+  pub said-at : (lines : List (Bor (List ℕ))) (i : ℕ) (d : Bor (List ℕ)) (o : Option Line) → i < length lines
+      → o ≡ asked_by q (line_says (get_or lines i d).now) → get_or (said_of lines) i None ≡ o
+  said-at lines i d o lt h = get_or-map (λ (x : Bor (List ℕ)). asked_by q (line_says x.now)) lines i d None lt ∙ sym h
+
+  pub said-length : (lines : List (Bor (List ℕ))) → length (said_of lines) ≡ length lines
+  said-length lines = length-map lines (λ (x : Bor (List ℕ)). asked_by q (line_says x.now))
+
+  pub said-lines : (refs : List (Bor (List ℕ))) (lines : List (List ℕ)) → map (λ x. x.now) refs ≡ lines → said_of refs ≡ map (λ line. asked_by q (line_says line)) lines
+  said-lines [] lines h = ap (map (λ (line : List ℕ). asked_by q (line_says line))) h
+  said-lines (r ∷ refs) lines h =
+      ap (λ (l : List (Option Line)). asked_by q (line_says r.now) ∷ l) (said-lines refs (map (λ x. x.now) refs) refl)
+      ∙ ap (map (λ (line : List ℕ). asked_by q (line_says line))) h
+
+  -- the lines of an input
+  pub said-input : (input : List ℕ) (refs : List (Bor (List ℕ))) → map (λ x. x.now) refs ≡ lines_of input → said_of refs ≡ says q input
+  said-input input refs h = said-lines refs (lines_of input) h
+
+-- ---- the whole output
+
+-- the ranges of what is asked, where no line is malformed
+pub ranges-given : (input : List ℕ) (a : Asked) (o : Output) → first_malformed (says question.Ranges input) ≡ None → a ≡ asked (says question.Ranges input)
+    → AreRangeLines a.lists o → IsRangesOutput input o
+ranges-given input a o e h t =
+    subst (λ (x : Option ℕ). AreRangeLinesOr x ((asked (says question.Ranges input)).lists) o) (sym e) (subst (λ (b : Asked). AreRangeLines b.lists o) h t)
+
+-- a line that is malformed
+pub ranges-malformed : (input : List ℕ) (place : ℕ) (o : Output) → first_malformed (says question.Ranges input) ≡ Some place → o ≡ malformed place → IsRangesOutput input o
+ranges-malformed input place o e h = subst (λ (x : Option ℕ). AreRangeLinesOr x ((asked (says question.Ranges input)).lists) o) (sym e) h
+
+-- the verdicts of what is asked, where no line is malformed
+pub affected-given : (input : List ℕ) (a : Asked) → first_malformed (says question.Verdicts input) ≡ None → a ≡ asked (says question.Verdicts input)
+    → affected_output input ≡ verdicts a
+affected-given input a e h = ap (λ (x : Option ℕ). verdicts_or x (asked (says question.Verdicts input))) e ∙ ap verdicts (sym h)
+
+pub affected-malformed : (input : List ℕ) (place : ℕ) → first_malformed (says question.Verdicts input) ≡ Some place → affected_output input ≡ malformed place
+affected-malformed input place e = ap (λ (x : Option ℕ). verdicts_or x (asked (says question.Verdicts input))) e

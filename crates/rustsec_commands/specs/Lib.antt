@@ -1,0 +1,6 @@
+pub mod Line
+pub mod Asked
+pub mod Output
+pub mod Views
+pub mod Answer
+pub mod Words

@@ -1,0 +1,70 @@
+-- What the commands `affected` and `ranges` write for an input, and their status.
+use Rattle.std.specs.Prelude.{◌≡◌, ℕ, ◌+◌, Bool, true, false, List, ◌++◌, Option, Some, None, codes, flat_map, if◌then◌else◌}
+use Rattle.std.specs.Fmt.{decimal}
+use Rattle.semver.specs.Identifiers.{parts_text}
+use Rattle.semver.specs.Parse.{Parts}
+use Rattle.rustsec_versions.specs.Lists.{Lists, accepted, affected, intervals}
+use Rattle.rustsec_versions.specs.Ranges.{AreRanges, Range}
+use Rattle.rustsec_commands.specs.Asked.{Asked, asked, first_malformed, says}
+use Rattle.rustsec_commands.specs.declared.asked.Question.TheVariants as question
+
+-- a text and a status
+pub record Output : Type 0 where
+  pub text : List ℕ
+  pub status : ℕ
+
+-- the answer to a malformed line, by its place from 0; it is printed from 1
+abbrev pub malformed : ℕ → Output
+malformed place = record { text = codes "line " ++ (decimal (place + 1) ++ codes ": malformed\n"); status = 2 }
+
+-- the answer to lists that are not accepted
+abbrev pub refused : Output
+refused = record { text = codes "refused: bad parameter\n"; status = 2 }
+
+-- ---- affected
+
+-- the line for a version
+abbrev pub verdict : Lists → Parts → List ℕ
+verdict ls v = parts_text v ++ (if affected ls v then codes " affected\n" else codes " not affected\n")
+
+-- a line for each version asked about, in order
+abbrev pub verdicts : Asked → Output
+verdicts a = if accepted a.lists then record { text = flat_map (verdict a.lists) a.versions; status = 0 } else refused
+
+abbrev pub verdicts_or : Option ℕ → Asked → Output
+verdicts_or (Some place) a = malformed place
+verdicts_or None a = verdicts a
+
+-- what `affected` writes
+abbrev pub affected_output : List ℕ → Output
+affected_output input = verdicts_or (first_malformed (says question.Verdicts input)) (asked (says question.Verdicts input))
+
+-- ---- ranges
+
+-- a side of a range, a dash where it is missing
+abbrev pub side_text : Option Parts → List ℕ
+side_text None = codes "-"
+side_text (Some v) = parts_text v
+
+-- the line for a range
+abbrev pub range_line : Range → List ℕ
+range_line r = side_text r.introduced ++ (codes " " ++ (side_text r.fixed ++ codes "\n"))
+
+-- a line for each range of the lists, in order
+pub record AreRangeLines (ls : Lists) (o : Output) : Type 0 where
+  pub lines : accepted ls ≡ true → (rs : List Range) × (AreRanges (intervals ls) rs × (o ≡ record { text = flat_map range_line rs; status = 0 }))
+  pub refused : accepted ls ≡ false → o ≡ refused
+
+abbrev pub AreRangeLinesOr : Option ℕ → Lists → Output → Type 0
+AreRangeLinesOr (Some place) ls o = o ≡ malformed place
+AreRangeLinesOr None ls o = AreRangeLines ls o
+
+-- what `ranges` writes
+abbrev pub IsRangesOutput : List ℕ → Output → Type 0
+IsRangesOutput input o = AreRangeLinesOr (first_malformed (says question.Ranges input)) ((asked (says question.Ranges input)).lists) o
+
+-- ---- usage
+
+-- the answer to words that name no command
+abbrev pub usage : Output
+usage = record { text = codes "usage: rustsec_audit COMMAND\n"; status = 2 }

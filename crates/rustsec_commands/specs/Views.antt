@@ -1,0 +1,21 @@
+-- What a contract sees of a line that was read, and of what the lines ask.
+use Rattle.std.specs.Prelude.{List, [], ◌∷◌, ◌++◌}
+use Rattle.semver.specs.Identifiers.{parts_of}
+use Rattle.rustsec_versions.specs.Views.{comparators_of}
+use Rattle.rustsec_commands.specs.Asked.{Asked}
+use Rattle.rustsec_commands.specs.Line.{Line, blank, patched, unaffected, version}
+use Rattle.rustsec_commands.specs.declared.line.Line as given
+use Rattle.rustsec_commands.specs.declared.line.Line.TheVariants as line
+
+abbrev pub line_view : given.Line → Line
+line_view line.Blank = blank
+line_view (line.Patched r) = patched (comparators_of r)
+line_view (line.Unaffected r) = unaffected (comparators_of r)
+line_view (line.Version v) = version (parts_of v)
+
+-- what is asked with one more line
+abbrev pub with_line : Asked → Line → Asked
+with_line a blank = a
+with_line a (patched r) = record a { lists = record { patched = a.lists.patched ++ r ∷ []; unaffected = a.lists.unaffected } }
+with_line a (unaffected r) = record a { lists = record { patched = a.lists.patched; unaffected = a.lists.unaffected ++ r ∷ [] } }
+with_line a (version v) = record a { versions = a.versions ++ v ∷ [] }

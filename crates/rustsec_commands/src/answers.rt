@@ -1,0 +1,71 @@
+//! The answers to the commands `affected` and `ranges`, over any reader and writer.
+
+ghost use Rattle.rustsec_commands.specs.declared.fault.Fault.TheVariants as fault;
+ghost use Rattle.std.specs.Prelude.{◌≡◌, ◌≢◌, IfErr, IfOk, IfSome, OnOk};
+ghost use Rattle.std.specs.Io.KnownBytes.{Appends, Consumes, IsAtEnd, Keeps};
+ghost use Rattle.rustsec_commands.specs.Answer.{AnswersRanges};
+ghost use Rattle.rustsec_commands.specs.Output.{affected_output};
+
+use crate::fault::Fault;
+use crate::output;
+use std::alloc::Global;
+use std::io::{Read, Write};
+
+/// The most reads of an input, 2^32.
+const MAX_READS: u64 = 4294967296;
+
+/// All that a reader has left, in at most `MAX_READS` reads.
+fn read_all<R: Read>(alloc: Global, input: &mut R) -> Result<Vec<u8>, Fault>
+    ensures all { IfOk result (λ v. IfSome (R.remaining input.old) (λ bytes. v.items ≡ bytes)) }
+    ensures err { IfErr result (λ e. e ≢ fault.Write) }
+{
+    let mut all = Vec::new(alloc);
+    let mut buf = [0u8; 16384];
+    'reads: for _ in 0..MAX_READS {
+        match input.read(&mut buf) {
+            Ok(0) => return Ok(all),
+            Ok(count) => all.extend_from_slice(&buf[..count])?,
+            Err(_) => return Err(Fault::Read),
+        }
+    }
+    Err(Fault::Read)
+}
+
+/// Carries out `affected`: reads all there is, and writes a line for each version that is asked
+/// about. The whole text is made before the first write. The answer is the status: 0, or 2 where a
+/// line is malformed or the lists are not accepted.
+///
+/// # Errors
+///
+/// `Memory` and `Read`, with nothing written; `Write`, after which nothing is said of how much went
+/// out.
+pub fn answer<R: Read, W: Write>(alloc: Global, input: &mut R, output: &mut W) -> Result<u8, Fault>
+    ensures status { IfOk result (λ s. IfSome (R.remaining input.old) (λ bytes. s ≡ (affected_output bytes).status)) }
+    ensures text { OnOk result (IfSome (R.remaining input.old) (λ bytes.
+        Appends (W.contents output.old) (W.contents output.new) (affected_output bytes).text)) }
+    ensures kept { IfErr result (λ e. e ≢ fault.Write → Keeps (W.contents output.old) (W.contents output.new)) }
+{
+    let bytes = read_all(alloc, input)?;
+    output::affected_output(alloc, &bytes)?.write(output)
+}
+
+/// Carries out `ranges`: reads all there is, and writes a line for each range that the requirements
+/// leave. The whole text is made before the first write. The answer is the status: 0, or 2 where a
+/// line is malformed, as one that names a version is here, or the lists are not accepted.
+///
+/// # Errors
+///
+/// `Memory` and `Read`, with nothing written; `Write`, after which nothing is said of how much went
+/// out.
+pub fn answer_ranges<R: Read, W: Write>(
+    alloc: Global,
+    input: &mut R,
+    output: &mut W,
+) -> Result<u8, Fault>
+    ensures answers { IfOk result (λ s. IfSome (R.remaining input.old) (λ bytes.
+        AnswersRanges bytes s (W.contents output.old) (W.contents output.new))) }
+    ensures kept { IfErr result (λ e. e ≢ fault.Write → Keeps (W.contents output.old) (W.contents output.new)) }
+{
+    let bytes = read_all(alloc, input)?;
+    output::ranges_output(alloc, &bytes)?.write(output)
+}

@@ -1,0 +1,97 @@
+//! What the lines of an input ask together.
+
+ghost use Rattle.std.specs.Prelude.{◌≡◌, IfOk, MatchResult, None, OnOk, Some, [], map, option_map};
+ghost use Rattle.rustsec_commands.specs.Asked.{asked, first_malformed};
+ghost use Rattle.rustsec_commands.specs.Line.{asked_by, line_says};
+ghost use Rattle.rustsec_commands.specs.Views.{line_view, with_line};
+
+use crate::line::{self, Line};
+use semver::{Version, VersionReq};
+use std::alloc::{AllocError, Global};
+use std::marker::Model;
+
+/// What a command asks of its input.
+#[derive(Clone, Copy)]
+pub enum Question {
+    /// Which of the versions that the lines name are affected.
+    Verdicts,
+    /// Which ranges the requirements leave; no line names a version.
+    Ranges,
+}
+
+/// The requirements of some lines, and the versions that they ask about.
+#[derive(Drop)]
+pub struct Asked {
+    pub patched: Vec<VersionReq>,
+    pub unaffected: Vec<VersionReq>,
+    pub versions: Vec<Version>,
+}
+
+impl Model for Asked {
+    ghost use Rattle.std.specs.Prelude.{map};
+    ghost use Rattle.semver.specs.Identifiers.{parts_of};
+    ghost use Rattle.rustsec_versions.specs.Views.{lists_of};
+    ghost use Rattle.rustsec_commands.specs.Asked.{Asked};
+
+    ghost Value = { Asked };
+
+    ghost view = { λ a. record { lists = lists_of a.patched.items a.unaffected.items; versions = map parts_of a.versions.items } };
+}
+
+impl Asked {
+    /// What no line asks.
+    fn new(alloc: Global) -> Asked
+        ensures { result ≡ asked [] }
+    {
+        Asked {
+            patched: Vec::new(alloc),
+            unaffected: Vec::new(alloc),
+            versions: Vec::new(alloc),
+        }
+    }
+
+    /// Takes in one more line.
+    fn add(&mut self, line: Line) -> Result<(), AllocError>
+        ensures { OnOk result (self.new ≡ with_line self.old (line_view line)) }
+    {
+        match line {
+            Line::Blank => {}
+            Line::Patched(req) => self.patched.push(req)?,
+            Line::Unaffected(req) => self.unaffected.push(req)?,
+            Line::Version(version) => self.versions.push(version)?,
+        }
+        Ok(())
+    }
+}
+
+/// What a line says to a question.
+fn said(alloc: Global, question: Question, line: &[u8]) -> Result<Option<Line>, AllocError>
+    ensures { IfOk result (λ o. option_map line_view o ≡ asked_by question (line_says line.now)) }
+{
+    let said = line::line_says(alloc, line)?;
+    match (question, said) {
+        (Question::Ranges, Some(Line::Version(_))) => Ok(None),
+        (_, said) => Ok(said),
+    }
+}
+
+/// What the lines ask, or the place of the first malformed one, from 0.
+pub fn read(
+    alloc: Global,
+    question: Question,
+    lines: &[&[u8]],
+) -> Result<Result<Asked, usize>, AllocError>
+    ensures { IfOk result (λ r. MatchResult r
+        (λ a. (first_malformed (map (λ x. asked_by question (line_says x.now)) lines.now) ≡ None)
+        × (a ≡ asked (map (λ x. asked_by question (line_says x.now)) lines.now)))
+        (λ n. first_malformed (map (λ x. asked_by question (line_says x.now)) lines.now) ≡ Some n)) }
+{
+    let mut all = Asked::new(alloc);
+    for (i, line) in lines.iter().enumerate() {
+        match said(alloc, question, line)? {
+            Some(line) => all.add(line)?,
+            None => return Ok(Err(i)),
+        }
+    }
+    Ok(Ok(all))
+}

@@ -1,0 +1,51 @@
+//! The command that the words name.
+
+ghost use Rattle.rustsec_commands.specs.declared.fault.Fault.TheVariants as fault;
+ghost use Rattle.std.specs.Prelude.{◌≡◌, ◌≢◌, [], ◌∷◌, IfErr, IfOk, IfSome, OnOk, codes, false, map};
+ghost use Rattle.std.specs.Io.KnownBytes.{Appends, Keeps};
+ghost use Rattle.rustsec_commands.specs.Answer.{AnswersRanges};
+ghost use Rattle.rustsec_commands.specs.Output.{affected_output, usage};
+ghost use Rattle.rustsec_commands.specs.Words.{names_command};
+
+use crate::answers::{answer, answer_ranges};
+use crate::fault::Fault;
+use crate::output;
+use std::io::{Read, Write};
+use std::rt::Files;
+
+/// Carries out the command that the words name, and answers its status:
+///
+/// - `affected`: as `answer`;
+/// - `ranges`: as `answer_ranges`;
+/// - any other words: writes the usage line, status 2.
+///
+/// # Errors
+///
+/// `Memory` and `Read`, with nothing written; `Write`, after which nothing is said of how much went
+/// out.
+pub fn run<T: Files + AllocGlobal, R: Read, W: Write>(
+    rt: &T,
+    words: &[&str],
+    input: &mut R,
+    output: &mut W,
+) -> Result<u8, Fault>
+    ensures affected_status { map (λ w. w.now) words.now ≡ codes "affected" ∷ []
+        → IfOk result (λ s. IfSome (R.remaining input.old) (λ bytes. s ≡ (affected_output bytes).status)) }
+    ensures affected_text { map (λ w. w.now) words.now ≡ codes "affected" ∷ []
+        → OnOk result (IfSome (R.remaining input.old) (λ bytes.
+        Appends (W.contents output.old) (W.contents output.new) (affected_output bytes).text)) }
+    ensures ranges { map (λ w. w.now) words.now ≡ codes "ranges" ∷ []
+        → IfOk result (λ s. IfSome (R.remaining input.old) (λ bytes.
+        AnswersRanges bytes s (W.contents output.old) (W.contents output.new))) }
+    ensures usage_status { names_command (map (λ w. w.now) words.now) ≡ false
+        → IfOk result (λ s. s ≡ usage.status) }
+    ensures usage_text { names_command (map (λ w. w.now) words.now) ≡ false
+        → OnOk result (Appends (W.contents output.old) (W.contents output.new) usage.text) }
+    ensures kept { IfErr result (λ e. e ≢ fault.Write → Keeps (W.contents output.old) (W.contents output.new)) }
+{
+    match words {
+        ["affected"] => answer(rt.alloc(), input, output),
+        ["ranges"] => answer_ranges(rt.alloc(), input, output),
+        _ => output::usage(rt.alloc())?.write(output),
+    }
+}

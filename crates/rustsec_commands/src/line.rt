@@ -1,0 +1,97 @@
+//! The lines of the input.
+
+ghost use Rattle.std.specs.Prelude.{◌≡◌, IfOk, map, option_map, true};
+ghost use Rattle.semver.specs.Identifiers.{parts_of};
+ghost use Rattle.semver.specs.Parse.{memory_error, req_of, version_parts};
+ghost use Rattle.rustsec_values.specs.Reading.{value_of};
+ghost use Rattle.rustsec_versions.specs.Views.{comparators_of};
+ghost use Rattle.rustsec_commands.specs.Line.{by_word, line_says, lines_of, without_return};
+ghost use Rattle.rustsec_commands.specs.Views.{line_view};
+
+use semver::{Version, VersionReq};
+use std::alloc::{AllocError, Global};
+use std::str;
+
+/// What a line says.
+#[derive(Drop)]
+pub enum Line {
+    Blank,
+    Patched(VersionReq),
+    Unaffected(VersionReq),
+    Version(Version),
+}
+
+/// What stands between the line feeds.
+pub fn lines_of(alloc: Global, input: &[u8]) -> Result<Vec<&[u8]>, AllocError>
+    ensures { IfOk result (λ v. map (λ x. x.now) v.items ≡ lines_of input.now) }
+{
+    input.split(|b| *b == b'\n').collect(alloc)
+}
+
+/// The line without the carriage return that ends it.
+fn without_return(line: &[u8]) -> &[u8]
+    ensures { result.now ≡ without_return line.now }
+{
+    match line {
+        [text @ .., b'\r'] => text,
+        _ => line,
+    }
+}
+
+/// Whether an error of `semver` is want of memory.
+fn is_memory(e: semver::Error) -> bool
+    ensures { e ≡ memory_error → result ≡ true }
+{
+    e == semver::Error::from(AllocError)
+}
+
+/// The requirement of a text, if it is one.
+fn requirement(alloc: Global, text: &str) -> Result<Option<VersionReq>, AllocError>
+    ensures { IfOk result (λ o. option_map comparators_of o ≡ value_of (req_of text.now)) }
+{
+    match VersionReq::parse(alloc, text) {
+        Ok(req) => Ok(Some(req)),
+        Err(e) if is_memory(e) => Err(AllocError),
+        Err(_) => Ok(None),
+    }
+}
+
+/// The version of a text, if it is one.
+fn version(alloc: Global, text: &str) -> Result<Option<Version>, AllocError>
+    ensures { IfOk result (λ o. option_map parts_of o ≡ value_of (version_parts text.now)) }
+{
+    match Version::parse(alloc, text) {
+        Ok(version) => Ok(Some(version)),
+        Err(e) if is_memory(e) => Err(AllocError),
+        Err(_) => Ok(None),
+    }
+}
+
+/// What a text says by its word, or nothing where it is malformed.
+fn by_word(alloc: Global, text: &str) -> Result<Option<Line>, AllocError>
+    ensures { IfOk result (λ o. option_map line_view o ≡ by_word text.now) }
+{
+    if let Some(rest) = text.strip_prefix("patched ") {
+        Ok(requirement(alloc, rest)?.map(Line::Patched))
+    } else if let Some(rest) = text.strip_prefix("unaffected ") {
+        Ok(requirement(alloc, rest)?.map(Line::Unaffected))
+    } else if let Some(rest) = text.strip_prefix("version ") {
+        Ok(version(alloc, rest)?.map(Line::Version))
+    } else {
+        Ok(None)
+    }
+}
+
+/// What a line says, or nothing where it is malformed.
+pub fn line_says(alloc: Global, line: &[u8]) -> Result<Option<Line>, AllocError>
+    ensures { IfOk result (λ o. option_map line_view o ≡ line_says line.now) }
+{
+    let text = without_return(line);
+    if text.is_empty() {
+        return Ok(Some(Line::Blank));
+    }
+    match str::from_utf8(text) {
+        Ok(text) => by_word(alloc, text),
+        Err(_) => Ok(None),
+    }
+}

@@ -1,0 +1,174 @@
+// A list that contracts see as the list of its elements.
+
+ghost use Rattle.std.specs.Prelude.{◌≡◌, ◌==◌, ◌++◌, ◌∷◌, [], List, IfOk, OnOk, OnErr, length, slice_get};
+ghost use Rattle.std.specs.Cmp.Lexicographic.{lists_agrees, lists_equiv, lists_per, lists_po, lists_ties, lists_total, pointwise, pointwise_decides, slice_cmp, slice_partial_cmp};
+ghost use Rattle.std.specs.Hash as fed;
+ghost use Rattle.std.specs.Hash.{items_Alike};
+ghost use Rattle.std.specs.Option.{option_copied};
+
+use crate::laws::{ExactClone, ExactEq};
+use std::alloc::{AllocError, Global};
+use std::cmp::Ordering;
+use std::fmt;
+use std::hash::{Hash, Hasher};
+use std::marker::Model;
+
+/// A list, which every contract sees as the list of its elements. It is compared element by element.
+#[derive(Drop)]
+pub struct Items<T> {
+    vector: Vec<T>,
+}
+
+impl<T> Model for Items<T> {
+    ghost Value = { List T };
+
+    ghost view = { λ v. v.vector.items };
+}
+
+impl<T> Items<T> {
+    /// The empty list, which takes no memory.
+    pub fn new(alloc: Global) -> Items<T>
+        ensures { result ≡ [] }
+    {
+        Items {
+            vector: Vec::new(alloc),
+        }
+    }
+
+    /// The elements as std's type.
+    pub fn as_slice(&self) -> &[T]
+        ensures { result.now ≡ self.now }
+    {
+        self.vector.as_slice()
+    }
+
+    /// The number of elements.
+    pub fn len(&self) -> usize
+        ensures { result ≡ length self.now }
+    {
+        self.vector.len()
+    }
+
+    /// Whether there is no element.
+    pub fn is_empty(&self) -> bool
+        ensures { result ≡ (length self.now == 0) }
+    {
+        self.vector.is_empty()
+    }
+
+    /// The element at an index, where there is one.
+    pub fn get(&self, index: usize) -> Option<&T>
+        ensures { option_copied result ≡ slice_get self.now index }
+    {
+        self.vector.as_slice().get(index)
+    }
+}
+
+impl<T: Drop> Items<T> {
+    /// Puts an element at the end.
+    ///
+    /// # Errors
+    ///
+    /// Want of memory, which drops the element and leaves the list as it was.
+    pub fn push(&mut self, element: T) -> Result<(), AllocError>
+        ensures ok { OnOk result (self.new ≡ self.old ++ element ∷ []) }
+        ensures err { OnErr result (self.new ≡ self.old) }
+    {
+        self.vector.push(element)?;
+        Ok(())
+    }
+}
+
+impl<T> From<Vec<T>> for Items<T> {
+    ghost use Rattle.std.specs.Prelude.{◌≡◌};
+
+    ghost from_gives = { λ vector items. items ≡ vector.items };
+
+    /// The elements of a vector, whose memory it takes over.
+    fn from(vector: Vec<T>) -> Items<T> {
+        Items { vector }
+    }
+}
+
+impl<T> From<Items<T>> for Vec<T> {
+    ghost use Rattle.std.specs.Prelude.{◌≡◌};
+
+    ghost from_gives = { λ items vector. vector.items ≡ items };
+
+    /// The vector that holds the elements, with no copy.
+    fn from(items: Items<T>) -> Vec<T> {
+        let Items { vector } = items;
+        vector
+    }
+}
+
+impl<T: ExactClone> Clone for Items<T> {
+    ghost is_clone = { λ a b. b ≡ a };
+
+    fn clone(&self) -> Result<Items<T>, AllocError> {
+        let vector = self.vector.clone()?;
+        Ok(Items { vector })
+    }
+}
+
+impl<T: ExactClone> ExactClone for Items<T> {
+    ghost exact = { λ x y e. e };
+}
+
+impl<T: PartialEq> PartialEq for Items<T> {
+    ghost eq = { pointwise T.eq };
+
+    ghost laws = { lists_per T.laws };
+
+    fn eq(&self, other: &Items<T>) -> bool {
+        self.as_slice() == other.as_slice()
+    }
+}
+
+impl<T: Eq> Eq for Items<T> {
+    ghost laws = { lists_equiv T.Eq.laws };
+}
+
+impl<T: ExactEq> ExactEq for Items<T> {
+    ghost decides = { pointwise_decides T.decides };
+}
+
+impl<T: PartialOrd> PartialOrd for Items<T> {
+    ghost partial_cmp = { slice_partial_cmp T.partial_cmp };
+
+    ghost laws = { lists_po T.PartialOrd.laws };
+
+    fn partial_cmp(&self, other: &Items<T>) -> Option<Ordering> {
+        self.as_slice().partial_cmp(other.as_slice())
+    }
+}
+
+impl<T: Ord> Ord for Items<T> {
+    ghost cmp = { slice_cmp T.cmp };
+
+    ghost total = { lists_total T.total };
+
+    ghost matches_partial_cmp = { lists_agrees T.matches_partial_cmp };
+
+    ghost matches_eq = { lists_ties T.cmp T.matches_eq };
+
+    fn cmp(&self, other: &Items<T>) -> Ordering {
+        self.as_slice().cmp(other.as_slice())
+    }
+}
+
+impl<T: Hash> Hash for Items<T> {
+    ghost hash_input = { λ v. fed.slice T.hash_input v };
+
+    ghost respects_eq = { (items_Alike (record { fed = T.respects_eq })).fed };
+
+    fn hash<H: Hasher>(&self, state: &mut H) {
+        self.as_slice().hash(state);
+    }
+}
+
+impl<T: fmt::Debug> fmt::Debug for Items<T> {
+    fn fmt<W: fmt::Write>(&self, f: &mut fmt::Formatter<W>) -> fmt::Result {
+        fmt::Debug::fmt(self.as_slice(), f)
+    }
+}

@@ -1,0 +1,14 @@
+//! Small types over std's collections that contracts see as values: a text as its bytes, a list as its
+//! elements, a map as its entries. Two values are the same to a contract where these are, whatever
+//! memory they lie in.
+#![tactic(auto)]
+
+mod items;
+mod laws;
+mod sorted_map;
+mod text;
+
+pub use crate::items::Items;
+pub use crate::laws::{ExactClone, ExactEq};
+pub use crate::sorted_map::SortedMap;
+pub use crate::text::Text;

@@ -1,0 +1,137 @@
+// A map that contracts see as the list of its entries, in the order of the keys.
+
+ghost use Rattle.std.specs.Prelude.{◌≡◌, ◌==◌, ◌&&◌, [], List, IfOk, OnOk, OnErr, length};
+ghost use Rattle.std.specs.BTreeMap.{insert_entry, is_at};
+ghost use Rattle.std.specs.Cmp.{and_equiv, and_per, on_equiv, on_per};
+ghost use Rattle.std.specs.Cmp.Lexicographic.{lists_equiv, lists_per, pointwise, pointwise_decides};
+ghost use Rattle.std.specs.List.Sorted.{IsStrictlySortedBy};
+ghost use Rattle.std.specs.Map.{keys_of, lookup};
+ghost use Rattle.std.specs.Option.{option_copied};
+ghost use Rattle.rustsec_values.specs.Equality.{pair_decides};
+
+use crate::laws::{ExactClone, ExactEq};
+use std::alloc::{AllocError, Global};
+use std::collections::BTreeMap;
+use std::marker::Model;
+
+/// A map from keys to values, which every contract sees as the list of its entries in the order of
+/// the keys, each key once.
+#[derive(Drop)]
+pub struct SortedMap<K: Ord, V> {
+    map: BTreeMap<K, V>,
+}
+
+impl<K: Ord, V> Model for SortedMap<K, V> {
+    ghost Value = { List (K × V) };
+
+    ghost view = { λ m. m.map.entries };
+}
+
+impl<K: Ord, V> SortedMap<K, V> {
+    /// The empty map, which takes no memory.
+    pub fn new(alloc: Global) -> SortedMap<K, V>
+        ensures { result ≡ [] }
+    {
+        SortedMap {
+            map: BTreeMap::new(alloc),
+        }
+    }
+
+    /// The map as std's type.
+    pub fn as_map(&self) -> &BTreeMap<K, V>
+        ensures { result.now.entries ≡ self.now }
+    {
+        &self.map
+    }
+
+    /// The number of entries, whose keys rise.
+    pub fn len(&self) -> usize
+        ensures len { result ≡ length self.now }
+        ensures ordered { IsStrictlySortedBy K.cmp (keys_of self.now) }
+    {
+        self.map.len()
+    }
+
+    /// Whether there is no entry.
+    pub fn is_empty(&self) -> bool
+        ensures { result ≡ (length self.now == 0) }
+    {
+        self.map.len() == 0
+    }
+
+    /// The value at a key, where there is one.
+    pub fn get(&self, key: &K) -> Option<&V>
+        ensures { option_copied result ≡ lookup (is_at (K.cmp key.now)) self.now }
+    {
+        self.map.get(key)
+    }
+}
+
+impl<K: Ord + Drop, V: Drop> SortedMap<K, V> {
+    /// Sets the value at a key.
+    ///
+    /// # Errors
+    ///
+    /// Want of memory, which drops the entry and leaves the map as it was.
+    pub fn insert(&mut self, key: K, value: V) -> Result<(), AllocError>
+        ensures ok { OnOk result (self.new ≡ insert_entry K.cmp self.old key value) }
+        ensures err { OnErr result (self.new ≡ self.old) }
+    {
+        self.map.insert(key, value)?;
+        Ok(())
+    }
+}
+
+impl<K: Ord, V> From<BTreeMap<K, V>> for SortedMap<K, V> {
+    ghost use Rattle.std.specs.Prelude.{◌≡◌};
+
+    ghost from_gives = { λ map sorted. sorted ≡ map.entries };
+
+    /// The entries of a map, whose memory it takes over.
+    fn from(map: BTreeMap<K, V>) -> SortedMap<K, V> {
+        SortedMap { map }
+    }
+}
+
+impl<K: Ord, V> From<SortedMap<K, V>> for BTreeMap<K, V> {
+    ghost use Rattle.std.specs.Prelude.{◌≡◌};
+
+    ghost from_gives = { λ sorted map. map.entries ≡ sorted };
+
+    /// The map that holds the entries, with no copy.
+    fn from(sorted: SortedMap<K, V>) -> BTreeMap<K, V> {
+        let SortedMap { map } = sorted;
+        map
+    }
+}
+
+impl<K: Ord + ExactClone, V: ExactClone> Clone for SortedMap<K, V> {
+    ghost is_clone = { λ a b. b ≡ a };
+
+    fn clone(&self) -> Result<SortedMap<K, V>, AllocError> {
+        let map = self.map.clone()?;
+        Ok(SortedMap { map })
+    }
+}
+
+impl<K: Ord + ExactClone, V: ExactClone> ExactClone for SortedMap<K, V> {
+    ghost exact = { λ x y e. e };
+}
+
+impl<K: Ord, V: PartialEq> PartialEq for SortedMap<K, V> {
+    ghost eq = { pointwise (λ p q. K.eq p.0 q.0 && V.eq p.1 q.1) };
+
+    ghost laws = { lists_per (and_per (on_per (λ p. p.0) K.PartialEq.laws) (on_per (λ p. p.1) V.laws)) };
+
+    fn eq(&self, other: &SortedMap<K, V>) -> bool {
+        self.map == other.map
+    }
+}
+
+impl<K: Ord, V: Eq> Eq for SortedMap<K, V> {
+    ghost laws = { lists_equiv (and_equiv (on_equiv (λ p. p.0) K.Eq.laws) (on_equiv (λ p. p.1) V.Eq.laws)) };
+}
+
+impl<K: Ord + ExactEq, V: ExactEq> ExactEq for SortedMap<K, V> {
+    ghost decides = { pointwise_decides (pair_decides K.eq V.eq K.decides V.decides) };
+}

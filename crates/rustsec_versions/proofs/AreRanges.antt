@@ -1,0 +1,107 @@
+-- The gaps between intervals, in the order of their starts, are the ranges that the intervals leave, and hold what no interval holds.
+use Rattle.std.proofs.Common.{◌≡◌, ◌&&◌, ◌||◌, Bool, true, false, List, [], ◌∷◌, None, map, refl, sym, ap, ◌∙◌, arith, IsPermutation}
+use Rattle.std.specs.Prelude.{filter_map, not}
+use Rattle.std.specs.List.{list_any}
+use Rattle.std.proofs.Math.ListN.{length-map}
+use Rattle.std.proofs.lemmas.List.Sorted.{IsPermutation-sym, length_permutation, list_any-IsPermutation}
+use Rattle.semver.specs.Parse.{Parts}
+use Rattle.rustsec_versions.specs.Apart.{are_apart}
+use Rattle.rustsec_versions.specs.Gaps.{cut, gaps_from}
+use Rattle.rustsec_versions.specs.Interval.{Interval, holds, overlap}
+use Rattle.rustsec_versions.specs.Precedence.{IsVersion, precedence}
+use Rattle.rustsec_versions.specs.Ranges.{AreRanges, has_bound, in_ranges, lower_cut, lower_cuts, upper_cut, upper_cuts, whole}
+use Rattle.rustsec_versions.proofs.Chain.{AllAdmissible, StartsRise, chain}
+use Rattle.rustsec_versions.proofs.Clashes.{AllSound, overlap-sym}
+use Rattle.rustsec_versions.proofs.Complement.{IsChain, gaps-complement}
+use Rattle.rustsec_versions.proofs.Cuts.{holds-cut}
+use Rattle.rustsec_versions.proofs.RangeEnds.{all-ends, all-starts, gaps-first_introduction, gaps-last_fix, gaps-none, gaps-whole, list_all-IsPermutation, one-IsPermutation}
+use Rattle.rustsec_versions.proofs.RangeList.{chain-begins, chain-ends, cuts-fixed, cuts-introduced, followed-from, gaps-fixed, gaps-followed, gaps-in_order, gaps-introduced, gaps-length}
+use Rattle.rustsec_versions.proofs.Rising.{IsSorted-from}
+use Rattle.rustsec_versions.proofs.Shuffled.{IsPermutation-filter_map, Shuffled, both, keep, permuted, same, shuffled, turn}
+use Rattle.rustsec_versions.proofs.Sound.{admissible-end, admissible-start}
+
+-- ---- what no order changes
+
+pub sound_shuffled : {xs ys : List Interval} → Shuffled xs ys → AllSound xs → AllSound ys
+sound_shuffled (same xs) a = a
+sound_shuffled (keep x s) a = (a.0, sound_shuffled s a.1)
+sound_shuffled (turn x y xs) a = (a.1.0, (a.0, a.1.1))
+sound_shuffled (both s t) a = sound_shuffled t (sound_shuffled s a)
+
+pub admissible_shuffled : {xs ys : List Interval} → Shuffled xs ys → AllAdmissible xs → AllAdmissible ys
+admissible_shuffled (same xs) a = a
+admissible_shuffled (keep x s) a = (a.0, admissible_shuffled s a.1)
+admissible_shuffled (turn x y xs) a = (a.1.0, (a.0, a.1.1))
+admissible_shuffled (both s t) a = admissible_shuffled t (admissible_shuffled s a)
+
+-- intervals that are apart are so in any order
+apart_turned : (o a b r : Bool) → (not (o || a) && (not b && r)) ≡ (not (o || b) && (not a && r))
+apart_turned true a b r = refl
+apart_turned false true true r = refl
+apart_turned false true false r = refl
+apart_turned false false true r = refl
+apart_turned false false false r = refl
+
+pub apart_shuffled : {xs ys : List Interval} → Shuffled xs ys → are_apart precedence xs ≡ are_apart precedence ys
+apart_shuffled (same xs) = refl
+apart_shuffled (keep x {xs} {ys} s) =
+    rw (apart_shuffled s, list_any-IsPermutation (overlap precedence x) xs ys (permuted s)) refl
+apart_shuffled (turn x y xs) =
+    rw (overlap-sym precedence y x) (apart_turned (overlap precedence x y) (list_any (overlap precedence x) xs) (list_any (overlap precedence y) xs) (are_apart precedence xs))
+apart_shuffled (both s t) = apart_shuffled s ∙ apart_shuffled t
+
+-- ---- the ranges of a chain
+
+-- intervals that are sound, admissible and apart, in any order
+pub record AreFit (is : List Interval) : Type 0 where
+  pub sound : AllSound is
+  pub admissible : AllAdmissible is
+  pub apart : are_apart precedence is ≡ true
+
+pub fit-IsPermutation : (is js : List Interval) → IsPermutation is js → AreFit is → AreFit js
+fit-IsPermutation is js p f =
+    let s = shuffled is js p in
+    record { sound = sound_shuffled s f.sound; admissible = admissible_shuffled s f.admissible; apart = sym (apart_shuffled s) ∙ f.apart }
+
+pub fit-chain : (js : List Interval) → AreFit js → StartsRise js → IsChain (map cut js)
+fit-chain js f sorted = chain js f.sound f.admissible sorted f.apart
+
+pub gaps-AreRanges : (is js : List Interval) → IsPermutation is js → AreFit is → StartsRise js
+    → AreRanges is (gaps_from None (map cut js))
+gaps-AreRanges is js p f sorted =
+    let fit = fit-IsPermutation is js p f in
+    let c = fit-chain js fit sorted in
+    let rs = gaps_from None (map cut js) in
+    let fixes : filter_map (λ r. r.fixed) rs ≡ lower_cuts js = gaps-fixed None (map cut js) c ∙ cuts-introduced js in
+    let introductions : filter_map (λ r. r.introduced) rs ≡ upper_cuts js = gaps-introduced None (map cut js) tt c ∙ cuts-fixed js in
+    record {
+      fixed = rw fixes (IsPermutation-filter_map (λ i. lower_cut i.start) is js p);
+      fixed_rise = rw (gaps-fixed None (map cut js) c) (IsSorted-from _ (chain-begins (map cut js) c));
+      introduced = rw introductions (IsPermutation-filter_map (λ i. upper_cut i.end) is js p);
+      introduced_rise = rw (gaps-introduced None (map cut js) tt c) (IsSorted-from _ (chain-ends (map cut js) c));
+      in_order = gaps-in_order None (map cut js) tt c;
+      followed = followed-from rs (gaps-followed None (map cut js) tt c);
+      first = λ r rest e.
+          gaps-first_introduction (map cut js) c r rest e ∙ all-starts js fit.admissible ∙ sym (list_all-IsPermutation (λ i. has_bound i.start) is js p);
+      last = λ r front e. gaps-last_fix None (map cut js) c r front e ∙ all-ends js fit.admissible ∙ sym (list_all-IsPermutation (λ i. has_bound i.end) is js p);
+      bound = omega (arith, gaps-length None (map cut js), length-map js cut, length_permutation is js p);
+      empty = (
+        λ e. one-IsPermutation whole is (IsPermutation-sym is _ (let none = gaps-none js fit.admissible c e in rw none at p)),
+        λ e. let one = one-IsPermutation whole js (rw e at p) in rw one gaps-whole,
+      );
+    }
+
+-- ---- what the ranges hold
+
+held_cut : (is : List Interval) (v : Parts) → AllAdmissible is → IsVersion v → in_ranges (map cut is) v ≡ list_any (λ i. holds i v) is
+held_cut [] v a valid = refl
+held_cut (i ∷ is) v a valid =
+    rw (← holds-cut i v (admissible-start i a.0) (admissible-end i a.0) valid, held_cut is v a.1 valid) refl
+
+-- the gaps hold the valid versions that no interval holds
+pub gaps-affected : (is js : List Interval) (v : Parts) → IsPermutation is js → AreFit is → StartsRise js → IsVersion v
+    → in_ranges (gaps_from None (map cut js)) v ≡ not (list_any (λ i. holds i v) is)
+gaps-affected is js v p f sorted valid =
+    let fit = fit-IsPermutation is js p f in
+    gaps-complement None (map cut js) v tt (fit-chain js fit sorted)
+    ∙ ap not (held_cut js v fit.admissible valid ∙ sym (list_any-IsPermutation (λ i. holds i v) is js p))

@@ -1,0 +1,145 @@
+-- Intervals that are apart follow one another, by their cuts, in the order of their starts.
+use Rattle.std.proofs.Common.{◌≡◌, ◌||◌, ◌+◌, suc, Bool, true, false, List, [], ◌∷◌, map, refl, arith, inl, inr}
+use Rattle.std.specs.Prelude.{not}
+use Rattle.std.specs.Borrow.{Bor}
+use Rattle.std.specs.List.Sorted.{IsSortedByKey}
+use Rattle.std.specs.Ordering.{is_le, is_lt, ordering_then}
+use Rattle.std.specs.declared.cmp.Ordering.{Ordering}
+use Rattle.std.specs.declared.cmp.Ordering.TheVariants.{Less, Equal, Greater}
+use Rattle.std.proofs.lemmas.Bool.{cases_Bool}
+use Rattle.semver.specs.Parse.{Parts}
+use Rattle.rustsec_versions.specs.Apart.{are_apart}
+use Rattle.rustsec_versions.specs.Gaps.{cut, start_order}
+use Rattle.rustsec_versions.specs.Interval.{Endpoint, Interval, exclusive, inclusive, overlap, reaches, unbounded}
+use Rattle.rustsec_versions.specs.Precedence.{is_at_most, is_below, precedence, version_order}
+use Rattle.rustsec_versions.specs.Ranges.{lower_cut, upper_cut}
+use Rattle.rustsec_versions.specs.Requirement.{is_admissible, is_end, is_start}
+use Rattle.rustsec_versions.proofs.Clashes.{AllSound}
+use Rattle.rustsec_versions.proofs.Complement.{Follows, InOrder, IsChain}
+use Rattle.rustsec_versions.proofs.LeastAbove.{successor-least, successor-there, successor-valid}
+use Rattle.rustsec_versions.proofs.PrecedenceLaws.{at_most-below, at_most-trans, below-at_most, below-weak, not_at_most, not_below}
+use Rattle.rustsec_versions.proofs.Sound.{IsSoundEnd, IsSoundInterval, admissible-end, admissible-reaches, admissible-start, and-first, and-second, order-plain}
+
+-- a start that is not at or below an end is, by their cuts, at or above it
+pub start-after : (s e : Endpoint) → reaches precedence s e ≡ false → is_start s ≡ true → is_end e ≡ true → IsSoundEnd s
+    → Follows (upper_cut e) (lower_cut s)
+start-after unbounded e far a b sound = cc far
+start-after (inclusive s) unbounded far a b sound = cc far
+start-after (exclusive s) unbounded far a b sound = cc far
+start-after (inclusive s) (exclusive e) far a b sound = not_below s e far
+start-after (exclusive s) (exclusive e) far a b sound =
+    let t = successor-there s a in
+    rw t.1 (at_most-trans e s t.0 (not_below s e far) (below-weak s t.0 ((successor-least s t.0 t.1).above)))
+start-after (inclusive s) (inclusive e) far a b sound =
+    let u = successor-there e b in
+    rw u.1 ((successor-least e u.0 u.1).least s sound.version (not_at_most s e far))
+start-after (exclusive s) (inclusive e) far a b sound =
+    let t = successor-there s a in
+    let u = successor-there e b in
+    let above = at_most-below e s t.0 (not_below s e far) ((successor-least s t.0 t.1).above) in
+    rw (t.1, u.1) ((successor-least e u.0 u.1).least t.0 ((successor-valid s t.0 sound.version t.1).0) above)
+
+-- a start that is at or below its end is so by the cuts
+pub cut-in_order : (s e : Endpoint) → reaches precedence s e ≡ true → is_start s ≡ true → is_end e ≡ true → IsSoundEnd e
+    → InOrder (lower_cut s) (upper_cut e)
+cut-in_order unbounded e near a b sound = tt
+cut-in_order (inclusive s) unbounded near a b sound = tt
+cut-in_order (exclusive s) unbounded near a b sound = let t = successor-there s a in rw t.1 tt
+cut-in_order (inclusive s) (exclusive e) near a b sound = below-weak s e near
+cut-in_order (inclusive s) (inclusive e) near a b sound =
+    let u = successor-there e b in
+    rw u.1 (below-weak s u.0 (at_most-below s e u.0 near ((successor-least e u.0 u.1).above)))
+cut-in_order (exclusive s) (exclusive e) near a b sound =
+    let t = successor-there s a in
+    rw t.1 ((successor-least s t.0 t.1).least e sound.version near)
+cut-in_order (exclusive s) (inclusive e) near a b sound =
+    let t = successor-there s a in
+    let u = successor-there e b in
+    rw (t.1, u.1) (below-weak t.0 u.0 (at_most-below t.0 e u.0 ((successor-least s t.0 t.1).least e sound.version near) ((successor-least e u.0 u.1).above)))
+
+-- ---- the order of starts
+
+not-less : (o r : Ordering) → is_lt (ordering_then o r) ≡ false → is_lt o ≡ false
+not-less Less r h = cc h
+not-less Equal r h = refl
+not-less Greater r h = refl
+
+not-less-ties : (o r : Ordering) → is_lt (ordering_then o r) ≡ false → is_le o ≡ true → is_lt r ≡ false
+not-less-ties Less r h k = cc h
+not-less-ties Equal r h k = h
+not-less-ties Greater r h k = cc k
+
+-- by the order of starts, the first version is at most the second
+first-at_most : (a b : Parts) (r : Ordering) → a.4 ≡ [] → b.4 ≡ [] → is_lt (ordering_then (version_order b a) r) ≡ false → is_at_most a b ≡ true
+first-at_most a b r p q h =
+    not_below b a (rw (order-plain b a q p) at (not-less (version_order b a) r h))
+
+-- and below it where only the first of the two kinds comes before the second
+first-below : (a b : Parts) → a.4 ≡ [] → b.4 ≡ [] → is_lt (ordering_then (version_order b a) Less) ≡ false → is_below a b ≡ true
+first-below a b p q h = elim (cases_Bool (is_at_most b a)) [
+  | inl low ↦ cc (not-less-ties (precedence b a) Less (rw (order-plain b a q p) at h) low)
+  | inr high ↦ not_at_most b a high
+]
+
+-- what a later start reaches, an earlier one reaches
+pub earlier-reaches : (s t e : Endpoint) → IsSoundEnd s → IsSoundEnd t → is_lt (start_order t s) ≡ false → reaches precedence t e ≡ true → reaches precedence s e ≡ true
+earlier-reaches unbounded t e p q h near = refl
+earlier-reaches (inclusive s) unbounded e p q h near = cc h
+earlier-reaches (exclusive s) unbounded e p q h near = cc h
+earlier-reaches (inclusive s) (inclusive t) unbounded p q h near = refl
+earlier-reaches (inclusive s) (exclusive t) unbounded p q h near = refl
+earlier-reaches (exclusive s) (inclusive t) unbounded p q h near = refl
+earlier-reaches (exclusive s) (exclusive t) unbounded p q h near = refl
+earlier-reaches (inclusive s) (inclusive t) (inclusive e) p q h near = at_most-trans s t e (first-at_most s t _ p.plain q.plain h) near
+earlier-reaches (inclusive s) (inclusive t) (exclusive e) p q h near = at_most-below s t e (first-at_most s t _ p.plain q.plain h) near
+earlier-reaches (inclusive s) (exclusive t) (inclusive e) p q h near = below-weak s e (at_most-below s t e (first-at_most s t _ p.plain q.plain h) near)
+earlier-reaches (inclusive s) (exclusive t) (exclusive e) p q h near = at_most-below s t e (first-at_most s t _ p.plain q.plain h) near
+earlier-reaches (exclusive s) (inclusive t) (inclusive e) p q h near = below-at_most s t e (first-below s t p.plain q.plain h) near
+earlier-reaches (exclusive s) (inclusive t) (exclusive e) p q h near = below-at_most s t e (first-below s t p.plain q.plain h) (below-weak t e near)
+earlier-reaches (exclusive s) (exclusive t) (inclusive e) p q h near = at_most-below s t e (first-at_most s t _ p.plain q.plain h) near
+earlier-reaches (exclusive s) (exclusive t) (exclusive e) p q h near = at_most-below s t e (first-at_most s t _ p.plain q.plain h) near
+
+-- ---- lists
+
+-- starts that rise, neighbour by neighbour
+abbrev pub StartsRise : List Interval → Type 0
+StartsRise [] = Unit {0}
+StartsRise (i ∷ []) = Unit {0}
+StartsRise (i ∷ j ∷ is) = (is_lt (start_order j.start i.start) ≡ false) × StartsRise (j ∷ is)
+
+-- the same of references that a sort has ordered
+pub starts-rise : (xs : List (Bor Interval)) → IsSortedByKey (λ x. x.now.start) start_order xs → StartsRise (map (λ x. x.now) xs)
+starts-rise [] h = tt
+starts-rise (x ∷ []) h = tt
+starts-rise (x ∷ y ∷ xs) h = (
+  h 0 x (omega arith) (omega arith),
+  starts-rise (y ∷ xs) (λ k d low high. let e : suc k + 1 ≡ suc (k + 1) = omega arith in rw e at (h (suc k) d (omega arith) (omega arith))),
+)
+
+abbrev pub AllAdmissible : List Interval → Type 0
+AllAdmissible [] = Unit {0}
+AllAdmissible (i ∷ is) = (is_admissible i ≡ true) × AllAdmissible is
+
+-- of two that do not overlap, the later one starts behind the other
+later-starts : (i j : Interval) → IsSoundInterval i → IsSoundInterval j → is_admissible i ≡ true → is_admissible j ≡ true
+    → is_lt (start_order j.start i.start) ≡ false → overlap precedence i j ≡ false → Follows (upper_cut i.end) (lower_cut j.start)
+later-starts i j p q a b rise far =
+    let near = earlier-reaches i.start j.start j.end p.start q.start rise (admissible-reaches j b) in
+    let behind : reaches precedence j.start i.end ≡ false = rw near at far in
+    start-after j.start i.end behind (admissible-start j b) (admissible-end i a) q.start
+
+not-or-first : (a b : Bool) → (not (a || b)) ≡ true → a ≡ false
+not-or-first true b h = cc h
+not-or-first false b h = refl
+
+-- intervals in the order of their starts, of which no two overlap, follow one another
+pub chain : (is : List Interval) → AllSound is → AllAdmissible is → StartsRise is → are_apart precedence is ≡ true → IsChain (map cut is)
+chain [] sound all rise apart = tt
+chain (i ∷ []) sound all rise apart =
+    (cut-in_order i.start i.end (admissible-reaches i all.0) (admissible-start i all.0) (admissible-end i all.0) sound.0.end, tt, tt)
+chain (i ∷ j ∷ is) sound all rise apart =
+    let far = not-or-first _ _ (and-first _ _ apart) in (
+      cut-in_order i.start i.end (admissible-reaches i all.0) (admissible-start i all.0) (admissible-end i all.0) sound.0.end,
+      later-starts i j sound.0 sound.1.0 all.0 all.1.0 rise.0 far,
+      chain (j ∷ is) sound.1 all.1 rise.1 (and-second _ _ apart),
+    )

@@ -1,0 +1,14 @@
+pub mod Failure
+pub mod Precedence
+pub mod Interval
+pub mod IntervalText
+pub mod Requirement
+pub mod Lists
+pub mod Views
+pub mod Equality
+pub mod Apart
+pub mod Successor
+pub mod Ranges
+pub mod Gaps
+pub mod RequirementText
+pub mod Decided

@@ -1,0 +1,237 @@
+//! The bounds that the comparators of a requirement state.
+
+ghost use Rattle.std.specs.Prelude.{◌≡◌, ◌&&◌, ◌<◌, ◌^◌, ◌+◌, IfErr, IfOk, None, Some, [], ◌∷◌, true};
+ghost use Rattle.semver.specs.Grammar.{is_pre_release};
+ghost use Rattle.semver.specs.Identifiers.{comparator_view, parts_of, pre_text};
+ghost use Rattle.semver.specs.Parse.{memory_error};
+ghost use Rattle.rustsec_versions.specs.Failure.{IsMemory, IsOfKind, IsRefusal};
+ghost use Rattle.rustsec_values.specs.Reading.{only_if};
+ghost use Rattle.rustsec_versions.specs.Requirement.{caret_end, fits, names_version, least_of, named, next_major, next_minor, next_patch, of_one, side_of, stated, tilde_end};
+ghost use Rattle.rustsec_versions.specs.Views.{comparators_of, endpoint_of, interval_between, side_view};
+
+use crate::error::{Error, ErrorKind, Result};
+use crate::interval::Bound;
+use semver::{BuildMetadata, Comparator, Op, Prerelease, Version, VersionReq};
+use std::alloc::{AllocError, Global};
+
+/// Whether an error of `semver` is want of memory.
+fn is_memory(e: semver::Error) -> bool
+    ensures { e ≡ memory_error → result ≡ true }
+{
+    e == semver::Error::from(AllocError)
+}
+
+/// A copy of a pre-release that is SemVer text.
+fn checked_pre(alloc: Global, pre: &Prerelease) -> Result<Prerelease>
+    ensures ok { IfOk result (λ p. only_if (is_pre_release (pre_text pre.now)) (Some (pre_text pre.now))
+        ≡ Some (pre_text p)) }
+    ensures err { IfErr result (IsRefusal ErrorKind.BadParam (only_if (is_pre_release (pre_text pre.now)) (Some (pre_text pre.now)) ≡ None)) }
+{
+    match Prerelease::new(alloc, pre.as_str()) {
+        Ok(pre) => Ok(pre),
+        Err(e) if is_memory(e) => Err(Error::from(AllocError)),
+        Err(_) => Err(Error::bad_param(alloc, "a pre-release is no SemVer text")),
+    }
+}
+
+/// The least version of three numbers.
+pub(crate) fn least_of(alloc: Global, major: u64, minor: u64, patch: u64) -> Result<Version>
+    ensures ok { IfOk result (λ v. parts_of v ≡ least_of major minor patch) }
+    ensures err { IfErr result IsMemory }
+{
+    match Prerelease::new(alloc, "0") {
+        Ok(pre) => Ok(Version {
+            major,
+            minor,
+            patch,
+            pre,
+            build: BuildMetadata::empty(),
+        }),
+        Err(_) => Err(Error::from(AllocError)),
+    }
+}
+
+/// The refusal of a number that is too large for a version.
+fn too_large(alloc: Global) -> Error
+    ensures { IsOfKind ErrorKind.BadParam result }
+{
+    Error::bad_param(alloc, "a number of a bound passes the greatest one")
+}
+
+fn next_major(alloc: Global, major: u64) -> Result<Version>
+    ensures ok { IfOk result (λ v. next_major major ≡ Some (parts_of v)) }
+    ensures err { IfErr result (IsRefusal ErrorKind.BadParam (next_major major ≡ None)) }
+{
+    let Some(next) = major.checked_add(1) else {
+        return Err(too_large(alloc));
+    };
+    least_of(alloc, next, 0, 0)
+}
+
+fn next_minor(alloc: Global, major: u64, minor: u64) -> Result<Version>
+    ensures ok { IfOk result (λ v. next_minor major minor ≡ Some (parts_of v)) }
+    ensures err { IfErr result (IsRefusal ErrorKind.BadParam (next_minor major minor ≡ None)) }
+{
+    let Some(next) = minor.checked_add(1) else {
+        return Err(too_large(alloc));
+    };
+    least_of(alloc, major, next, 0)
+}
+
+fn next_patch(alloc: Global, major: u64, minor: u64, patch: u64) -> Result<Version>
+    ensures ok { IfOk result (λ v. next_patch major minor patch ≡ Some (parts_of v)) }
+    ensures err { IfErr result (IsRefusal ErrorKind.BadParam (next_patch major minor patch ≡ None)) }
+{
+    let Some(next) = patch.checked_add(1) else {
+        return Err(too_large(alloc));
+    };
+    least_of(alloc, major, minor, next)
+}
+
+/// Where `^` ends.
+fn caret_end(alloc: Global, c: &Comparator) -> Result<Version>
+    ensures ok { IfOk result (λ v. caret_end c.now.major c.now.minor c.now.patch ≡ Some (parts_of v)) }
+    ensures err { IfErr result (IsRefusal ErrorKind.BadParam (caret_end c.now.major c.now.minor c.now.patch ≡ None)) }
+{
+    match (c.major, c.minor, c.patch) {
+        (_, None, Some(_)) => Err(no_minor(alloc)),
+        (0, None, None) => next_major(alloc, 0),
+        (0, Some(0), Some(patch)) => next_patch(alloc, 0, 0, patch),
+        (0, Some(minor), _) => next_minor(alloc, 0, minor),
+        (major, _, _) => next_major(alloc, major),
+    }
+}
+
+/// Where `~` ends.
+fn tilde_end(alloc: Global, c: &Comparator) -> Result<Version>
+    ensures ok { IfOk result (λ v. tilde_end c.now.major c.now.minor c.now.patch ≡ Some (parts_of v)) }
+    ensures err { IfErr result (IsRefusal ErrorKind.BadParam (tilde_end c.now.major c.now.minor c.now.patch ≡ None)) }
+{
+    match (c.minor, c.patch) {
+        (None, Some(_)) => Err(no_minor(alloc)),
+        (None, None) => next_major(alloc, c.major),
+        (Some(minor), _) => next_minor(alloc, c.major, minor),
+    }
+}
+
+fn no_minor(alloc: Global) -> Error
+    ensures { IsOfKind ErrorKind.BadParam result }
+{
+    Error::bad_param(alloc, "a comparator has a patch number and no minor one")
+}
+
+/// The version of these parts, without build metadata.
+fn version_of(major: u64, minor: u64, patch: u64, pre: Prerelease) -> Version
+    ensures parts { parts_of result ≡ (major, minor, patch, pre_text pre, []) }
+    ensures fit { (fits major && (fits minor && fits patch)) ≡ true }
+{
+    Version {
+        major,
+        minor,
+        patch,
+        pre,
+        build: BuildMetadata::empty(),
+    }
+}
+
+/// The version that a comparator names.
+fn named(alloc: Global, c: &Comparator) -> Result<Version>
+    ensures ok { IfOk result (λ v. only_if (names_version (comparator_view c.now)) (Some (named (comparator_view c.now)))
+        ≡ Some (parts_of v)) }
+    ensures err { IfErr result (IsRefusal ErrorKind.BadParam (only_if (names_version (comparator_view c.now)) (Some (named (comparator_view c.now))) ≡ None)) }
+{
+    let major = c.major;
+    let minor = c.minor.unwrap_or(0);
+    let patch = c.patch.unwrap_or(0);
+    let pre = checked_pre(alloc, &c.pre)?;
+    Ok(version_of(major, minor, patch, pre))
+}
+
+/// The bounds of a comparator by its operator, where it names this version.
+fn bounds_by_op(alloc: Global, c: &Comparator, version: Version) -> Result<(Bound, Bound)>
+    requires { parts_of version ≡ named (comparator_view c.now) }
+    ensures ok { IfOk result (λ b. of_one c.now.op (comparator_view c.now) ≡ Some (interval_between b.0 b.1)) }
+    ensures err { IfErr result (IsRefusal ErrorKind.BadParam (of_one c.now.op (comparator_view c.now) ≡ None)) }
+{
+    match c.op {
+        Op::Greater => Ok((Bound::Exclusive(version), Bound::Unbounded)),
+        Op::GreaterEq => Ok((Bound::Inclusive(version), Bound::Unbounded)),
+        Op::Less => Ok((Bound::Unbounded, Bound::Exclusive(version))),
+        Op::LessEq => Ok((Bound::Unbounded, Bound::Inclusive(version))),
+        Op::Exact => {
+            let end = version.clone()?;
+            Ok((Bound::Inclusive(version), Bound::Inclusive(end)))
+        }
+        Op::Caret => {
+            let end = caret_end(alloc, c)?;
+            Ok((Bound::Inclusive(version), Bound::Exclusive(end)))
+        }
+        Op::Tilde => {
+            let end = tilde_end(alloc, c)?;
+            Ok((Bound::Inclusive(version), Bound::Exclusive(end)))
+        }
+        Op::Wildcard => Err(Error::bad_param(alloc, "a wildcard has no interval")),
+    }
+}
+
+/// The bounds of one comparator.
+fn bounds_of_one(alloc: Global, c: &Comparator) -> Result<(Bound, Bound)>
+    ensures ok { IfOk result (λ b. stated (comparator_view c.now ∷ []) ≡ Some (interval_between b.0 b.1)) }
+    ensures err { IfErr result (IsRefusal ErrorKind.BadParam (stated (comparator_view c.now ∷ []) ≡ None)) }
+{
+    let version = named(alloc, c)?;
+    bounds_by_op(alloc, c, version)
+}
+
+/// What a comparator gives beside another one.
+#[derive(Drop)]
+pub(crate) enum Side {
+    Lower(Bound),
+    Upper(Bound),
+    Neither,
+}
+
+fn side_of(alloc: Global, c: &Comparator) -> Result<Side>
+    ensures ok { IfOk result (λ s. only_if (names_version (comparator_view c.now)) (Some (side_of c.now.op (comparator_view c.now)))
+        ≡ Some (side_view s)) }
+    ensures err { IfErr result (IsRefusal ErrorKind.BadParam (only_if (names_version (comparator_view c.now)) (Some (side_of c.now.op (comparator_view c.now))) ≡ None)) }
+{
+    let version = named(alloc, c)?;
+    match c.op {
+        Op::Greater => Ok(Side::Lower(Bound::Exclusive(version))),
+        Op::GreaterEq => Ok(Side::Lower(Bound::Inclusive(version))),
+        Op::Less => Ok(Side::Upper(Bound::Exclusive(version))),
+        Op::LessEq => Ok(Side::Upper(Bound::Inclusive(version))),
+        Op::Exact | Op::Caret | Op::Tilde | Op::Wildcard => Ok(Side::Neither),
+    }
+}
+
+#[tactic(auto, using(crate::proofs::Stated::stated_two, crate::proofs::Stated::stated_second))]
+/// The bounds of two comparators, of which one gives the start and the other the end.
+fn bounds_of_two(alloc: Global, c: &Comparator, d: &Comparator) -> Result<(Bound, Bound)>
+    ensures ok { IfOk result (λ b. stated (comparator_view c.now ∷ comparator_view d.now ∷ [])
+        ≡ Some (interval_between b.0 b.1)) }
+    ensures err { IfErr result (IsRefusal ErrorKind.BadParam (stated (comparator_view c.now ∷ comparator_view d.now ∷ []) ≡ None)) }
+{
+    let first = side_of(alloc, c)?;
+    let second = side_of(alloc, d)?;
+    match (first, second) {
+        (Side::Lower(start), Side::Upper(end)) => Ok((start, end)),
+        (Side::Upper(end), Side::Lower(start)) => Ok((start, end)),
+        _ => Err(Error::bad_param(alloc, "two comparators that are no lower and upper bound")),
+    }
+}
+
+#[tactic(auto, using(crate::proofs::Stated::stated_more))]
+/// The bounds of a requirement.
+pub(crate) fn bounds_of(alloc: Global, req: &VersionReq) -> Result<(Bound, Bound)>
+    ensures ok { IfOk result (λ b. stated (comparators_of req.now) ≡ Some (interval_between b.0 b.1)) }
+    ensures err { IfErr result (IsRefusal ErrorKind.BadParam (stated (comparators_of req.now) ≡ None)) }
+{
+    match req.comparators.as_slice() {
+        [] => Ok((Bound::Unbounded, Bound::Unbounded)),
+        [only] => bounds_of_one(alloc, only),
+        [first, second] => bounds_of_two(alloc, first, second),
+        _ => Err(Error::bad_param(alloc, "more than two comparators")),
+    }
+}

@@ -1,0 +1,201 @@
+//! The errors of all crates.
+
+ghost use Rattle.std.specs.Prelude.{◌≡◌, ◌⊎◌, Some, None, IfErr, IfOk, option_map};
+ghost use Rattle.rustsec_versions.specs.Failure.{IsMemory, IsOfKind, kind_text, out_of_memory};
+
+use rustsec_values::{ExactClone, Text};
+use std::alloc::{AllocError, Global};
+use std::fmt;
+use std::marker::Model;
+
+/// What a call of these crates answers.
+pub type Result<T> = std::result::Result<T, Error>;
+
+/// The kind of an error.
+#[derive(Clone, Copy, Debug, PartialEq, Eq)]
+pub enum ErrorKind {
+    /// A value that the call does not take.
+    BadParam = 1,
+    /// A file or a folder that cannot be read.
+    Io = 2,
+    /// Something that was looked for and is not there.
+    NotFound = 3,
+    /// A lock on the file system that was not free in time.
+    LockTimeout = 4,
+    /// A text that is not of its grammar.
+    Parse = 5,
+    /// A fault of a registry's index.
+    Registry = 6,
+    /// A file that stands at the wrong place of a database.
+    Repo = 7,
+    /// A version that cannot be used.
+    Version = 8,
+    /// Memory that was refused.
+    OutOfMemory = 9,
+}
+
+impl ErrorKind {
+    /// The text that `Display` prints.
+    pub fn text(self) -> &'static str
+        ensures { result.now ≡ kind_text self }
+    {
+        match self {
+            ErrorKind::BadParam => "bad parameter",
+            ErrorKind::Io => "I/O operation failed",
+            ErrorKind::NotFound => "not found",
+            ErrorKind::LockTimeout => "unable to acquire filesystem lock",
+            ErrorKind::Parse => "parse error",
+            ErrorKind::Registry => "registry",
+            ErrorKind::Repo => "git operation failed",
+            ErrorKind::Version => "bad version",
+            ErrorKind::OutOfMemory => "out of memory",
+        }
+    }
+}
+
+impl fmt::Display for ErrorKind {
+    ghost output = { λ k. Some (kind_text k) };
+
+    fn fmt<W: fmt::Write>(&self, f: &mut fmt::Formatter<W>) -> fmt::Result {
+        f.write_str(self.text())
+    }
+}
+
+/// An error: its kind, a message and, where there is one, the text of its cause.
+#[derive(Debug, Drop)]
+pub struct Error {
+    kind: ErrorKind,
+    message: Option<Text>,
+    cause: Option<Text>,
+}
+
+impl Model for Error {
+    ghost use Rattle.rustsec_versions.specs.Failure.{Failure, or_empty};
+
+    ghost Value = { Failure };
+
+    ghost view = { λ e. record { kind = e.kind; message = or_empty e.message; cause = e.cause } };
+}
+
+impl Error {
+    /// An error with a copy of this message, or want of memory where there is none for the copy.
+    pub fn new(alloc: Global, kind: ErrorKind, message: &str) -> Error
+        ensures { (result ≡ record { kind = kind; message = message.now; cause = None })
+            ⊎ (result ≡ out_of_memory) }
+    {
+        match Text::from_str(alloc, message) {
+            Ok(message) => Error {
+                kind,
+                message: Some(message),
+                cause: None,
+            },
+            Err(refused) => Error::from(refused),
+        }
+    }
+
+    /// The same with a copy of the text of a cause.
+    pub fn with_source(alloc: Global, kind: ErrorKind, message: &str, cause: &str) -> Error
+        ensures { (result ≡ record { kind = kind; message = message.now; cause = Some cause.now })
+            ⊎ (result ≡ out_of_memory) }
+    {
+        match (Text::from_str(alloc, message), Text::from_str(alloc, cause)) {
+            (Ok(message), Ok(cause)) => Error {
+                kind,
+                message: Some(message),
+                cause: Some(cause),
+            },
+            _ => Error::from(AllocError),
+        }
+    }
+
+    /// A refusal of what a caller asked for.
+    pub(crate) fn bad_param(alloc: Global, message: &str) -> Error
+        ensures { IsOfKind ErrorKind.BadParam result }
+    {
+        Error::new(alloc, ErrorKind::BadParam, message)
+    }
+
+    /// The kind.
+    pub fn kind(&self) -> ErrorKind
+        ensures { result ≡ self.now.kind }
+    {
+        self.kind
+    }
+
+    /// The message, which is empty for want of memory.
+    pub fn message(&self) -> &str
+        ensures { result.now ≡ self.now.message }
+    {
+        match &self.message {
+            Some(message) => message.as_str(),
+            None => "",
+        }
+    }
+
+    /// The text of the cause, where there is one.
+    pub fn cause(&self) -> Option<&str>
+        ensures { option_map (λ t. t.now) result ≡ self.now.cause }
+    {
+        self.cause.as_ref().map(|cause| cause.as_str())
+    }
+
+    /// An equal error.
+    ///
+    /// # Errors
+    ///
+    /// `OutOfMemory` alone.
+    pub fn clone(&self, _alloc: Global) -> Result<Error>
+        ensures ok { IfOk result (λ e. e ≡ self.now) }
+        ensures err { IfErr result IsMemory }
+    {
+        let copy = Clone::clone(self)?;
+        Ok(copy)
+    }
+}
+
+impl Clone for Error {
+    ghost is_clone = { λ a b. b ≡ a };
+
+    fn clone(&self) -> std::result::Result<Error, AllocError> {
+        let message = self.message.clone()?;
+        let cause = self.cause.clone()?;
+        Ok(Error {
+            kind: self.kind,
+            message,
+            cause,
+        })
+    }
+}
+
+impl ExactClone for Error {
+    ghost exact = { λ x y e. e };
+}
+
+impl From<AllocError> for Error {
+    ghost use Rattle.std.specs.Prelude.{◌≡◌};
+    ghost use Rattle.rustsec_versions.specs.Failure.{out_of_memory};
+
+    ghost from_gives = { λ _ e. e ≡ out_of_memory };
+
+    /// Want of memory, which takes none.
+    fn from(_: AllocError) -> Error {
+        Error {
+            kind: ErrorKind::OutOfMemory,
+            message: None,
+            cause: None,
+        }
+    }
+}
+
+impl fmt::Display for Error {
+    ghost use Rattle.std.specs.Prelude.{Some};
+    ghost use Rattle.rustsec_versions.specs.Failure.{failure_text};
+
+    ghost output = { λ e. Some (failure_text e) };
+
+    fn fmt<W: fmt::Write>(&self, f: &mut fmt::Formatter<W>) -> fmt::Result {
+        f.write_str(self.kind.text())?;
+        f.write_str(": ")?;
+        f.write_str(self.message())
+    }
+}

@@ -1,0 +1,316 @@
+//! Intervals of versions that are not affected.
+
+ghost use Rattle.std.specs.Prelude.{◌≡◌, IfErr, IfOk, OnErr, OnOk, None, Some, false, option_map, refl, true};
+ghost use Rattle.std.specs.Cmp.{on_equiv, on_per, partial_equiv_from_equiv};
+ghost use Rattle.std.specs.Fmt.{DisplaysOnOk};
+ghost use Rattle.semver.specs.Identifiers.{parts_of};
+ghost use Rattle.rustsec_versions.specs.Equality.{endpoint_eq, endpoint_equiv, interval_eq, interval_equiv};
+ghost use Rattle.rustsec_versions.specs.Failure.{IsMemory, IsRefusal};
+ghost use Rattle.rustsec_versions.specs.Interval.{holds, is_after, is_before, overlap, reaches};
+ghost use Rattle.rustsec_versions.specs.IntervalText.{end_text, interval_text, start_text};
+ghost use Rattle.rustsec_versions.specs.Precedence.{version_order};
+ghost use Rattle.rustsec_versions.specs.Requirement.{has_successor, interval_of, is_end, is_start};
+ghost use Rattle.rustsec_versions.specs.Views.{bound_version_of, comparators_of, endpoint_of, interval_between};
+
+use crate::comparator::bounds_of;
+use crate::error::{Error, ErrorKind, Result};
+use rustsec_values::{ExactClone, ExactEq};
+use semver::{Version, VersionReq};
+use std::alloc::{AllocError, Global};
+use std::fmt;
+use std::marker::Model;
+
+/// The start or the end of an interval.
+#[derive(Debug, Drop)]
+pub enum Bound {
+    /// There is none: each version is on this side of it.
+    Unbounded,
+    /// The version itself is left out.
+    Exclusive(Version),
+    /// The version itself is in.
+    Inclusive(Version),
+}
+
+impl Bound {
+    /// The version, if there is one.
+    pub fn version(&self) -> Option<&Version>
+        ensures { option_map (λ v. parts_of v.now) result ≡ bound_version_of self.now }
+    {
+        match self {
+            Bound::Unbounded => None,
+            Bound::Exclusive(version) => Some(version),
+            Bound::Inclusive(version) => Some(version),
+        }
+    }
+
+    /// An equal bound.
+    ///
+    /// # Errors
+    ///
+    /// `OutOfMemory` alone.
+    pub fn clone(&self, _alloc: Global) -> Result<Bound>
+        ensures ok { IfOk result (λ b. endpoint_of b ≡ endpoint_of self.now) }
+        ensures err { IfErr result IsMemory }
+    {
+        let copy = Clone::clone(self)?;
+        Ok(copy)
+    }
+}
+
+impl Clone for Bound {
+    ghost is_clone = { λ a b. endpoint_of b ≡ endpoint_of a };
+
+    fn clone(&self) -> std::result::Result<Bound, AllocError> {
+        match self {
+            Bound::Unbounded => Ok(Bound::Unbounded),
+            Bound::Exclusive(version) => Ok(Bound::Exclusive(version.clone()?)),
+            Bound::Inclusive(version) => Ok(Bound::Inclusive(version.clone()?)),
+        }
+    }
+}
+
+impl PartialEq for Bound {
+    ghost eq = { λ a b. endpoint_eq (endpoint_of a) (endpoint_of b) };
+
+    ghost laws = { on_per endpoint_of (partial_equiv_from_equiv endpoint_equiv) };
+
+    fn eq(&self, other: &Bound) -> bool {
+        match (self, other) {
+            (Bound::Unbounded, Bound::Unbounded) => true,
+            (Bound::Exclusive(a), Bound::Exclusive(b)) => a == b,
+            (Bound::Inclusive(a), Bound::Inclusive(b)) => a == b,
+            _ => false,
+        }
+    }
+}
+
+impl Eq for Bound {
+    ghost laws = { on_equiv endpoint_of endpoint_equiv };
+}
+
+/// Whether a start is at or below an end, in the order of `Version`.
+fn reaches(start: &Bound, end: &Bound) -> bool
+    ensures { result ≡ reaches version_order (endpoint_of start.now) (endpoint_of end.now) }
+{
+    match (start, end) {
+        (Bound::Unbounded, _) | (_, Bound::Unbounded) => true,
+        (Bound::Inclusive(a), Bound::Inclusive(b)) => a.cmp(b).is_le(),
+        (Bound::Inclusive(a) | Bound::Exclusive(a), Bound::Inclusive(b) | Bound::Exclusive(b)) => {
+            a.cmp(b).is_lt()
+        }
+    }
+}
+
+/// Whether a version satisfies a start, by precedence.
+fn is_after(start: &Bound, version: &Version) -> bool
+    ensures { result ≡ is_after (endpoint_of start.now) (parts_of version.now) }
+{
+    match start {
+        Bound::Unbounded => true,
+        Bound::Exclusive(start) => start.cmp_precedence(version).is_lt(),
+        Bound::Inclusive(start) => start.cmp_precedence(version).is_le(),
+    }
+}
+
+/// Whether a version satisfies an end, by precedence.
+fn is_before(end: &Bound, version: &Version) -> bool
+    ensures { result ≡ is_before (endpoint_of end.now) (parts_of version.now) }
+{
+    match end {
+        Bound::Unbounded => true,
+        Bound::Exclusive(end) => version.cmp_precedence(end).is_lt(),
+        Bound::Inclusive(end) => version.cmp_precedence(end).is_le(),
+    }
+}
+
+/// Whether there is a version least above this one.
+fn has_successor(version: &Version) -> bool
+    ensures { result ≡ has_successor (parts_of version.now) }
+{
+    !version.pre.is_empty() || version.patch < u64::MAX
+}
+
+/// Whether a start has the version that it wants.
+fn is_start(bound: &Bound) -> bool
+    ensures { result ≡ is_start (endpoint_of bound.now) }
+{
+    match bound {
+        Bound::Unbounded | Bound::Inclusive(_) => true,
+        Bound::Exclusive(version) => has_successor(version),
+    }
+}
+
+/// Whether an end has the version that it wants.
+fn is_end(bound: &Bound) -> bool
+    ensures { result ≡ is_end (endpoint_of bound.now) }
+{
+    match bound {
+        Bound::Unbounded | Bound::Exclusive(_) => true,
+        Bound::Inclusive(version) => has_successor(version),
+    }
+}
+
+/// An interval of versions that are not affected, whose start is at or below its end.
+#[derive(Debug, Drop)]
+pub struct UnaffectedRange {
+    start: Bound,
+    end: Bound,
+}
+
+impl Model for UnaffectedRange {
+    ghost use Rattle.std.specs.Prelude.{◌≡◌, true};
+    ghost use Rattle.rustsec_versions.specs.Interval.{Interval, reaches};
+    ghost use Rattle.rustsec_versions.specs.Precedence.{version_order};
+    ghost use Rattle.rustsec_versions.specs.Views.{endpoint_of, interval_between};
+
+    ghost Value = { Interval };
+
+    ghost view = { λ r. interval_between r.start r.end };
+
+    ghost invariant = { λ r. reaches version_order (endpoint_of r.start) (endpoint_of r.end) ≡ true };
+}
+
+impl UnaffectedRange {
+    /// The interval of a requirement: the versions that it names as not affected.
+    ///
+    /// # Errors
+    ///
+    /// `BadParam` where the requirement is not admissible; else `OutOfMemory`.
+    pub fn from_req(alloc: Global, req: &VersionReq) -> Result<UnaffectedRange>
+        ensures ok { IfOk result (λ r. interval_of (comparators_of req.now) ≡ Some r) }
+        ensures err { IfErr result
+            (IsRefusal ErrorKind.BadParam (interval_of (comparators_of req.now) ≡ None)) }
+    {
+        let (start, end) = bounds_of(alloc, req)?;
+        if !is_start(&start) || !is_end(&end) {
+            return Err(Error::bad_param(alloc, "no version is least above a bound"));
+        }
+        UnaffectedRange::new(alloc, start, end)
+    }
+
+    /// The interval between two bounds.
+    ///
+    /// # Errors
+    ///
+    /// `BadParam` where the start is not at or below the end, in the order of `Version`; else
+    /// `OutOfMemory`.
+    pub fn new(alloc: Global, start: Bound, end: Bound) -> Result<UnaffectedRange>
+        ensures ok { IfOk result (λ r. r ≡ interval_between start end) }
+        ensures in_order { OnOk result (reaches version_order (endpoint_of start) (endpoint_of end) ≡ true) }
+        ensures err { IfErr result (IsRefusal ErrorKind.BadParam
+            (reaches version_order (endpoint_of start) (endpoint_of end) ≡ false)) }
+    {
+        if reaches(&start, &end) {
+            Ok(UnaffectedRange { start, end })
+        } else {
+            Err(Error::bad_param(alloc, "the start of a range is above its end"))
+        }
+    }
+
+    /// The start.
+    pub fn start(&self) -> &Bound
+        ensures { endpoint_of result.now ≡ self.now.start }
+    {
+        &self.start
+    }
+
+    /// The end.
+    pub fn end(&self) -> &Bound
+        ensures { endpoint_of result.now ≡ self.now.end }
+    {
+        &self.end
+    }
+
+    /// Whether each one's start is at or below the other's end, in the order of `Version`.
+    pub fn overlaps(&self, other: &UnaffectedRange) -> bool
+        ensures { result ≡ overlap version_order self.now other.now }
+    {
+        reaches(&self.start, &other.end) && reaches(&other.start, &self.end)
+    }
+
+    /// Whether a version satisfies the start and the end, by precedence (SemVer 2.0.0, section 11).
+    pub fn holds(&self, version: &Version) -> bool
+        ensures { result ≡ holds self.now (parts_of version.now) }
+    {
+        is_after(&self.start, version) && is_before(&self.end, version)
+    }
+
+    /// An equal interval.
+    ///
+    /// # Errors
+    ///
+    /// `OutOfMemory` alone.
+    pub fn clone(&self, _alloc: Global) -> Result<UnaffectedRange>
+        ensures ok { IfOk result (λ r. r ≡ self.now) }
+        ensures err { IfErr result IsMemory }
+    {
+        let copy = Clone::clone(self)?;
+        Ok(copy)
+    }
+}
+
+impl Clone for UnaffectedRange {
+    ghost is_clone = { λ a b. b ≡ a };
+
+    fn clone(&self) -> std::result::Result<UnaffectedRange, AllocError> {
+        let start = Clone::clone(&self.start)?;
+        let end = Clone::clone(&self.end)?;
+        Ok(UnaffectedRange { start, end })
+    }
+}
+
+impl ExactClone for UnaffectedRange {
+    ghost exact = { λ x y e. e };
+}
+
+impl PartialEq for UnaffectedRange {
+    ghost eq = { interval_eq };
+
+    ghost laws = { partial_equiv_from_equiv interval_equiv };
+
+    fn eq(&self, other: &UnaffectedRange) -> bool {
+        self.start == other.start && self.end == other.end
+    }
+}
+
+impl Eq for UnaffectedRange {
+    ghost laws = { interval_equiv };
+}
+
+impl ExactEq for UnaffectedRange {
+    ghost use Rattle.rustsec_versions.specs.Decided.{interval_decides};
+
+    ghost decides = { interval_decides };
+}
+
+/// Writes a start: `[0`, `(v` or `[v`.
+fn write_start<W: fmt::Write>(f: &mut fmt::Formatter<W>, start: &Bound) -> fmt::Result
+    ensures { DisplaysOnOk W.write_str_gives f.old result (Some (start_text (endpoint_of start.now))) f.new }
+{
+    match start {
+        Bound::Unbounded => f.write_str("[0"),
+        Bound::Exclusive(version) => write!(f, "({version}"),
+        Bound::Inclusive(version) => write!(f, "[{version}"),
+    }
+}
+
+/// Writes an end: `∞)`, `v)` or `v]`.
+fn write_end<W: fmt::Write>(f: &mut fmt::Formatter<W>, end: &Bound) -> fmt::Result
+    ensures { DisplaysOnOk W.write_str_gives f.old result (Some (end_text (endpoint_of end.now))) f.new }
+{
+    match end {
+        Bound::Unbounded => f.write_str("∞)"),
+        Bound::Exclusive(version) => write!(f, "{version})"),
+        Bound::Inclusive(version) => write!(f, "{version}]"),
+    }
+}
+
+impl fmt::Display for UnaffectedRange {
+    ghost output = { λ r. Some (interval_text r) };
+
+    fn fmt<W: fmt::Write>(&self, f: &mut fmt::Formatter<W>) -> fmt::Result {
+        write_start(f, &self.start)?;
+        f.write_str(", ")?;
+        write_end(f, &self.end)
+    }
+}

@@ -1,0 +1,20 @@
+//! Which versions an advisory affects: intervals of versions, and the lists of requirements.
+#![tactic(auto)]
+
+mod comparator;
+mod error;
+mod interval;
+mod next_version;
+mod print;
+mod ranges;
+mod requirements;
+mod starts;
+mod versions;
+
+pub use crate::error::{Error, ErrorKind, Result};
+pub use crate::interval::{Bound, UnaffectedRange};
+pub use crate::next_version::successor;
+pub use crate::print::requirement_text;
+pub use crate::ranges::{OsvRange, ranges_for_advisory};
+pub use crate::requirements::Requirements;
+pub use crate::versions::Versions;

@@ -1,0 +1,94 @@
+//! The texts of requirements.
+
+ghost use Rattle.std.specs.Prelude.{◌≡◌, ◌++◌, IfErr, IfOk, OnOk, string_bytes};
+ghost use Rattle.semver.specs.Identifiers.{comparator_view, marked, pre_text};
+ghost use Rattle.rustsec_versions.specs.Failure.{IsMemory};
+ghost use Rattle.rustsec_versions.specs.RequirementText.{comparator_text, dotted, op_text, requirement_text, star};
+ghost use Rattle.rustsec_versions.specs.Views.{comparators_of};
+
+use crate::error::{Error, Result};
+use semver::{Comparator, Op, Prerelease, VersionReq};
+use std::alloc::{AllocError, Global};
+
+/// The text of an operator.
+fn op_text(op: Op) -> &'static str
+    ensures { result.now ≡ op_text op }
+{
+    match op {
+        Op::Exact => "=",
+        Op::Greater => ">",
+        Op::GreaterEq => ">=",
+        Op::Less => "<",
+        Op::LessEq => "<=",
+        Op::Tilde => "~",
+        Op::Caret => "^",
+        Op::Wildcard => "",
+    }
+}
+
+/// What ends a comparator after its last number.
+fn star(op: Op) -> &'static str
+    ensures { result.now ≡ star op }
+{
+    match op {
+        Op::Wildcard => ".*",
+        _ => "",
+    }
+}
+
+/// Appends a dot and a number, where it is there.
+fn push_dotted(text: &mut String, number: Option<u64>) -> std::result::Result<(), AllocError>
+    ensures { OnOk result (string_bytes text.new ≡ string_bytes text.old ++ dotted number) }
+{
+    if let Some(number) = number {
+        write!(text, ".{number}")?;
+    }
+    Ok(())
+}
+
+/// Appends a dash and a pre-release, where it is there.
+fn push_pre(text: &mut String, pre: &Prerelease) -> std::result::Result<(), AllocError>
+    ensures { OnOk result (string_bytes text.new ≡ string_bytes text.old ++ marked 45 (pre_text pre.now)) }
+{
+    if !pre.is_empty() {
+        write!(text, "-{pre}")?;
+    }
+    Ok(())
+}
+
+/// Appends the text of a comparator.
+fn push_comparator(text: &mut String, c: &Comparator) -> std::result::Result<(), AllocError>
+    ensures { OnOk result (string_bytes text.new ≡ string_bytes text.old ++ comparator_text (comparator_view c.now)) }
+{
+    let major = c.major;
+    text.push_str(op_text(c.op))?;
+    write!(text, "{major}")?;
+    push_dotted(text, c.minor)?;
+    push_dotted(text, c.patch)?;
+    push_pre(text, &c.pre)?;
+    text.push_str(star(c.op))?;
+    Ok(())
+}
+
+/// The text of a requirement: its comparators joined by `, `, each its operator and its numbers
+/// as they were given, and `*` where there is none. `>= 1.2.3` gives `>=1.2.3`, and `1.2` gives `^1.2`.
+///
+/// # Errors
+///
+/// `OutOfMemory` alone.
+pub fn requirement_text(alloc: Global, req: &VersionReq) -> Result<String>
+    ensures ok { IfOk result (λ s. string_bytes s ≡ requirement_text (comparators_of req.now)) }
+    ensures err { IfErr result IsMemory }
+{
+    let mut text = String::new(alloc);
+    let Some((first, others)) = req.comparators.as_slice().split_first() else {
+        text.push_str("*")?;
+        return Ok(text);
+    };
+    push_comparator(&mut text, first)?;
+    for c in others {
+        text.push_str(", ")?;
+        push_comparator(&mut text, c)?;
+    }
+    Ok(text)
+}

@@ -1,0 +1,203 @@
+//! The ranges of affected versions that an advisory's requirements leave.
+
+ghost use Rattle.std.specs.Prelude.{◌≡◌, ◌++◌, ◌↔◌, [], ◌∷◌, IfErr, IfOk, List, None, OnOk, Some, map, option_map};
+ghost use Rattle.std.specs.List.{All, list_any};
+ghost use Rattle.semver.specs.Identifiers.{parts_of};
+ghost use Rattle.semver.specs.Parse.{Held, Parts};
+ghost use Rattle.rustsec_versions.specs.Failure.{IsMemory};
+ghost use Rattle.rustsec_versions.specs.Gaps.{HasValidBounds, IsValidBound, cut, gap_before, gaps_from};
+ghost use Rattle.rustsec_versions.specs.Lists.{Lists, affected, intervals};
+ghost use Rattle.rustsec_versions.specs.Precedence.{IsVersion};
+ghost use Rattle.rustsec_versions.specs.Ranges.{AreRanges, Range, SameRequirements, affects, affects_from, affects_till, in_ranges, lower_cut, upper_cut};
+ghost use Rattle.rustsec_versions.specs.Successor.{IsLeastAbove, successor};
+ghost use Rattle.rustsec_versions.specs.Views.{endpoint_of, range_of};
+
+use crate::error::{Error, Result};
+use crate::interval::{Bound, UnaffectedRange};
+use crate::next_version::successor;
+use crate::starts::by_start;
+use crate::versions::Versions;
+use rustsec_values::ExactClone;
+use semver::Version;
+use std::alloc::{AllocError, Global};
+use std::marker::Model;
+
+/// A range of affected versions, from the introduction of a fault on and below its fix, as OSV has it.
+#[derive(Debug, Drop)]
+pub struct OsvRange {
+    /// The first affected version; none where there is no lower side.
+    pub introduced: Option<Version>,
+    /// The first version that is not affected any more; none where there is no upper side.
+    pub fixed: Option<Version>,
+}
+
+impl Model for OsvRange {
+    ghost use Rattle.rustsec_versions.specs.Ranges.{Range};
+    ghost use Rattle.rustsec_versions.specs.Views.{range_of};
+
+    ghost Value = { Range };
+
+    ghost view = { λ r. range_of r.introduced r.fixed };
+}
+
+impl OsvRange {
+    /// Whether a version is in the range, in the order of `Version`, which looks at build metadata
+    /// after everything else.
+    pub fn affects(&self, version: &Version) -> bool
+        ensures { result ≡ affects self.now (parts_of version.now) }
+    {
+        is_from(&self.introduced, version) && is_till(&self.fixed, version)
+    }
+
+    /// An equal range.
+    ///
+    /// # Errors
+    ///
+    /// `OutOfMemory` alone.
+    pub fn clone(&self, _alloc: Global) -> Result<OsvRange>
+        ensures ok { IfOk result (λ r. r ≡ self.now) }
+        ensures err { IfErr result IsMemory }
+    {
+        let copy = Clone::clone(self)?;
+        Ok(copy)
+    }
+}
+
+impl Clone for OsvRange {
+    ghost is_clone = { λ a b. b ≡ a };
+
+    fn clone(&self) -> std::result::Result<OsvRange, AllocError> {
+        let introduced = self.introduced.clone()?;
+        let fixed = self.fixed.clone()?;
+        Ok(OsvRange { introduced, fixed })
+    }
+}
+
+impl ExactClone for OsvRange {
+    ghost exact = { λ x y e. e };
+}
+
+/// Whether a version is at or above where a range begins.
+fn is_from(introduced: &Option<Version>, version: &Version) -> bool
+    ensures { result ≡ affects_from (option_map parts_of introduced.now) (parts_of version.now) }
+{
+    match introduced {
+        Some(introduced) => introduced.cmp(version).is_le(),
+        None => true,
+    }
+}
+
+/// Whether a version is below where a range ends.
+fn is_till(fixed: &Option<Version>, version: &Version) -> bool
+    ensures { result ≡ affects_till (option_map parts_of fixed.now) (parts_of version.now) }
+{
+    match fixed {
+        Some(fixed) => version.cmp(fixed).is_lt(),
+        None => true,
+    }
+}
+
+/// Where an interval with this start begins.
+fn lower_cut(alloc: Global, start: &Bound) -> Result<Option<Version>>
+    requires { IsValidBound (endpoint_of start.now) }
+    ensures ok { IfOk result (λ o. option_map parts_of o ≡ lower_cut (endpoint_of start.now)) }
+    ensures err { IfErr result IsMemory }
+{
+    match start {
+        Bound::Unbounded => Ok(None),
+        Bound::Inclusive(version) => {
+            let cut = version.clone()?;
+            Ok(Some(cut))
+        }
+        Bound::Exclusive(version) => successor(alloc, version),
+    }
+}
+
+/// Where an interval with this end is over.
+fn upper_cut(alloc: Global, end: &Bound) -> Result<Option<Version>>
+    requires { IsValidBound (endpoint_of end.now) }
+    ensures ok { IfOk result (λ o. option_map parts_of o ≡ upper_cut (endpoint_of end.now)) }
+    ensures err { IfErr result IsMemory }
+{
+    match end {
+        Bound::Unbounded => Ok(None),
+        Bound::Exclusive(version) => {
+            let cut = version.clone()?;
+            Ok(Some(cut))
+        }
+        Bound::Inclusive(version) => successor(alloc, version),
+    }
+}
+
+/// Appends the gap before an interval with this start, where it has one.
+fn add_gap(
+    alloc: Global,
+    introduced: Option<Version>,
+    start: &Bound,
+    ranges: &mut Vec<OsvRange>,
+) -> Result<()>
+    requires { IsValidBound (endpoint_of start.now) }
+    ensures ok { OnOk result (ranges.new.items
+        ≡ ranges.old.items ++ gap_before (option_map parts_of introduced) (lower_cut (endpoint_of start.now)) []) }
+    ensures err { IfErr result IsMemory }
+{
+    if let Some(fixed) = lower_cut(alloc, start)? {
+        let gap = OsvRange {
+            introduced,
+            fixed: Some(fixed),
+        };
+        ranges.push(gap).map_err(|_| AllocError)?;
+    }
+    Ok(())
+}
+
+/// The gaps between intervals that stand in the order of their starts.
+fn gaps(alloc: Global, sorted: &[&UnaffectedRange]) -> Result<Vec<OsvRange>>
+    requires { All (λ x. HasValidBounds x.now) sorted.now }
+    ensures ok { IfOk result (λ v. v.items ≡ gaps_from None (map (λ x. cut x.now) sorted.now)) }
+    ensures err { IfErr result IsMemory }
+{
+    let mut ranges = Vec::new(alloc);
+    let mut introduced = None;
+    for interval in sorted {
+        add_gap(alloc, introduced, interval.start(), &mut ranges)?;
+        match upper_cut(alloc, interval.end())? {
+            Some(cut) => introduced = Some(cut),
+            None => return Ok(ranges),
+        }
+    }
+    let last = OsvRange {
+        introduced,
+        fixed: None,
+    };
+    ranges.push(last).map_err(|_| AllocError)?;
+    Ok(ranges)
+}
+
+/// The ranges of affected versions, in rising order: the gaps between the intervals of the
+/// requirements, empty ones too. A version is affected exactly where one of the ranges has it.
+///
+/// # Errors
+///
+/// `OutOfMemory` alone.
+pub fn ranges_for_advisory(alloc: Global, versions: &Versions) -> Result<Vec<OsvRange>>
+    ensures ranges { IfOk result (λ v. AreRanges (intervals versions.now) v.items) }
+
+    // A cut of an exclusive start or an inclusive end is the version least above it.
+    ensures cuts { (v s : Parts) → successor v ≡ Some s → IsLeastAbove v s }
+
+    // No list is given exactly for one requirement without comparators.
+    ensures empty { IfOk result (λ v. (v.items ≡ []) ↔ (versions.now.patched ++ versions.now.unaffected ≡ [] ∷ [])) }
+
+    // A valid version is affected exactly where a range has it, in precedence and in the order of `Version`.
+    ensures agree { IfOk result (λ v. (w : Parts) → IsVersion w → in_ranges v.items w ≡ affected versions.now w) }
+    ensures affects { IfOk result (λ v. (w : Parts) → IsVersion w → list_any (λ r. affects r w) v.items ≡ affected versions.now w) }
+
+    // Neither the order of the requirements nor the list that one stands in changes the ranges.
+    ensures order { IfOk result (λ v. (ls : Lists) (rs : List Range) → SameRequirements versions.now ls
+        → AreRanges (intervals ls) rs → rs ≡ v.items) }
+    ensures err { IfErr result IsMemory }
+{
+    let sorted = by_start(alloc, versions.ranges())?;
+    gaps(alloc, &sorted)
+}
