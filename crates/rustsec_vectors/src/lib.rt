@@ -7,10 +7,22 @@ mod calls;
 #[cfg(test)]
 mod commands;
 #[cfg(test)]
+mod cvss;
+#[cfg(test)]
 mod fixtures;
+#[cfg(test)]
+mod lock;
 #[cfg(test)]
 mod memory;
 #[cfg(test)]
+mod parts;
+#[cfg(test)]
+mod paths;
+#[cfg(test)]
 mod ranges;
+#[cfg(test)]
+mod sampled;
+#[cfg(test)]
+mod texts;
 #[cfg(test)]
 mod versions;

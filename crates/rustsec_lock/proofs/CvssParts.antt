@@ -1,0 +1,102 @@
+-- What stands behind a beginning, and the lone one of several parts.
+use Rattle.std.proofs.Common.{◌≡◌, ◌∙◌, ℕ, ◌+◌, ◌<◌, ◌≤◌, ◌⊎◌, true, false, List, [], ◌∷◌, ◌++◌, Option, Some, None, option_map, is_some, map, filter_map, drop, get_or, length, nat_eq, refl, sym, ap, subst, add-one, drop-cons, append-nil, eq-eqb, inl, inr}
+use Rattle.std.proofs.lemmas.Bool.{ne_eqb}
+use Rattle.std.proofs.lemmas.List.{drop_all, length-map}
+use Rattle.std.proofs.lemmas.Str.Pattern.{starts_text}
+use Rattle.std.specs.List.{starts_with}
+use Rattle.std.specs.Option.{MatchOption}
+use Rattle.std.specs.Str.{IsCharBoundary}
+use Rattle.std.specs.Str.Pattern.{FindsTextPrefix, StripsPrefix}
+use denote.Ref.{Bor}
+use Rattle.rustsec_values.specs.Reading.{only_if}
+use Rattle.rustsec_versions.specs.Failure.{Failure, IsRefusal, out_of_memory}
+use Rattle.rustsec_versions.specs.declared.error.ErrorKind.TheVariants as kind
+use Rattle.rustsec_lock.specs.Cvss.{base_of, behind, given, lone, metrics_of, parts_of}
+
+pub behind_from_strip : (p s : List ℕ) (r : Option (Bor (List ℕ)))
+    → MatchOption r (FindsTextPrefix p s None) (λ x. StripsPrefix (FindsTextPrefix p) s x.now)
+    → option_map (λ t. t.now) r ≡ behind p s
+behind_from_strip p s None h = rw (sym (starts_text false p s h)) refl
+behind_from_strip p s (Some x) (n, finds, cut, rest) =
+    let e : true ≡ starts_with nat_eq s p = starts_text true p s (n, finds, subst (λ k. IsCharBoundary s k) (sym finds.0) finds.2) in
+    rw (sym e) (ap Some (cut ∙ ap (λ k. drop k s) finds.0))
+
+-- what was found so far, as a list
+abbrev pub listed : Option (Bor (List ℕ)) → List (List ℕ)
+listed None = []
+listed (Some x) = x.now ∷ []
+
+-- what is found among the parts that are left, from an index on
+abbrev pub found_from : List ℕ → List (Bor (List ℕ)) → ℕ → List (List ℕ)
+found_from name parts k = filter_map (behind name) (map (λ p. p.now) (drop k parts))
+
+-- a value that may be missing, before a list
+abbrev pub put_before : Option (List ℕ) → List (List ℕ) → List (List ℕ)
+put_before None xs = xs
+put_before (Some y) xs = y ∷ xs
+
+filter-cons : (h : List ℕ → Option (List ℕ)) (x : List ℕ) (xs : List (List ℕ)) (o : Option (List ℕ)) → h x ≡ o
+    → filter_map h (x ∷ xs) ≡ put_before o (filter_map h xs)
+filter-cons h x xs None e = rw e refl
+filter-cons h x xs (Some y) e = rw e refl
+
+pub found_more : (name : List ℕ) (parts : List (Bor (List ℕ))) (k : ℕ) (d : Bor (List ℕ)) (o : Option (List ℕ)) → k < length parts
+    → behind name (get_or parts k d).now ≡ o → found_from name parts k ≡ put_before o (found_from name parts (k + 1))
+found_more name parts k d o h e =
+    rw (add-one, drop-cons parts k d h) (filter-cons (behind name) (get_or parts k d).now _ o e)
+
+pub lone_listed : (r : Option (Bor (List ℕ))) → lone (listed r) ≡ option_map (λ t. t.now) r
+lone_listed None = refl
+lone_listed (Some x) = refl
+
+pub found_past : (name : List ℕ) (parts : List (Bor (List ℕ))) (k : ℕ) → length parts ≤ k → found_from name parts k ≡ []
+found_past name parts k h = ap (λ ps. filter_map (behind name) (map (λ p. p.now) ps)) (drop_all k parts h)
+
+-- the whole of what was found, where no part is left
+pub given_at_end : (name : List ℕ) (parts : List (Bor (List ℕ))) (k : ℕ) (r : Option (Bor (List ℕ))) → length parts ≤ k
+    → listed r ++ found_from name parts k ≡ found_from name parts 0 → option_map (λ t. t.now) r ≡ given name (map (λ p. p.now) parts)
+unfolding given
+given_at_end name parts k r h e =
+    let all : listed r ≡ found_from name parts 0 = sym (append-nil (listed r)) ∙ (ap (λ xs. listed r ++ xs) (sym (found_past name parts k h)) ∙ e) in
+    sym (lone_listed r) ∙ ap lone all
+
+two_are_none : (x y : List ℕ) (rest : List (List ℕ)) → lone (x ∷ y ∷ rest) ≡ None
+two_are_none x y rest = refl
+
+-- a second part that begins with the name
+pub given_twice : (name : List ℕ) (parts : List (Bor (List ℕ))) (k : ℕ) (d x : Bor (List ℕ)) (v : List ℕ) → k < length parts
+    → behind name (get_or parts k d).now ≡ Some v
+    → listed (Some x) ++ found_from name parts k ≡ found_from name parts 0 → None ≡ given name (map (λ p. p.now) parts)
+unfolding given
+given_twice name parts k d x v h found e =
+    sym (two_are_none x.now v (found_from name parts (k + 1)))
+    ∙ (ap (λ xs. lone (x.now ∷ xs)) (sym (found_more name parts k d (Some v) h found)) ∙ ap lone e)
+
+pub given_again : (name : List ℕ) (parts : List (Bor (List ℕ))) (k : ℕ) (d : Bor (List ℕ)) (r : Option (Bor (List ℕ))) (v : List ℕ)
+    → k < length parts → Some v ≡ behind name (get_or parts k d).now → true ≡ is_some r
+    → listed r ++ found_from name parts k ≡ found_from name parts 0 → None ≡ given name (map (λ p. p.now) parts)
+given_again name parts k d None v h found some e = cc some
+given_again name parts k d (Some x) v h found some e = given_twice name parts k d x v h (sym found) e
+
+-- ---- the text behind a version
+
+-- what eight parts give, and what any other number of them does
+pub base_of_parts : (minor : ℕ) (text : List ℕ) (ps : List (Bor (List ℕ))) → map (λ p. p.now) ps ≡ parts_of text → length ps ≡ 8
+    → base_of minor text ≡ metrics_of minor (map (λ p. p.now) ps)
+unfolding base_of
+base_of_parts minor text ps e h =
+    let eight : length (parts_of text) ≡ 8 = ap length (sym e) ∙ (length-map ps (λ p. p.now) ∙ h) in
+    ap (λ b. only_if b (metrics_of minor (parts_of text))) (eq-eqb (length (parts_of text)) 8 eight) ∙ ap (metrics_of minor) (sym e)
+
+pub base_of_others : (minor : ℕ) (text : List ℕ) (ps : List (Bor (List ℕ))) → map (λ p. p.now) ps ≡ parts_of text → (length ps ≡ 8 → ⊥)
+    → base_of minor text ≡ None
+unfolding base_of
+base_of_others minor text ps e h =
+    let others : length (parts_of text) ≡ 8 → ⊥ = λ eight. h (sym (length-map ps (λ p. p.now)) ∙ (ap length e ∙ eight)) in
+    ap (λ b. only_if b (metrics_of minor (parts_of text))) (ne_eqb (length (parts_of text)) 8 others)
+
+-- a refusal, or want of memory for its message
+pub refusal : {P : Type 0} {m : List ℕ} (e : Failure) → P → (e ≡ record { kind = kind.Parse; message = m; cause = None }) ⊎ (e ≡ out_of_memory)
+    → IsRefusal kind.Parse P e
+refusal e p (inl h) = inl (ap (λ (x : Failure). x.kind) h, p)
+refusal e p (inr h) = inr h

@@ -1,0 +1,9 @@
+pub mod Arrays
+pub mod Cuts
+pub mod CvssAgain
+pub mod CvssParts
+pub mod ScoreSteps
+pub mod ScoreTable
+pub mod Sources
+pub mod Tables
+pub mod ValidVersions

@@ -1,0 +1,89 @@
+-- Vectors of CVSS: CVSS 3.1, section 6. A vector of version 3 is the version and the eight base metrics, in any order,
+-- each behind a slash; one of version 4 is any text behind its version.
+use Rattle.std.specs.Prelude.{ℕ, ◌==◌, ◌++◌, List, [], ◌∷◌, drop, filter_map, length, nat_eq, Option, Some, None, option_map, if◌then◌else◌, codes}
+use Rattle.std.specs.Fmt.{decimal}
+use Rattle.std.specs.List.{slice_split, starts_with}
+use Rattle.rustsec_values.specs.Reading.{◌>>=◌, only_if}
+use Rattle.rustsec_lock.specs.declared.cvss.Cvss.{Cvss}
+use Rattle.rustsec_lock.specs.declared.cvss.Cvss.TheVariants as cvss
+use Rattle.rustsec_lock.specs.declared.metrics.Base.{Base}
+use Rattle.rustsec_lock.specs.declared.severity.Severity.{Severity}
+use Rattle.rustsec_lock.specs.Metrics.{attack_complexity_letter, attack_complexity_of, attack_vector_letter, attack_vector_of, availability_letter, availability_of, confidentiality_letter, confidentiality_of, integrity_letter, integrity_of, privileges_required_letter, privileges_required_of, scope_letter, scope_of, user_interaction_letter, user_interaction_of}
+use Rattle.rustsec_lock.specs.Score.{score_tenths_of, severity_of}
+
+-- what stands behind a beginning, in a text that begins with it
+abbrev pub behind : List ℕ → List ℕ → Option (List ℕ)
+behind beginning text = if starts_with nat_eq text beginning then Some (drop (length beginning) text) else None
+
+-- the member of a list that has no other
+abbrev pub lone : {A : Type 0} → List A → Option A
+lone [] = None
+lone (x ∷ []) = Some x
+lone (x ∷ y ∷ rest) = None
+
+-- what stands behind a metric's name in the one part that begins with it
+unfoldable pub given : List ℕ → List (List ℕ) → Option (List ℕ)
+given name parts = lone (filter_map (behind name) parts)
+
+-- the parts of a text between its slashes
+abbrev pub parts_of : List ℕ → List (List ℕ)
+parts_of text = slice_split (λ b. b == 47) text
+
+-- the base metrics that eight parts give: for each metric exactly one part begins with its name and a colon, and one
+-- of its letters follows
+abbrev pub metrics_of : ℕ → List (List ℕ) → Option Base
+metrics_of minor parts =
+    given (codes "AV:") parts >>= attack_vector_of >>= λ av.
+    given (codes "AC:") parts >>= attack_complexity_of >>= λ ac.
+    given (codes "PR:") parts >>= privileges_required_of >>= λ pr.
+    given (codes "UI:") parts >>= user_interaction_of >>= λ ui.
+    given (codes "S:") parts >>= scope_of >>= λ s.
+    given (codes "C:") parts >>= confidentiality_of >>= λ c.
+    given (codes "I:") parts >>= integrity_of >>= λ i.
+    given (codes "A:") parts >>= availability_of >>= λ a.
+    Some (record { minor_version = minor; av = av; ac = ac; pr = pr; ui = ui; s = s; c = c; i = i; a = a })
+
+-- the base metrics of the text behind a vector's version
+unfoldable pub base_of : ℕ → List ℕ → Option Base
+base_of minor text = only_if (length (parts_of text) == 8) (metrics_of minor (parts_of text))
+
+-- the first reading that there is
+abbrev pub or_else : {A : Type 0} → Option A → Option A → Option A
+or_else None other = other
+or_else (Some x) other = Some x
+
+-- a vector of version 4, kept as it is
+abbrev pub kept_vector : List ℕ → Option Cvss
+kept_vector text = option_map (λ rest. cvss.CvssV40 text) (behind (codes "CVSS:4.0/") text)
+
+-- the vector that a text is, where it is one
+abbrev pub cvss_of : List ℕ → Option Cvss
+cvss_of text =
+    or_else (behind (codes "CVSS:3.0/") text >>= base_of 0 >>= λ b. Some (cvss.CvssV30 b))
+    (or_else (behind (codes "CVSS:3.1/") text >>= base_of 1 >>= λ b. Some (cvss.CvssV31 b))
+    (kept_vector text))
+
+-- how base metrics print: their version, and the metrics in the standard's order
+abbrev pub base_text : Base → List ℕ
+base_text b =
+    codes "CVSS:3." ++ (decimal b.minor_version
+    ++ (codes "/AV:" ++ (attack_vector_letter b.av
+    ++ (codes "/AC:" ++ (attack_complexity_letter b.ac
+    ++ (codes "/PR:" ++ (privileges_required_letter b.pr
+    ++ (codes "/UI:" ++ (user_interaction_letter b.ui
+    ++ (codes "/S:" ++ (scope_letter b.s
+    ++ (codes "/C:" ++ (confidentiality_letter b.c
+    ++ (codes "/I:" ++ (integrity_letter b.i
+    ++ (codes "/A:" ++ availability_letter b.a))))))))))))))))
+
+-- how a vector prints
+abbrev pub cvss_text : Cvss → List ℕ
+cvss_text (cvss.CvssV30 b) = base_text b
+cvss_text (cvss.CvssV31 b) = base_text b
+cvss_text (cvss.CvssV40 text) = text
+
+-- the rating of a vector: none is given for version 4
+abbrev pub cvss_severity : Cvss → Option Severity
+cvss_severity (cvss.CvssV30 b) = Some (severity_of (score_tenths_of b))
+cvss_severity (cvss.CvssV31 b) = Some (severity_of (score_tenths_of b))
+cvss_severity (cvss.CvssV40 text) = None

@@ -1,0 +1,10 @@
+pub mod Cvss
+pub mod CvssEquality
+pub mod Lockfile
+pub mod Metrics
+pub mod Names
+pub mod Package
+pub mod Platforms
+pub mod Score
+pub mod Source
+pub mod SourceOrder

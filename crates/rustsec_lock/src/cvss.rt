@@ -1,0 +1,214 @@
+//! Vectors of CVSS: section 6 of CVSS 3.1, and version 4 as a text.
+
+ghost use Rattle.std.specs.Prelude.{◌≡◌, Some, None, IfErr, IfOk, IfSome, map, option_map};
+ghost use Rattle.std.specs.Fmt.{DisplaysOnOk};
+ghost use Rattle.rustsec_versions.specs.Failure.{IsMemory, IsRefusal};
+ghost use Rattle.rustsec_lock.specs.Cvss.{base_of, base_text, behind, cvss_of, cvss_severity, cvss_text, given, metrics_of};
+
+use crate::metrics::{
+    AttackComplexity, AttackVector, Availability, Base, Confidentiality, Integrity,
+    PrivilegesRequired, Scope, UserInteraction,
+};
+use crate::severity::Severity;
+use rustsec_values::{ExactClone, ExactEq, Text};
+use rustsec_versions::{Error, ErrorKind, Result};
+use std::alloc::{AllocError, Global};
+use std::fmt;
+
+/// A vector of CVSS. Where it is read from a text, `CvssV30` has the minor version 0 and `CvssV31` has 1.
+#[derive(Debug, PartialEq, Eq, Drop)]
+pub enum Cvss {
+    /// A vector of version 3.0.
+    CvssV30(Base),
+    /// A vector of version 3.1.
+    CvssV31(Base),
+    /// A text that begins with `CVSS:4.0/`, which is neither checked nor rated.
+    CvssV40(Text),
+}
+
+/// What stands behind a beginning, in a text that begins with it.
+fn behind<'a>(beginning: &str, text: &'a str) -> Option<&'a str>
+    ensures { option_map (λ t. t.now) result ≡ behind beginning.now text.now }
+{
+    text.strip_prefix(beginning)
+}
+
+/// What stands behind a metric's name in the one part that begins with it.
+fn given<'a>(name: &str, parts: &[&'a str]) -> Option<&'a str>
+    ensures { option_map (λ t. t.now) result ≡ given name.now (map (λ p. p.now) parts.now) }
+{
+    let mut found = None;
+    for part in parts {
+        if let Some(value) = behind(name, part) {
+            if found.is_some() {
+                return None;
+            }
+            found = Some(value);
+        }
+    }
+    found
+}
+
+/// The metrics that the parts of a vector give.
+fn metrics(minor_version: usize, parts: &[&str]) -> Option<Base>
+    ensures value { result ≡ metrics_of minor_version (map (λ p. p.now) parts.now) }
+    ensures minor { IfSome result (λ b. b.minor_version ≡ minor_version) }
+{
+    let av = AttackVector::from_letter(given("AV:", parts)?)?;
+    let ac = AttackComplexity::from_letter(given("AC:", parts)?)?;
+    let pr = PrivilegesRequired::from_letter(given("PR:", parts)?)?;
+    let ui = UserInteraction::from_letter(given("UI:", parts)?)?;
+    let s = Scope::from_letter(given("S:", parts)?)?;
+    let c = Confidentiality::from_letter(given("C:", parts)?)?;
+    let i = Integrity::from_letter(given("I:", parts)?)?;
+    let a = Availability::from_letter(given("A:", parts)?)?;
+    Some(Base {
+        minor_version,
+        av,
+        ac,
+        pr,
+        ui,
+        s,
+        c,
+        i,
+        a,
+    })
+}
+
+/// The metrics of the text behind a vector's version: eight parts between slashes.
+fn base(alloc: Global, minor_version: usize, text: &str) -> Result<Base>
+    ensures ok { IfOk result (λ b. base_of minor_version text.now ≡ Some b) }
+    ensures minor { IfOk result (λ b. b.minor_version ≡ minor_version) }
+    ensures err { IfErr result (IsRefusal ErrorKind.Parse (base_of minor_version text.now ≡ None)) }
+{
+    let parts: Vec<&str> = text.split('/').collect(alloc)?;
+    if parts.len() == 8 {
+        if let Some(base) = metrics(minor_version, &parts) {
+            return Ok(base);
+        }
+    }
+    Err(Error::new(
+        alloc,
+        ErrorKind::Parse,
+        "a vector names each metric once, with one of its letters",
+    ))
+}
+
+impl Cvss {
+    /// Reads a vector: `CVSS:3.0` or `CVSS:3.1` with each of the eight base metrics once, in any order, or
+    /// `CVSS:4.0/` and any text, which is kept.
+    ///
+    /// # Errors
+    ///
+    /// `Parse` where the text is no such vector, and `OutOfMemory`.
+    pub fn from_str(alloc: Global, text: &str) -> Result<Cvss>
+        ensures ok { IfOk result (λ v. cvss_of text.now ≡ Some v) }
+        ensures again { IfOk result (λ v. cvss_of (cvss_text v) ≡ Some v) }
+        ensures err { IfErr result (IsRefusal ErrorKind.Parse (cvss_of text.now ≡ None)) }
+    {
+        if let Some(rest) = behind("CVSS:3.0/", text) {
+            let base = base(alloc, 0, rest)?;
+            return Ok(Cvss::CvssV30(base));
+        }
+        if let Some(rest) = behind("CVSS:3.1/", text) {
+            let base = base(alloc, 1, rest)?;
+            return Ok(Cvss::CvssV31(base));
+        }
+        if behind("CVSS:4.0/", text).is_some() {
+            let text = Text::from_str(alloc, text)?;
+            return Ok(Cvss::CvssV40(text));
+        }
+        Err(Error::new(
+            alloc,
+            ErrorKind::Parse,
+            "a vector begins with CVSS:3.0, CVSS:3.1 or CVSS:4.0",
+        ))
+    }
+
+    /// The rating of the vector's score; none for version 4.
+    pub fn severity(&self) -> Option<Severity>
+        ensures { result ≡ cvss_severity self.now }
+    {
+        match self {
+            Cvss::CvssV30(base) => Some(Severity::of_tenths(base.score_tenths())),
+            Cvss::CvssV31(base) => Some(Severity::of_tenths(base.score_tenths())),
+            Cvss::CvssV40(_) => None,
+        }
+    }
+
+    /// An equal vector.
+    ///
+    /// # Errors
+    ///
+    /// `OutOfMemory` alone.
+    pub fn clone(&self, _alloc: Global) -> Result<Cvss>
+        ensures ok { IfOk result (λ v. v ≡ self.now) }
+        ensures err { IfErr result IsMemory }
+    {
+        let copy = Clone::clone(self)?;
+        Ok(copy)
+    }
+}
+
+impl Clone for Cvss {
+    ghost is_clone = { λ a b. b ≡ a };
+
+    fn clone(&self) -> std::result::Result<Cvss, AllocError> {
+        match self {
+            Cvss::CvssV30(base) => Ok(Cvss::CvssV30(*base)),
+            Cvss::CvssV31(base) => Ok(Cvss::CvssV31(*base)),
+            Cvss::CvssV40(text) => {
+                let text = text.clone()?;
+                Ok(Cvss::CvssV40(text))
+            }
+        }
+    }
+}
+
+impl ExactClone for Cvss {
+    ghost exact = { λ x y e. e };
+}
+
+impl ExactEq for Cvss {
+    ghost use Rattle.rustsec_lock.specs.CvssEquality.{cvss_decides};
+
+    ghost decides = { cvss_decides };
+}
+
+impl fmt::Display for Base {
+    ghost use Rattle.std.specs.Prelude.{Some};
+    ghost use Rattle.rustsec_lock.specs.Cvss.{base_text};
+
+    ghost output = { λ b. Some (base_text b) };
+
+    fn fmt<W: fmt::Write>(&self, f: &mut fmt::Formatter<W>) -> fmt::Result {
+        let minor_version = self.minor_version;
+        let av = self.av.letter();
+        let ac = self.ac.letter();
+        let pr = self.pr.letter();
+        let ui = self.ui.letter();
+        let s = self.s.letter();
+        let c = self.c.letter();
+        let i = self.i.letter();
+        let a = self.a.letter();
+        write!(
+            f,
+            "CVSS:3.{minor_version}/AV:{av}/AC:{ac}/PR:{pr}/UI:{ui}/S:{s}/C:{c}/I:{i}/A:{a}"
+        )
+    }
+}
+
+impl fmt::Display for Cvss {
+    ghost use Rattle.std.specs.Prelude.{Some};
+    ghost use Rattle.rustsec_lock.specs.Cvss.{cvss_text};
+
+    ghost output = { λ v. Some (cvss_text v) };
+
+    fn fmt<W: fmt::Write>(&self, f: &mut fmt::Formatter<W>) -> fmt::Result {
+        match self {
+            Cvss::CvssV30(base) => fmt::Display::fmt(base, f),
+            Cvss::CvssV31(base) => fmt::Display::fmt(base, f),
+            Cvss::CvssV40(text) => f.write_str(text.as_str()),
+        }
+    }
+}

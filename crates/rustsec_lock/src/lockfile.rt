@@ -1,0 +1,215 @@
+// Lockfiles.
+
+ghost use Rattle.std.specs.Prelude.{◌≡◌, ◌⊎◌, ℕ, IfErr, IfOk, List, None, Some, option_map};
+ghost use Rattle.semver.specs.Identifiers.{parts_of};
+ghost use Rattle.toml.specs.View.{array_view, table_view, view};
+ghost use Rattle.rustsec_values.specs.Reading.{read_all, read_optional};
+ghost use Rattle.rustsec_versions.specs.Failure.{IsMemory, IsOfKind, IsRefusal};
+ghost use Rattle.rustsec_lock.specs.Lockfile.{AreValid, list_of, lockfile_of, package_in, package_of, packages_of, version_of};
+ghost use Rattle.rustsec_lock.specs.Source.{source_id_of};
+
+use crate::names::Name;
+use crate::packages::Package;
+use crate::refusal::refused;
+use crate::source::SourceId;
+use crate::table::{member, optional_text_at, text_at};
+use rustsec_values::{ExactClone, Items, Text};
+use rustsec_versions::{Error, ErrorKind, Result};
+use semver::Version;
+use std::alloc::{AllocError, Global};
+use std::rt::Files;
+use std::{fs, io};
+use toml::value::Array;
+use toml::{Table, Value};
+
+/// The version of a text.
+fn version_of(alloc: Global, text: &str) -> Result<Version>
+    ensures ok { IfOk result (λ v. version_of text.now ≡ Some (parts_of v)) }
+    ensures err { IfErr result (IsRefusal ErrorKind.Parse (version_of text.now ≡ None)) }
+{
+    match Version::parse(alloc, text) {
+        Ok(version) => Ok(version),
+        Err(e) => {
+            if e == semver::Error::from(AllocError) {
+                return Err(Error::from(AllocError));
+            }
+            Err(refused(alloc, "a version is malformed"))
+        }
+    }
+}
+
+/// The source of a text that may be missing.
+fn source_of(alloc: Global, text: Option<&str>) -> Result<Option<SourceId>>
+    ensures ok { IfOk result (λ s. read_optional source_id_of (option_map (λ t. t.now) text.entry) ≡ Some s) }
+    ensures err { IfErr result (IsRefusal ErrorKind.Parse (read_optional source_id_of (option_map (λ t. t.now) text.entry) ≡ None)) }
+{
+    match text {
+        Some(text) => {
+            let source = SourceId::from_url(alloc, text)?;
+            Ok(Some(source))
+        }
+        None => Ok(None),
+    }
+}
+
+/// A copy of a text that may be missing.
+fn copy_of(alloc: Global, text: Option<&str>) -> Result<Option<Text>>
+    ensures ok { IfOk result (λ t. t ≡ option_map (λ t. t.now) text.entry) }
+    ensures err { IfErr result IsMemory }
+{
+    match text {
+        Some(text) => {
+            let copy = Text::from_str(alloc, text)?;
+            Ok(Some(copy))
+        }
+        None => Ok(None),
+    }
+}
+
+/// The package that a table stands for.
+fn package_in(alloc: Global, table: &Table) -> Result<Package>
+    ensures ok { IfOk result (λ p. package_in (table_view table.now) ≡ Some p) }
+    ensures err { IfErr result (IsRefusal ErrorKind.Parse (package_in (table_view table.now) ≡ None)) }
+{
+    let name = Name::from_str(alloc, text_at(alloc, table, "name")?)?;
+    let version = version_of(alloc, text_at(alloc, table, "version")?)?;
+    let source = source_of(alloc, optional_text_at(alloc, table, "source")?)?;
+    let checksum = copy_of(alloc, optional_text_at(alloc, table, "checksum")?)?;
+    Ok(Package {
+        name,
+        version,
+        source,
+        checksum,
+    })
+}
+
+/// The package of a value, which must be a table.
+fn package_of(alloc: Global, value: &Value) -> Result<Package>
+    ensures ok { IfOk result (λ p. package_of (view value.now) ≡ Some p) }
+    ensures err { IfErr result (IsRefusal ErrorKind.Parse (package_of (view value.now) ≡ None)) }
+{
+    match value.as_table() {
+        Some(table) => package_in(alloc, table),
+        None => Err(refused(alloc, "a package is no table")),
+    }
+}
+
+/// The packages of an array, in order.
+fn packages_in(alloc: Global, array: &Array) -> Result<Items<Package>>
+    ensures ok { IfOk result (λ ps. read_all package_of (list_of (array_view array.now)) ≡ Some ps) }
+    ensures err { IfErr result (IsRefusal ErrorKind.Parse (read_all package_of (list_of (array_view array.now)) ≡ None)) }
+{
+    let mut packages = Items::new(alloc);
+    for value in array {
+        match package_of(alloc, value) {
+            Ok(package) => packages.push(package)?,
+            Err(e) => return Err(e),
+        }
+    }
+    Ok(packages)
+}
+
+/// A lockfile: its packages, in order.
+#[derive(Debug, Drop)]
+pub struct Lockfile {
+    /// The packages.
+    pub packages: Items<Package>,
+}
+
+impl Lockfile {
+    /// The lockfile of a TOML table. The array `package` holds a table for each package, with the texts
+    /// `name`, `version` and, where they are there, `source` and `checksum`. Without that key there are
+    /// no packages. Other keys say nothing.
+    ///
+    /// # Errors
+    ///
+    /// `Parse` where a value is of another type, a name or a version is missing, or a text is refused;
+    /// else `OutOfMemory`.
+    pub fn from_table(alloc: Global, table: &Table) -> Result<Lockfile>
+        ensures ok { IfOk result (λ l. packages_of (table_view table.now) ≡ Some l.packages) }
+        ensures valid { IfOk result (λ l. AreValid l.packages) }
+        ensures err { IfErr result (IsRefusal ErrorKind.Parse (packages_of (table_view table.now) ≡ None)) }
+    {
+        let Some(value) = member(table, "package") else {
+            return Ok(Lockfile {
+                packages: Items::new(alloc),
+            });
+        };
+        let Some(array) = value.as_array() else {
+            return Err(refused(alloc, "the packages are no array"));
+        };
+        let packages = packages_in(alloc, array)?;
+        Ok(Lockfile { packages })
+    }
+
+    /// The lockfile of a text, which is read as a TOML document.
+    ///
+    /// # Errors
+    ///
+    /// `Parse` where the text is no document, or where `from_table` refuses its table; else
+    /// `OutOfMemory`.
+    pub fn from_str(alloc: Global, text: &str) -> Result<Lockfile>
+        ensures ok { IfOk result (λ l. lockfile_of text.now ≡ Some l.packages) }
+        ensures valid { IfOk result (λ l. AreValid l.packages) }
+        ensures err { IfErr result (IsRefusal ErrorKind.Parse (lockfile_of text.now ≡ None)) }
+    {
+        match toml::table_from_str(alloc, text) {
+            Ok(table) => Lockfile::from_table(alloc, &table),
+            Err(e) => {
+                if e.is_memory() {
+                    return Err(Error::from(AllocError));
+                }
+                Err(refused(alloc, "a lockfile is no TOML document"))
+            }
+        }
+    }
+
+    /// The lockfile of a file's text.
+    ///
+    /// # Errors
+    ///
+    /// `Io` where the file cannot be read or is no UTF-8; else as `from_str`.
+    pub fn load<R: Files + AllocGlobal>(rt: &R, path: &str) -> Result<Lockfile>
+        ensures ok { IfOk result (λ l. (text : List ℕ) × (lockfile_of text ≡ Some l.packages)) }
+        ensures valid { IfOk result (λ l. AreValid l.packages) }
+        ensures err { IfErr result (λ e. (IsOfKind ErrorKind.Io e)
+            ⊎ ((text : List ℕ) × IsRefusal ErrorKind.Parse (lockfile_of text ≡ None) e)) }
+    {
+        let text = match fs::read_to_string(rt, path) {
+            Ok(text) => text,
+            Err(e) => {
+                if e.kind() == io::ErrorKind::OutOfMemory {
+                    return Err(Error::from(AllocError));
+                }
+                return Err(Error::new(rt.alloc(), ErrorKind::Io, "a lockfile cannot be read"));
+            }
+        };
+        Lockfile::from_str(rt.alloc(), text.as_str())
+    }
+
+    /// An equal lockfile.
+    ///
+    /// # Errors
+    ///
+    /// `OutOfMemory` alone.
+    pub fn clone(&self, _alloc: Global) -> Result<Lockfile>
+        ensures ok { IfOk result (λ l. l ≡ self.now) }
+        ensures err { IfErr result IsMemory }
+    {
+        let copy = Clone::clone(self)?;
+        Ok(copy)
+    }
+}
+
+impl Clone for Lockfile {
+    ghost is_clone = { λ a b. b ≡ a };
+
+    fn clone(&self) -> std::result::Result<Lockfile, AllocError> {
+        let packages = self.packages.clone()?;
+        Ok(Lockfile { packages })
+    }
+}
+
+impl ExactClone for Lockfile {
+    ghost exact = { λ x y e. e };
+}

@@ -1,0 +1,108 @@
+// Names of packages.
+
+ghost use Rattle.std.specs.Prelude.{◌≡◌, ◌<◌, IfErr, IfOk, None, Some, length};
+ghost use Rattle.rustsec_versions.specs.Failure.{IsMemory, IsRefusal};
+ghost use Rattle.rustsec_lock.specs.Names.{name_of};
+
+use crate::refusal::refused;
+use rustsec_values::{ExactClone, ExactEq, Text};
+use rustsec_versions::{ErrorKind, Result};
+use std::alloc::{AllocError, Global};
+use std::convert::AsStr;
+use std::fmt;
+use std::marker::Model;
+
+/// The name of a package: a text that is not empty.
+#[derive(PartialEq, Eq, PartialOrd, Ord, Hash, Debug, Drop)]
+pub struct Name {
+    text: Text,
+}
+
+impl Model for Name {
+    ghost use Rattle.std.specs.Prelude.{List, ℕ, ◌<◌, length};
+
+    ghost Value = { List ℕ };
+
+    ghost view = { λ n. n.text };
+
+    ghost invariant = { λ n. 0 < length n.text };
+
+    ghost inverse = { λ t. record { text = t } };
+}
+
+impl Name {
+    /// The name of a text.
+    ///
+    /// # Errors
+    ///
+    /// `Parse` where the text is empty; else `OutOfMemory`.
+    pub fn from_str(alloc: Global, text: &str) -> Result<Name>
+        ensures ok { IfOk result (λ n. name_of text.now ≡ Some n) }
+        ensures text { IfOk result (λ n. n ≡ text.now) }
+        ensures err { IfErr result (IsRefusal ErrorKind.Parse (name_of text.now ≡ None)) }
+    {
+        if text.is_empty() {
+            return Err(refused(alloc, "a name is empty"));
+        }
+        let text = Text::from_str(alloc, text)?;
+        Ok(Name { text })
+    }
+
+    /// The text.
+    pub fn as_str(&self) -> &str
+        ensures text { result.now ≡ self.now }
+
+        // The text is read back as the same name.
+        ensures back { name_of result.now ≡ Some self.now }
+    {
+        self.text.as_str()
+    }
+
+    /// An equal name.
+    ///
+    /// # Errors
+    ///
+    /// `OutOfMemory` alone.
+    pub fn clone(&self, _alloc: Global) -> Result<Name>
+        ensures ok { IfOk result (λ n. n ≡ self.now) }
+        ensures err { IfErr result IsMemory }
+    {
+        let copy = Clone::clone(self)?;
+        Ok(copy)
+    }
+}
+
+impl Clone for Name {
+    ghost is_clone = { λ a b. b ≡ a };
+
+    fn clone(&self) -> std::result::Result<Name, AllocError> {
+        let text = self.text.clone()?;
+        Ok(Name { text })
+    }
+}
+
+impl ExactClone for Name {
+    ghost exact = { λ x y e. e };
+}
+
+impl ExactEq for Name {
+    ghost use Rattle.std.specs.Cmp.Lexicographic.{bytes_decides};
+
+    ghost decides = { bytes_decides };
+}
+
+impl fmt::Display for Name {
+    ghost output = { λ n. Some n };
+
+    fn fmt<W: fmt::Write>(&self, f: &mut fmt::Formatter<W>) -> fmt::Result {
+        f.write_str(self.text.as_str())
+    }
+}
+
+impl AsStr for Name {
+    ghost text = { λ n. n };
+
+    fn as_str(&self) -> &str {
+        self.text.as_str()
+    }
+}

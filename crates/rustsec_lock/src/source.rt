@@ -1,0 +1,238 @@
+// Where packages come from.
+
+ghost use Rattle.std.specs.Prelude.{◌≡◌, ◌==◌, ◌<◌, ◌≢◌, IfErr, IfNone, IfOk, IfSome, None, Some, length, nat_eq, refl, true};
+ghost use Rattle.std.specs.Cmp.{on_equiv, on_po, on_total, partial_equiv_from_equiv};
+ghost use Rattle.std.specs.Cmp.Lexicographic.{nat_list_cmp_total, nat_list_eq_equiv, pointwise, slice_cmp, texts_po, texts_ties};
+ghost use Rattle.std.specs.List.{before_first};
+ghost use Rattle.std.specs.Ordering.{nat_cmp};
+ghost use Rattle.rustsec_versions.specs.Failure.{IsMemory, IsRefusal};
+ghost use Rattle.rustsec_lock.specs.Source.{default_source, is_default, kind_of, kind_word, location_of, source_id_of, source_text, url_of};
+
+use crate::refusal::refused;
+use rustsec_values::{ExactClone, ExactEq, Text};
+use rustsec_versions::{ErrorKind, Result};
+use std::alloc::{AllocError, Global};
+use std::cmp::Ordering;
+use std::fmt;
+use std::marker::Model;
+
+/// The kind of a source.
+#[derive(Clone, Copy, Debug, PartialEq, Eq)]
+pub enum SourceKind {
+    /// A registry whose index is a git repository.
+    Registry,
+    /// A registry whose index is read file by file.
+    SparseRegistry,
+    /// A git repository.
+    Git,
+    /// A folder of the file system.
+    Path,
+    /// A registry in a folder of the file system.
+    LocalRegistry,
+    /// A folder that holds packages.
+    Directory,
+}
+
+impl SourceKind {
+    /// The word that stands before the first `+` of a source.
+    pub(crate) fn word(self) -> &'static str
+        ensures { result.now ≡ kind_word self }
+    {
+        match self {
+            SourceKind::Registry => "registry",
+            SourceKind::SparseRegistry => "sparse",
+            SourceKind::Git => "git",
+            SourceKind::Path => "path",
+            SourceKind::LocalRegistry => "local-registry",
+            SourceKind::Directory => "directory",
+        }
+    }
+
+    /// The kind of a word.
+    fn of_word(word: &str) -> Option<SourceKind>
+        ensures some { IfSome result (λ k. kind_word k ≡ word.now) }
+        ensures none { IfNone result ((k : SourceKind) → kind_word k ≢ word.now) }
+    {
+        match word {
+            "registry" => Some(SourceKind::Registry),
+            "sparse" => Some(SourceKind::SparseRegistry),
+            "git" => Some(SourceKind::Git),
+            "path" => Some(SourceKind::Path),
+            "local-registry" => Some(SourceKind::LocalRegistry),
+            "directory" => Some(SourceKind::Directory),
+            _ => None,
+        }
+    }
+}
+
+impl ExactClone for SourceKind {
+    ghost exact = { λ x y e. e };
+}
+
+impl ExactEq for SourceKind {
+    ghost use denote.Enum.Bare.{same_true, true_same};
+    ghost use Rattle.rustsec_lock.specs.contracts.source.SourceKind.{the_type};
+
+    ghost decides = { λ x y. (same_true the_type tt x y, true_same the_type x y) };
+}
+
+/// What stands before the first place of a mark, or all where there is none.
+fn up_to(text: &str, mark: char) -> &str
+    requires { mark < 128 }
+    ensures { result.now ≡ before_first (λ b. b == mark) text.now }
+{
+    match text.split_once(mark) {
+        Some((before, _)) => before,
+        None => text,
+    }
+}
+
+/// What stands before the first question mark or number sign.
+fn without_reference(address: &str) -> &str
+    ensures { result.now ≡ location_of SourceKind.Git address.now }
+{
+    up_to(up_to(address, '?'), '#')
+}
+
+/// Where a source of this kind is found.
+fn location(kind: SourceKind, address: &str) -> &str
+    ensures { result.now ≡ location_of kind address.now }
+{
+    match kind {
+        SourceKind::Git => without_reference(address),
+        _ => address,
+    }
+}
+
+/// Where a package comes from: a kind and an address, as in
+/// `registry+https://github.com/rust-lang/crates.io-index`. It is compared by its text.
+#[derive(Debug, Drop)]
+pub struct SourceId {
+    pub(crate) kind: SourceKind,
+    pub(crate) address: Text,
+}
+
+impl Model for SourceId {
+    ghost use Rattle.std.specs.Prelude.{◌<◌, length};
+    ghost use Rattle.rustsec_lock.specs.Source.{Source, location_of};
+
+    ghost Value = { Source };
+
+    ghost view = { λ s. record { kind = s.kind; address = s.address } };
+
+    ghost invariant = { λ s. 0 < length (location_of s.kind s.address) };
+}
+
+impl SourceId {
+    /// The source of a text: `KIND+ADDRESS`, cut at the first `+`. The kinds are `registry`, `sparse`,
+    /// `git`, `path`, `local-registry` and `directory`.
+    ///
+    /// # Errors
+    ///
+    /// `Parse` where there is no `+`, the kind is none of these, or `url` would be empty; else
+    /// `OutOfMemory`.
+    pub fn from_url(alloc: Global, text: &str) -> Result<SourceId>
+        ensures ok { IfOk result (λ s. source_id_of text.now ≡ Some s) }
+        ensures text { IfOk result (λ s. source_text s ≡ text.now) }
+        ensures err { IfErr result (IsRefusal ErrorKind.Parse (source_id_of text.now ≡ None)) }
+    {
+        let Some((word, address)) = text.split_once('+') else {
+            return Err(refused(alloc, "a source has no kind"));
+        };
+        let Some(kind) = SourceKind::of_word(word) else {
+            return Err(refused(alloc, "a source is of no known kind"));
+        };
+        if location(kind, address).is_empty() {
+            return Err(refused(alloc, "a source has no address"));
+        }
+        let address = Text::from_str(alloc, address)?;
+        Ok(SourceId { kind, address })
+    }
+
+    /// The registry crates.io, by its index in git.
+    ///
+    /// # Errors
+    ///
+    /// `OutOfMemory` alone.
+    pub fn default(alloc: Global) -> Result<SourceId>
+        ensures ok { IfOk result (λ s. s ≡ default_source) }
+        ensures err { IfErr result IsMemory }
+    {
+        let address = Text::from_str(alloc, "https://github.com/rust-lang/crates.io-index")?;
+        Ok(SourceId {
+            kind: SourceKind::Registry,
+            address,
+        })
+    }
+
+    /// The kind.
+    pub fn kind(&self) -> SourceKind
+        ensures { result ≡ self.now.kind }
+    {
+        self.kind
+    }
+
+    /// The address; of a git source the part before the first `?` or `#`. It is not empty.
+    pub fn url(&self) -> &str
+        ensures url { result.now ≡ url_of self.now }
+        ensures some { 0 < length result.now }
+
+        // The text of a source is read back as the same source.
+        ensures back { source_id_of (source_text self.now) ≡ Some self.now }
+    {
+        location(self.kind, self.address.as_str())
+    }
+
+    /// Whether this is the registry crates.io, by its index in git or by the sparse one.
+    pub fn is_default_registry(&self) -> bool
+        ensures { result ≡ is_default self.now }
+    {
+        match self.kind {
+            SourceKind::Registry => {
+                self.address.as_str() == "https://github.com/rust-lang/crates.io-index"
+            }
+            SourceKind::SparseRegistry => self.address.as_str() == "https://index.crates.io/",
+            _ => false,
+        }
+    }
+
+    /// An equal source.
+    ///
+    /// # Errors
+    ///
+    /// `OutOfMemory` alone.
+    pub fn clone(&self, _alloc: Global) -> Result<SourceId>
+        ensures ok { IfOk result (λ s. s ≡ self.now) }
+        ensures err { IfErr result IsMemory }
+    {
+        let copy = Clone::clone(self)?;
+        Ok(copy)
+    }
+}
+
+impl Clone for SourceId {
+    ghost is_clone = { λ a b. b ≡ a };
+
+    fn clone(&self) -> std::result::Result<SourceId, AllocError> {
+        let address = self.address.clone()?;
+        Ok(SourceId {
+            kind: self.kind,
+            address,
+        })
+    }
+}
+
+impl ExactClone for SourceId {
+    ghost exact = { λ x y e. e };
+}
+
+impl fmt::Display for SourceId {
+    ghost output = { λ s. Some (source_text s) };
+
+    /// Writes the whole text.
+    fn fmt<W: fmt::Write>(&self, f: &mut fmt::Formatter<W>) -> fmt::Result {
+        f.write_str(self.kind.word())?;
+        f.write_str("+")?;
+        f.write_str(self.address.as_str())
+    }
+}

@@ -1,0 +1,105 @@
+-- Where a text is cut, from the places where a pattern stands.
+use Rattle.std.proofs.Common.{◌≡◌, MatchOption, Bor, ℕ, zero, suc, ◌==◌, ◌<◌, ◌≤◌, Bool, true, false, if◌then◌else◌, List, [], ◌∷◌, ◌++◌, length, take, drop, Option, Some, None, option_map, refl, ap, subst, ◌∙◌, arith, eq-eqb}
+use Rattle.std.proofs.Math.Seq.{drop-append_seam, take-append_seam}
+use Rattle.std.specs.Option.{option_or}
+use Rattle.std.proofs.lemmas.Bool.{eqb-true}
+use Rattle.std.specs.Str.Pattern.{FindsText, FindsTextPrefix, LacksTextAt, SplitsAroundMatch, StripsPrefix}
+use Rattle.rustsec_texts.specs.Cuts.{IsFirstCut, behind, cut_at}
+
+none-of : {A : Type 0} (o : Option A) → ((x : A) → o ≡ Some x → ⊥) → o ≡ None
+none-of None f = refl
+none-of (Some x) f = absurd (f x refl)
+
+some-inj : {A : Type 0} (a b : A) → Some a ≡ Some b → a ≡ b
+some-inj a b h = cc h
+
+-- ---- a text that begins with a pattern
+
+pub behind-append : (p rest : List ℕ) → behind p (p ++ rest) ≡ Some rest
+unfolding behind
+behind-append [] rest = refl
+behind-append (b ∷ p) rest = rw (eq-eqb b b refl) (behind-append p rest)
+
+pub behind-from : (p text rest : List ℕ) → text ≡ p ++ rest → behind p text ≡ Some rest
+behind-from p text rest e = rw e (behind-append p rest)
+
+same-first : (t : Bool) (b c : ℕ) (p cs rest : List ℕ) (o : Option (List ℕ)) → (t ≡ true → b ≡ c) → (o ≡ Some rest → cs ≡ p ++ rest)
+    → (if t then o else None) ≡ Some rest → c ∷ cs ≡ b ∷ (p ++ rest)
+same-first true b c p cs rest o e f h = cc (e refl, f h)
+same-first false b c p cs rest o e f h = cc h
+
+pub behind-is : (p text rest : List ℕ) → behind p text ≡ Some rest → text ≡ p ++ rest
+unfolding behind
+behind-is [] text rest h = cc h
+behind-is (b ∷ p) [] rest h = cc h
+behind-is (b ∷ p) (c ∷ cs) rest h = same-first (b == c) b c p cs rest (behind p cs) (λ e. eqb-true b c e) (behind-is p cs rest) h
+
+pub behind-none : (p text : List ℕ) → LacksTextAt p text 0 → behind p text ≡ None
+behind-none p text lacks = none-of (behind p text) (λ rest h. lacks rest (behind-is p text rest h))
+
+-- ---- a text that is cut at a pattern
+
+pub cut_at-none : (p text : List ℕ) → ((i : ℕ) → i ≤ length text → LacksTextAt p text i) → cut_at p text ≡ None
+unfolding cut_at
+cut_at-none p [] lacks = rw (behind-none p [] (lacks 0 (omega arith))) refl
+cut_at-none p (b ∷ bs) lacks =
+    rw (behind-none p (b ∷ bs) (lacks 0 (omega arith)), cut_at-none p bs (λ i l. lacks (suc i) (omega arith))) refl
+
+pub cut_at-first : (p text rest : List ℕ) (i : ℕ) → ((k : ℕ) → k < i → LacksTextAt p text k) → drop i text ≡ p ++ rest
+    → cut_at p text ≡ Some (take i text, rest)
+unfolding cut_at
+cut_at-first p [] rest zero lacks e = rw (behind-from p [] rest e) refl
+cut_at-first p (b ∷ bs) rest zero lacks e = rw (behind-from p (b ∷ bs) rest e) refl
+cut_at-first p [] rest (suc i) lacks e = absurd (lacks 0 (omega arith) rest e)
+cut_at-first p (b ∷ bs) rest (suc i) lacks e =
+    rw (behind-none p (b ∷ bs) (lacks 0 (omega arith)), cut_at-first p bs rest i (λ k l. lacks (suc k) (omega arith)) e) refl
+
+-- ---- what std's `strip_prefix` and `split_once` answer
+
+pub behind-strips : (p s : List ℕ) (r : Option (Bor (List ℕ))) → MatchOption r (FindsTextPrefix p s None) (λ x. StripsPrefix (FindsTextPrefix p) s x.now)
+    → MatchOption r (behind p s ≡ None) (λ x. behind p s ≡ Some x.now)
+behind-strips p s None h = behind-none p s h
+behind-strips p s (Some x) h = rw h.2 (behind-from p s (drop h.0 s) h.1.1)
+
+pub cut_at-splits : (p s : List ℕ) (r : Option (Bor (List ℕ) × Bor (List ℕ)))
+    → MatchOption r (FindsText p s None) (λ x. SplitsAroundMatch (FindsText p) s x.0.now x.1.now)
+    → MatchOption r (cut_at p s ≡ None) (λ x. cut_at p s ≡ Some (x.0.now, x.1.now))
+cut_at-splits p s None h = cut_at-none p s h
+cut_at-splits p s (Some x) h = rw (h.3, h.4) (cut_at-first p s (drop h.1 s) h.0 h.2.0 h.2.1.split)
+
+-- ---- a text is cut where `IsFirstCut` says, and nowhere else
+
+cuts-here : (p text : List ℕ) (o : Option (List ℕ)) (c : List ℕ × List ℕ) → ((rest : List ℕ) → o ≡ Some rest → text ≡ p ++ rest)
+    → option_map (λ rest. ([], rest)) o ≡ Some c → IsFirstCut p text c.0 c.1
+cuts-here p text None c f h = cc h
+cuts-here p text (Some rest) c f h =
+    subst (λ (d : List ℕ × List ℕ). IsFirstCut p text d.0 d.1) (some-inj ([], rest) c h)
+    (record { whole = f rest refl; first = λ i l. absurd (omega arith) })
+
+first-later : (p bs before after : List ℕ) (b : ℕ) → behind p (b ∷ bs) ≡ None → IsFirstCut p bs before after
+    → (i : ℕ) → i < length (b ∷ before) → LacksTextAt p (b ∷ bs) i
+first-later p bs before after b none cut zero l rest e = cc (none, behind-from p (b ∷ bs) rest e)
+first-later p bs before after b none cut (suc i) l rest e = cut.first i (omega arith) rest e
+
+cuts-later : (p bs : List ℕ) (b : ℕ) (o : Option (List ℕ)) (later : Option (List ℕ × List ℕ)) (c : List ℕ × List ℕ) → behind p (b ∷ bs) ≡ o
+    → ((d : List ℕ × List ℕ) → later ≡ Some d → IsFirstCut p bs d.0 d.1)
+    → option_or (option_map (λ rest. ([], rest)) o) (option_map (λ (d : List ℕ × List ℕ). (b ∷ d.0, d.1)) later) ≡ Some c
+    → IsFirstCut p (b ∷ bs) c.0 c.1
+cuts-later p bs b (Some rest) later c e f h = cuts-here p (b ∷ bs) (Some rest) c (λ r k. behind-is p (b ∷ bs) r (e ∙ k)) h
+cuts-later p bs b None None c e f h = cc h
+cuts-later p bs b None (Some d) c e f h =
+    let cut = f d refl in
+    subst (λ (d : List ℕ × List ℕ). IsFirstCut p (b ∷ bs) d.0 d.1) (some-inj (b ∷ d.0, d.1) c h)
+    (record { whole = ap (λ xs. b ∷ xs) cut.whole; first = first-later p bs d.0 d.1 b e cut })
+
+pub cut_at-is : (p text : List ℕ) (c : List ℕ × List ℕ) → cut_at p text ≡ Some c → IsFirstCut p text c.0 c.1
+unfolding cut_at
+cut_at-is p [] c h = cuts-here p [] (behind p []) c (behind-is p []) h
+cut_at-is p (b ∷ bs) c h = cuts-later p bs b (behind p (b ∷ bs)) (cut_at p bs) c refl (cut_at-is p bs) h
+
+pub cut_at-from : (p text before after : List ℕ) → IsFirstCut p text before after → cut_at p text ≡ Some (before, after)
+cut_at-from p text before after cut =
+    let found : cut_at p text ≡ Some (take (length before) text, after) =
+    cut_at-first p text after (length before) cut.first (ap (drop (length before)) cut.whole ∙ drop-append_seam before (p ++ after)) in
+    let front : take (length before) text ≡ before = ap (take (length before)) cut.whole ∙ take-append_seam before (p ++ after) in
+    found ∙ ap (λ (xs : List ℕ). Some (xs, after)) front

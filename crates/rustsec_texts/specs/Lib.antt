@@ -1,0 +1,13 @@
+pub mod Categories
+pub mod Collections
+pub mod Cuts
+pub mod Dates
+pub mod IdOrder
+pub mod Ids
+pub mod Informational
+pub mod Licenses
+pub mod Numbers
+pub mod Parts
+pub mod Paths
+pub mod Tables
+pub mod WarningKinds

@@ -1,0 +1,23 @@
+-- The licenses of advisories, by their SPDX identifiers.
+use Rattle.std.specs.Prelude.{ℕ, List, [], ◌∷◌, codes, unwrap_or}
+use Rattle.rustsec_texts.specs.declared.license.License.{License}
+use Rattle.rustsec_texts.specs.declared.license.License.TheVariants as license
+use Rattle.rustsec_texts.specs.Tables.{value_named}
+
+-- the identifier of a license
+abbrev pub license_name : License → List ℕ
+license_name license.CcZero10 = codes "CC0-1.0"
+license_name license.CcBy40 = codes "CC-BY-4.0"
+license_name (license.Other text) = text
+
+-- the licenses that have a value of their own
+abbrev pub licenses : List License
+licenses = license.CcZero10 ∷ license.CcBy40 ∷ []
+
+-- the license of a text: the one of that identifier, or another one, which keeps the text
+abbrev pub license_of : List ℕ → License
+license_of text = unwrap_or (value_named license_name licenses text) (license.Other text)
+
+-- the license of an advisory that names none
+abbrev pub default_license : License
+default_license = license.CcZero10

@@ -1,0 +1,62 @@
+-- The parts of an advisory file: front matter in TOML between fences, then Markdown under a title.
+use Rattle.std.specs.Prelude.{◌≡◌, ℕ, List, ◌++◌, codes, Option, Some}
+use Rattle.std.specs.Str.{trim, trim_end, trim_start}
+use Rattle.rustsec_values.specs.Reading.{◌>>=◌}
+use Rattle.rustsec_versions.specs.Failure.{Failure}
+use Rattle.rustsec_texts.specs.Cuts.{IsBeginning, IsFirstCut, behind, cut_at}
+
+-- the parts: each is a slice of the text
+pub record FileParts : Type 0 where
+  pub front_matter : List ℕ
+  pub markdown : List ℕ
+  pub title : List ℕ
+  pub description : List ℕ
+
+-- how a file begins, what ends its front matter, how its Markdown begins, what ends its title
+abbrev pub opening : List ℕ
+opening = codes "```toml"
+
+abbrev pub closing : List ℕ
+closing = codes "\n```"
+
+abbrev pub heading : List ℕ
+heading = codes "# "
+
+abbrev pub line_feed : List ℕ
+line_feed = codes "\n"
+
+-- these are the parts of a text: the opening, the front matter, the first closing, the Markdown, whose
+-- heading ends at the first line feed. `trim`, `trim_start` and `trim_end` take off all white space of
+-- Unicode on both sides, at the front, at the end
+pub record AreParts (text : List ℕ) (p : FileParts) : Type 0 where
+  pub body : List ℕ
+  pub front : List ℕ
+  pub rest : List ℕ
+  pub lines : List ℕ
+  pub title_line : List ℕ
+  pub below : List ℕ
+  pub opened : text ≡ opening ++ body
+  pub closed : IsFirstCut closing body front rest
+  pub front_matter : p.front_matter ≡ trim front
+  pub markdown : p.markdown ≡ trim_start rest
+  pub headed : p.markdown ≡ heading ++ lines
+  pub first_line : IsFirstCut line_feed lines title_line below
+  pub title : p.title ≡ trim_end title_line
+  pub description : p.description ≡ trim below
+
+-- the parts of Markdown below a front matter
+abbrev pub titled : List ℕ → List ℕ → Option FileParts
+titled front markdown = behind heading markdown >>= cut_at line_feed >>= λ c. Some (record {
+  front_matter = front;
+  markdown = markdown;
+  title = trim_end c.0;
+  description = trim c.1;
+})
+
+-- the message about a text that does not begin so shows how it begins, by 20 bytes at most
+abbrev pub ShowsBeginning : List ℕ → Failure → Type 0
+ShowsBeginning text e = (b : List ℕ) × IsBeginning 20 text b × (e.message ≡ codes "not the start of an advisory: " ++ b)
+
+-- the parts of a text, where it has them
+abbrev pub parts_of : List ℕ → Option FileParts
+parts_of text = behind opening text >>= cut_at closing >>= λ c. titled (trim c.0) (trim_start c.1)

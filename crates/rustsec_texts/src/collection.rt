@@ -1,0 +1,88 @@
+// Collections of packages.
+
+ghost use Rattle.std.specs.Prelude.{◌≡◌, IfErr, IfOk, Some, None};
+ghost use Rattle.rustsec_versions.specs.Failure.{IsRefusal};
+ghost use Rattle.rustsec_texts.specs.Collections.{collection_cmp, collection_name, collection_of, collections};
+
+use crate::laws::StatedOrder;
+use rustsec_values::{ExactClone, ExactEq};
+use rustsec_versions::{Error, ErrorKind, Result};
+use std::alloc::Global;
+use std::fmt;
+
+/// Where the packages of an advisory are published.
+#[derive(Clone, Copy, PartialEq, Eq, PartialOrd, Ord, Hash, Debug)]
+pub enum Collection {
+    /// Packages of crates.io.
+    Crates,
+    /// What comes with the language itself.
+    Rust,
+}
+
+impl Collection {
+    /// All collections, in their order.
+    pub fn all() -> &'static [Collection]
+        ensures { result.now ≡ collections }
+    {
+        &[Collection::Crates, Collection::Rust]
+    }
+
+    /// The name, as `from_str` reads it.
+    pub fn as_str(self) -> &'static str
+        ensures value { result.now ≡ collection_name self }
+        ensures read { collection_of result.now ≡ Some self }
+    {
+        match self {
+            Collection::Crates => "crates",
+            Collection::Rust => "rust",
+        }
+    }
+
+    /// The collection that a text names.
+    ///
+    /// # Errors
+    ///
+    /// `Parse` for any other text; `OutOfMemory`.
+    pub fn from_str(alloc: Global, text: &str) -> Result<Collection>
+        ensures ok { IfOk result (λ c. collection_of text.now ≡ Some c) }
+        ensures err { IfErr result (IsRefusal ErrorKind.Parse (collection_of text.now ≡ None)) }
+        ensures printed { IfOk result (λ c. collection_name c ≡ text.now) }
+    {
+        match text {
+            "crates" => Ok(Collection::Crates),
+            "rust" => Ok(Collection::Rust),
+            _ => Err(Error::new(alloc, ErrorKind::Parse, "not a collection")),
+        }
+    }
+}
+
+impl ExactClone for Collection {
+    ghost exact = { λ x y e. e };
+}
+
+impl ExactEq for Collection {
+    ghost use Rattle.std.specs.Cmp.Rules.{comparing};
+    ghost use Rattle.std.proofs.Common.{rules};
+
+    ghost decides = { λ x y. Prim.search (comparing, rules) };
+}
+
+impl fmt::Display for Collection {
+    ghost use Rattle.std.specs.Prelude.{Some};
+    ghost use Rattle.rustsec_texts.specs.Collections.{collection_name};
+
+    ghost output = { λ c. Some (collection_name c) };
+
+    fn fmt<W: fmt::Write>(&self, f: &mut fmt::Formatter<W>) -> fmt::Result {
+        f.write_str(self.as_str())
+    }
+}
+
+impl StatedOrder for Collection {
+    ghost use Rattle.std.specs.Cmp.Rules.{comparing};
+    ghost use Rattle.std.proofs.Common.{rules};
+
+    ghost order = { collection_cmp };
+
+    ghost agrees = { λ x y. Prim.search (comparing, rules) };
+}

@@ -1,0 +1,321 @@
+//! The IDs of advisories.
+
+ghost use Rattle.std.specs.Prelude.{◌≡◌, IfErr, IfOk, None, Some, option_map, refl, string_bytes};
+ghost use Rattle.std.specs.Cmp.{partial_equiv_from_equiv, po};
+ghost use Rattle.std.specs.Hash as fed;
+ghost use Rattle.rustsec_versions.specs.Failure.{IsMemory, IsRefusal};
+ghost use Rattle.rustsec_texts.specs.IdOrder.{id_decides, id_eq, id_equiv, id_fed, id_order, id_ties, id_total, kind_eq};
+ghost use Rattle.rustsec_texts.specs.Ids.{IdValue, id_of, id_with, id_year, is_placeholder, numerical_part, page_of, page_of_kind, placeholder};
+ghost use Rattle.rustsec_texts.specs.declared.id_kind.IdKind.TheVariants as variant;
+
+use crate::id_kind::IdKind;
+use crate::numbers::{number, three_parts};
+use rustsec_values::{ExactClone, ExactEq, Text};
+use rustsec_versions::{Error, ErrorKind, Result};
+use std::alloc::{AllocError, Global};
+use std::cmp::Ordering;
+use std::convert::AsStr;
+use std::fmt;
+use std::hash::{Hash, Hasher};
+use std::marker::Model;
+
+/// The ID of an advisory: `RUSTSEC-YEAR-NUMBER`, `CVE-YEAR-NUMBER`, `TALOS-YEAR-NUMBER`, or any other
+/// text, which is kept as it stands. Two IDs are equal exactly where their texts are.
+#[derive(Debug, Drop)]
+pub struct Id {
+    kind: IdKind,
+    year: Option<u32>,
+    text: Text,
+}
+
+impl Model for Id {
+    ghost use Rattle.std.specs.Prelude.{◌≡◌, Some};
+    ghost use Rattle.rustsec_texts.specs.Ids.{IdValue, id_of};
+
+    ghost Value = { IdValue };
+
+    ghost view = { λ i. record { kind = i.kind; year = i.year; text = i.text } };
+
+    ghost invariant = { λ i. id_of i.text ≡ Some (record { kind = i.kind; year = i.year; text = i.text }) };
+}
+
+/// The year in the text of an ID that has one.
+fn year_of(text: &str) -> Option<u32>
+    ensures { result ≡ id_year text.now }
+{
+    let (_, year, last) = three_parts(text)?;
+    let year = number(year)?;
+    let _number = number(last)?;
+    if !(2000..=2100).contains(&year) {
+        return None;
+    }
+    Some(year)
+}
+
+/// Where the pages of a kind's IDs stand.
+fn page_of_kind(kind: IdKind) -> Option<&'static str>
+    ensures { option_map (λ t. t.now) result ≡ page_of_kind kind }
+{
+    match kind {
+        IdKind::RustSec => Some("https://rustsec.org/advisories/"),
+        IdKind::Cve => Some("https://cve.mitre.org/cgi-bin/cvename.cgi?name="),
+        IdKind::Ghsa => Some("https://github.com/advisories/"),
+        IdKind::Talos => Some("https://www.talosintelligence.com/reports/"),
+        IdKind::Other => None,
+    }
+}
+
+impl Id {
+    /// The text of the ID that stands for one that is not assigned yet.
+    pub const PLACEHOLDER: &'static str = "RUSTSEC-0000-0000";
+
+    /// The ID of a text.
+    ///
+    /// # Errors
+    ///
+    /// `Parse` where the text has the prefix `RUSTSEC-`, `CVE-` or `TALOS-`, is not the placeholder, and
+    /// is not three parts at `-` with a year from 2000 to 2100 and a number; else `OutOfMemory`.
+    pub fn from_str(alloc: Global, text: &str) -> Result<Id>
+        ensures ok { IfOk result (λ i. id_of text.now ≡ Some i) }
+        ensures text { IfOk result (λ i. i.text ≡ text.now) }
+        ensures err { IfErr result (IsRefusal ErrorKind.Parse (id_of text.now ≡ None)) }
+    {
+        if text == Id::PLACEHOLDER {
+            return Id::default(alloc);
+        }
+        let kind = IdKind::detect(text);
+        let year = match kind {
+            IdKind::RustSec | IdKind::Cve | IdKind::Talos => match year_of(text) {
+                Some(year) => Some(year),
+                None => return Err(Error::new(alloc, ErrorKind::Parse, "malformed advisory ID")),
+            },
+            IdKind::Ghsa | IdKind::Other => None,
+        };
+        let text = Text::from_str(alloc, text)?;
+        Ok(Id { kind, year, text })
+    }
+
+    /// The placeholder, an ID of RustSec without year, number or page.
+    ///
+    /// # Errors
+    ///
+    /// `OutOfMemory` alone.
+    pub fn default(alloc: Global) -> Result<Id>
+        ensures ok { IfOk result (λ i. i ≡ id_with placeholder None) }
+        ensures read { IfOk result (λ i. id_of placeholder ≡ Some i) }
+        ensures err { IfErr result IsMemory }
+    {
+        let text = Text::from_str(alloc, Id::PLACEHOLDER)?;
+        Ok(Id {
+            kind: IdKind::RustSec,
+            year: None,
+            text,
+        })
+    }
+
+    /// The text.
+    pub fn as_str(&self) -> &str
+        ensures value { result.now ≡ self.now.text }
+
+        // The text is read as this very ID.
+        ensures read_again { id_of self.now.text ≡ Some self.now }
+
+        // An ID of the same text is this one.
+        ensures alone { (other : IdValue) → id_of other.text ≡ Some other → other.text ≡ self.now.text → other ≡ self.now }
+    {
+        self.text.as_str()
+    }
+
+    /// The kind.
+    pub fn kind(&self) -> IdKind
+        ensures { result ≡ self.now.kind }
+    {
+        self.kind
+    }
+
+    /// Whether this is the placeholder.
+    pub fn is_placeholder(&self) -> bool
+        ensures { result ≡ is_placeholder self.now.text }
+    {
+        self.as_str() == Id::PLACEHOLDER
+    }
+
+    /// Whether this is an ID of RustSec.
+    pub fn is_rustsec(&self) -> bool
+        ensures { result ≡ kind_eq self.now.kind variant.RustSec }
+    {
+        self.kind == IdKind::RustSec
+    }
+
+    /// Whether this is a CVE.
+    pub fn is_cve(&self) -> bool
+        ensures { result ≡ kind_eq self.now.kind variant.Cve }
+    {
+        self.kind == IdKind::Cve
+    }
+
+    /// Whether this is an ID of GitHub.
+    pub fn is_ghsa(&self) -> bool
+        ensures { result ≡ kind_eq self.now.kind variant.Ghsa }
+    {
+        self.kind == IdKind::Ghsa
+    }
+
+    /// Whether this is an ID of Talos.
+    pub fn is_talos(&self) -> bool
+        ensures { result ≡ kind_eq self.now.kind variant.Talos }
+    {
+        self.kind == IdKind::Talos
+    }
+
+    /// Whether this is an ID of any other kind.
+    pub fn is_other(&self) -> bool
+        ensures { result ≡ kind_eq self.now.kind variant.Other }
+    {
+        self.kind == IdKind::Other
+    }
+
+    /// The year, if the ID names one.
+    pub fn year(&self) -> Option<u32>
+        ensures { result ≡ self.now.year }
+    {
+        self.year
+    }
+
+    /// The number at the end: the last part at `-`, where it is a number and the ID no placeholder.
+    pub fn numerical_part(&self) -> Option<u32>
+        ensures { result ≡ numerical_part self.now.text }
+    {
+        if self.is_placeholder() {
+            return None;
+        }
+        match self.as_str().rsplit_once('-') {
+            Some((_, last)) => number(last),
+            None => number(self.as_str()),
+        }
+    }
+
+    /// The address of the ID's page, if its kind has pages and it is no placeholder.
+    ///
+    /// # Errors
+    ///
+    /// `OutOfMemory` alone.
+    pub fn url(&self, alloc: Global) -> Result<Option<String>>
+        ensures ok { IfOk result (λ url. option_map string_bytes url ≡ page_of self.now) }
+        ensures err { IfErr result IsMemory }
+    {
+        if self.is_placeholder() {
+            return Ok(None);
+        }
+        match page_of_kind(self.kind) {
+            Some(page) => {
+                let text = self.as_str();
+                let url = format!(in alloc; "{page}{text}")?;
+                Ok(Some(url))
+            }
+            None => Ok(None),
+        }
+    }
+
+    /// An equal ID.
+    ///
+    /// # Errors
+    ///
+    /// `OutOfMemory` alone.
+    pub fn clone(&self, _alloc: Global) -> Result<Id>
+        ensures ok { IfOk result (λ i. i ≡ self.now) }
+        ensures err { IfErr result IsMemory }
+    {
+        let copy = Clone::clone(self)?;
+        Ok(copy)
+    }
+}
+
+impl Clone for Id {
+    ghost is_clone = { λ a b. b ≡ a };
+
+    fn clone(&self) -> std::result::Result<Id, AllocError> {
+        let text = self.text.clone()?;
+        Ok(Id {
+            kind: self.kind,
+            year: self.year,
+            text,
+        })
+    }
+}
+
+impl ExactClone for Id {
+    ghost exact = { λ x y e. e };
+}
+
+impl PartialEq for Id {
+    ghost eq = { id_eq };
+
+    ghost laws = { partial_equiv_from_equiv id_equiv };
+
+    fn eq(&self, other: &Id) -> bool {
+        self.kind == other.kind && self.year == other.year && self.text == other.text
+    }
+}
+
+impl Eq for Id {
+    ghost laws = { id_equiv };
+}
+
+impl ExactEq for Id {
+    ghost decides = { id_decides };
+}
+
+impl PartialOrd for Id {
+    ghost partial_cmp = { λ a b. Some (id_order a b) };
+
+    ghost laws = { po id_total id_ties };
+
+    fn partial_cmp(&self, other: &Id) -> Option<Ordering> {
+        Some(self.cmp(other))
+    }
+}
+
+impl Ord for Id {
+    ghost cmp = { id_order };
+
+    ghost total = { id_total };
+
+    ghost matches_partial_cmp = { λ a b. refl };
+
+    ghost matches_eq = { id_ties };
+
+    /// By kind, then by year, none first, then by text.
+    fn cmp(&self, other: &Id) -> Ordering {
+        self.kind
+            .cmp(&other.kind)
+            .then(self.year.cmp(&other.year))
+            .then(self.text.cmp(&other.text))
+    }
+}
+
+impl Hash for Id {
+    ghost hash_input = { λ i. fed.str i.text };
+
+    ghost respects_eq = { id_fed };
+
+    fn hash<H: Hasher>(&self, state: &mut H) {
+        self.text.hash(state);
+    }
+}
+
+impl fmt::Display for Id {
+    ghost output = { λ i. Some i.text };
+
+    fn fmt<W: fmt::Write>(&self, f: &mut fmt::Formatter<W>) -> fmt::Result {
+        f.write_str(self.as_str())
+    }
+}
+
+impl AsStr for Id {
+    ghost text = { λ i. i.text };
+
+    fn as_str(&self) -> &str {
+        Id::as_str(self)
+    }
+}

@@ -1,0 +1,194 @@
+//! The identifiers of function paths.
+
+ghost use Rattle.std.specs.Prelude.{◌≡◌, IfErr, IfOk, None, Some, nat_eq, refl, true};
+ghost use Rattle.std.proofs.Common.{rules};
+ghost use Rattle.std.specs.Cmp.{partial_equiv_from_equiv};
+ghost use Rattle.std.specs.Cmp.Lexicographic.{bytes_decides, nat_list_cmp_total, nat_list_eq_equiv, pointwise, slice_cmp, texts_po, texts_ties};
+ghost use Rattle.std.specs.Cmp.Rules.{hashing};
+ghost use Rattle.std.specs.Hash as fed;
+ghost use Rattle.std.specs.List.{list_all};
+ghost use Rattle.std.specs.Ordering.{nat_cmp};
+ghost use Rattle.rustsec_versions.specs.Failure.{IsMemory, IsRefusal};
+ghost use Rattle.rustsec_texts.specs.Paths.{identifier_of, is_first, is_identifier, is_later};
+
+use rustsec_values::{ExactClone, ExactEq, Text};
+use rustsec_versions::{Error, ErrorKind, Result};
+use std::alloc::{AllocError, Global};
+use std::cmp::Ordering;
+use std::convert::AsStr;
+use std::fmt;
+use std::hash::{Hash, Hasher};
+use std::marker::Model;
+
+/// An identifier of a function path: a letter, `_` or `<`, and then letters, digits, `_`, `<`, `>` or `,`,
+/// all of ASCII.
+#[derive(Debug, Drop)]
+pub struct Identifier {
+    text: Text,
+}
+
+impl Model for Identifier {
+    ghost use Rattle.std.specs.Prelude.{◌≡◌, ℕ, List, true};
+    ghost use Rattle.rustsec_texts.specs.Paths.{is_identifier};
+
+    ghost Value = { List ℕ };
+
+    ghost view = { λ i. i.text };
+
+    ghost invariant = { λ i. is_identifier i.text ≡ true };
+}
+
+/// Whether an identifier may begin with this character.
+fn is_first(b: u8) -> bool
+    ensures { result ≡ is_first b }
+{
+    b.is_ascii_alphabetic() || b == b'_' || b == b'<'
+}
+
+/// Whether an identifier may have this character behind its first one.
+fn is_later(b: u8) -> bool
+    ensures { result ≡ is_later b }
+{
+    is_first(b) || b.is_ascii_digit() || b == b'>' || b == b','
+}
+
+/// Whether each character may stand behind the first one.
+fn are_later(bytes: &[u8]) -> bool
+    ensures { result ≡ list_all is_later bytes.now }
+{
+    bytes.iter().all(|b| is_later(*b))
+}
+
+/// Whether a text is an identifier. A character that is not ASCII is refused by its first byte.
+fn is_identifier(text: &str) -> bool
+    ensures { result ≡ is_identifier text.now }
+{
+    match text.as_bytes() {
+        [first, later @ ..] => is_first(*first) && are_later(later),
+        [] => false,
+    }
+}
+
+impl Identifier {
+    /// The identifier of a text.
+    ///
+    /// # Errors
+    ///
+    /// `Parse` where the text is none; else `OutOfMemory`.
+    pub fn from_str(alloc: Global, text: &str) -> Result<Identifier>
+        ensures ok { IfOk result (λ i. identifier_of text.now ≡ Some i) }
+        ensures text { IfOk result (λ i. i ≡ text.now) }
+        ensures err { IfErr result (IsRefusal ErrorKind.Parse (identifier_of text.now ≡ None)) }
+    {
+        if !is_identifier(text) {
+            return Err(Error::new(alloc, ErrorKind::Parse, "invalid identifier in a path"));
+        }
+        let text = Text::from_str(alloc, text)?;
+        Ok(Identifier { text })
+    }
+
+    /// The text.
+    pub fn as_str(&self) -> &str
+        ensures value { result.now ≡ self.now }
+
+        // The text is read as this very identifier.
+        ensures read_again { identifier_of self.now ≡ Some self.now }
+    {
+        self.text.as_str()
+    }
+
+    /// An equal identifier.
+    ///
+    /// # Errors
+    ///
+    /// `OutOfMemory` alone.
+    pub fn clone(&self, _alloc: Global) -> Result<Identifier>
+        ensures ok { IfOk result (λ i. i ≡ self.now) }
+        ensures err { IfErr result IsMemory }
+    {
+        let copy = Clone::clone(self)?;
+        Ok(copy)
+    }
+}
+
+impl Clone for Identifier {
+    ghost is_clone = { λ a b. b ≡ a };
+
+    fn clone(&self) -> std::result::Result<Identifier, AllocError> {
+        let text = self.text.clone()?;
+        Ok(Identifier { text })
+    }
+}
+
+impl ExactClone for Identifier {
+    ghost exact = { λ x y e. e };
+}
+
+impl PartialEq for Identifier {
+    ghost eq = { pointwise nat_eq };
+
+    ghost laws = { partial_equiv_from_equiv nat_list_eq_equiv };
+
+    fn eq(&self, other: &Identifier) -> bool {
+        self.text == other.text
+    }
+}
+
+impl Eq for Identifier {
+    ghost laws = { nat_list_eq_equiv };
+}
+
+impl ExactEq for Identifier {
+    ghost decides = { bytes_decides };
+}
+
+impl PartialOrd for Identifier {
+    ghost partial_cmp = { λ a b. Some (slice_cmp nat_cmp a b) };
+
+    ghost laws = { texts_po };
+
+    fn partial_cmp(&self, other: &Identifier) -> Option<Ordering> {
+        Some(self.cmp(other))
+    }
+}
+
+impl Ord for Identifier {
+    ghost cmp = { slice_cmp nat_cmp };
+
+    ghost total = { nat_list_cmp_total };
+
+    ghost matches_partial_cmp = { λ a b. refl };
+
+    ghost matches_eq = { texts_ties };
+
+    /// By text.
+    fn cmp(&self, other: &Identifier) -> Ordering {
+        self.text.cmp(&other.text)
+    }
+}
+
+impl Hash for Identifier {
+    ghost hash_input = { λ i. fed.str i };
+
+    ghost respects_eq = { Prim.search (hashing, rules) };
+
+    fn hash<H: Hasher>(&self, state: &mut H) {
+        self.text.hash(state);
+    }
+}
+
+impl fmt::Display for Identifier {
+    ghost output = { λ i. Some i };
+
+    fn fmt<W: fmt::Write>(&self, f: &mut fmt::Formatter<W>) -> fmt::Result {
+        f.write_str(self.as_str())
+    }
+}
+
+impl AsStr for Identifier {
+    ghost text = { λ i. i };
+
+    fn as_str(&self) -> &str {
+        Identifier::as_str(self)
+    }
+}

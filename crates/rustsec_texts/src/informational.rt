@@ -1,0 +1,162 @@
+// Kinds of informational advisories.
+
+ghost use Rattle.std.specs.Prelude.{◌≡◌, ◌⊎◌, ◌↔◌, IsTrue, IfErr, IfOk, List, ℕ};
+ghost use Rattle.rustsec_versions.specs.Failure.{IsMemory};
+ghost use Rattle.rustsec_texts.specs.Informational.{informational_cmp, informational_name, informational_of, is_other_kind, kind_of_warnings};
+
+use crate::laws::StatedOrder;
+use crate::warning_kind::WarningKind;
+use rustsec_values::{ExactClone, ExactEq, Text};
+use rustsec_versions::Result;
+use std::alloc::{AllocError, Global};
+use std::fmt;
+
+/// What an advisory tells of a package that has no fault to be mended.
+#[derive(PartialEq, Eq, PartialOrd, Ord, Hash, Debug, Drop)]
+pub enum Informational {
+    /// A notice.
+    Notice,
+    /// Nobody maintains the package.
+    Unmaintained,
+    /// The package is not sound.
+    Unsound,
+    /// Any other kind, by its text.
+    Other(Text),
+}
+
+impl Informational {
+    /// The kind of a text. Every text has one.
+    ///
+    /// # Errors
+    ///
+    /// `OutOfMemory` alone.
+    pub fn from_str(alloc: Global, text: &str) -> Result<Informational>
+        ensures ok { IfOk result (λ k. k ≡ informational_of text.now) }
+        ensures err { IfErr result IsMemory }
+        ensures printed { IfOk result (λ k. informational_name k ≡ text.now) }
+        ensures read_again { IfOk result (λ k. informational_of (informational_name k) ≡ k) }
+    {
+        match text {
+            "notice" => Ok(Informational::Notice),
+            "unmaintained" => Ok(Informational::Unmaintained),
+            "unsound" => Ok(Informational::Unsound),
+            other => {
+                let kind = Text::from_str(alloc, other)?;
+                Ok(Informational::Other(kind))
+            }
+        }
+    }
+
+    /// The text of the kind, as `from_str` reads it.
+    pub fn as_str(&self) -> &str
+        ensures value { result.now ≡ informational_name self.now }
+        ensures read { (informational_of result.now ≡ self.now) ⊎ ((text : List ℕ) × (self.now ≡ Informational.Other text)) }
+    {
+        match self {
+            Informational::Notice => "notice",
+            Informational::Unmaintained => "unmaintained",
+            Informational::Unsound => "unsound",
+            Informational::Other(kind) => kind.as_str(),
+        }
+    }
+
+    /// Whether it is a notice.
+    pub fn is_notice(&self) -> bool
+        ensures { IsTrue result ↔ (self.now ≡ Informational.Notice) }
+    {
+        *self == Informational::Notice
+    }
+
+    /// Whether nobody maintains the package.
+    pub fn is_unmaintained(&self) -> bool
+        ensures { IsTrue result ↔ (self.now ≡ Informational.Unmaintained) }
+    {
+        *self == Informational::Unmaintained
+    }
+
+    /// Whether the package is not sound.
+    pub fn is_unsound(&self) -> bool
+        ensures { IsTrue result ↔ (self.now ≡ Informational.Unsound) }
+    {
+        *self == Informational::Unsound
+    }
+
+    /// Whether it is a kind without a value of its own.
+    pub fn is_other(&self) -> bool
+        ensures { result ≡ is_other_kind self.now }
+    {
+        matches!(self, Informational::Other(_))
+    }
+
+    /// The kind of the warnings that it gives, none for another kind.
+    pub fn warning_kind(&self) -> Option<WarningKind>
+        ensures { result ≡ kind_of_warnings self.now }
+    {
+        match self {
+            Informational::Notice => Some(WarningKind::Notice),
+            Informational::Unmaintained => Some(WarningKind::Unmaintained),
+            Informational::Unsound => Some(WarningKind::Unsound),
+            Informational::Other(_) => None,
+        }
+    }
+
+    /// An equal kind.
+    ///
+    /// # Errors
+    ///
+    /// `OutOfMemory` alone.
+    pub fn clone(&self, _alloc: Global) -> Result<Informational>
+        ensures ok { IfOk result (λ k. k ≡ self.now) }
+        ensures err { IfErr result IsMemory }
+    {
+        let copy = Clone::clone(self)?;
+        Ok(copy)
+    }
+}
+
+impl Clone for Informational {
+    ghost is_clone = { λ a b. b ≡ a };
+
+    fn clone(&self) -> std::result::Result<Informational, AllocError> {
+        match self {
+            Informational::Notice => Ok(Informational::Notice),
+            Informational::Unmaintained => Ok(Informational::Unmaintained),
+            Informational::Unsound => Ok(Informational::Unsound),
+            Informational::Other(kind) => {
+                let kind = Clone::clone(kind)?;
+                Ok(Informational::Other(kind))
+            }
+        }
+    }
+}
+
+impl ExactClone for Informational {
+    ghost exact = { λ x y e. e };
+}
+
+impl ExactEq for Informational {
+    ghost use Rattle.std.proofs.Common.{rules};
+    ghost use Rattle.std.specs.Cmp.Lexicographic.{bytes_decides};
+
+    ghost decides = { λ x y. Prim.search (rules, bytes_decides) };
+}
+
+impl fmt::Display for Informational {
+    ghost use Rattle.std.specs.Prelude.{Some};
+    ghost use Rattle.rustsec_texts.specs.Informational.{informational_name};
+
+    ghost output = { λ k. Some (informational_name k) };
+
+    fn fmt<W: fmt::Write>(&self, f: &mut fmt::Formatter<W>) -> fmt::Result {
+        f.write_str(self.as_str())
+    }
+}
+
+impl StatedOrder for Informational {
+    ghost use Rattle.std.specs.Cmp.Rules.{comparing};
+    ghost use Rattle.std.proofs.Common.{rules};
+
+    ghost order = { informational_cmp };
+
+    ghost agrees = { λ x y. Prim.search (comparing, rules) };
+}

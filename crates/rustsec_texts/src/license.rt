@@ -1,0 +1,113 @@
+// Licenses of advisories.
+
+ghost use Rattle.std.specs.Prelude.{◌≡◌, ◌⊎◌, IfErr, IfOk, List, ℕ};
+ghost use Rattle.rustsec_versions.specs.Failure.{IsMemory};
+ghost use Rattle.rustsec_texts.specs.Licenses.{default_license, license_name, license_of};
+
+use rustsec_values::{ExactClone, ExactEq, Text};
+use rustsec_versions::Result;
+use std::alloc::{AllocError, Global};
+use std::fmt;
+
+/// The license under which an advisory is published, by its SPDX identifier.
+#[derive(PartialEq, Eq, Debug, Drop)]
+pub enum License {
+    /// Creative Commons Zero, `CC0-1.0`.
+    CcZero10,
+    /// Creative Commons Attribution, `CC-BY-4.0`.
+    CcBy40,
+    /// Any other license, by its identifier.
+    Other(Text),
+}
+
+impl License {
+    /// The license of a text. Every text has one.
+    ///
+    /// # Errors
+    ///
+    /// `OutOfMemory` alone.
+    pub fn from_str(alloc: Global, text: &str) -> Result<License>
+        ensures ok { IfOk result (λ l. l ≡ license_of text.now) }
+        ensures err { IfErr result IsMemory }
+        ensures printed { IfOk result (λ l. license_name l ≡ text.now) }
+        ensures read_again { IfOk result (λ l. license_of (license_name l) ≡ l) }
+    {
+        match text {
+            "CC0-1.0" => Ok(License::CcZero10),
+            "CC-BY-4.0" => Ok(License::CcBy40),
+            other => {
+                let identifier = Text::from_str(alloc, other)?;
+                Ok(License::Other(identifier))
+            }
+        }
+    }
+
+    /// The license of an advisory that names none, which is `CC0-1.0`.
+    pub fn default() -> License
+        ensures { result ≡ default_license }
+    {
+        License::CcZero10
+    }
+
+    /// The SPDX identifier, as `from_str` reads it.
+    pub fn spdx(&self) -> &str
+        ensures value { result.now ≡ license_name self.now }
+        ensures read { (license_of result.now ≡ self.now) ⊎ ((text : List ℕ) × (self.now ≡ License.Other text)) }
+    {
+        match self {
+            License::CcZero10 => "CC0-1.0",
+            License::CcBy40 => "CC-BY-4.0",
+            License::Other(identifier) => identifier.as_str(),
+        }
+    }
+
+    /// An equal license.
+    ///
+    /// # Errors
+    ///
+    /// `OutOfMemory` alone.
+    pub fn clone(&self, _alloc: Global) -> Result<License>
+        ensures ok { IfOk result (λ l. l ≡ self.now) }
+        ensures err { IfErr result IsMemory }
+    {
+        let copy = Clone::clone(self)?;
+        Ok(copy)
+    }
+}
+
+impl Clone for License {
+    ghost is_clone = { λ a b. b ≡ a };
+
+    fn clone(&self) -> std::result::Result<License, AllocError> {
+        match self {
+            License::CcZero10 => Ok(License::CcZero10),
+            License::CcBy40 => Ok(License::CcBy40),
+            License::Other(identifier) => {
+                let identifier = Clone::clone(identifier)?;
+                Ok(License::Other(identifier))
+            }
+        }
+    }
+}
+
+impl ExactClone for License {
+    ghost exact = { λ x y e. e };
+}
+
+impl ExactEq for License {
+    ghost use Rattle.std.proofs.Common.{rules};
+    ghost use Rattle.std.specs.Cmp.Lexicographic.{bytes_decides};
+
+    ghost decides = { λ x y. Prim.search (rules, bytes_decides) };
+}
+
+impl fmt::Display for License {
+    ghost use Rattle.std.specs.Prelude.{Some};
+    ghost use Rattle.rustsec_texts.specs.Licenses.{license_name};
+
+    ghost output = { λ l. Some (license_name l) };
+
+    fn fmt<W: fmt::Write>(&self, f: &mut fmt::Formatter<W>) -> fmt::Result {
+        f.write_str(self.spdx())
+    }
+}

@@ -1,0 +1,92 @@
+// The parts of an advisory file.
+
+ghost use Rattle.std.specs.Prelude.{◌≡◌, ◌↔◌, IfErr, IfOk, MatchOption, Some, None};
+ghost use Rattle.rustsec_versions.specs.Failure.{IsRefusal};
+ghost use Rattle.rustsec_texts.specs.Cuts.{IsSliceOf, behind, cut_at};
+ghost use Rattle.rustsec_texts.specs.Parts.{AreParts, FileParts, ShowsBeginning, opening, parts_of};
+
+use rustsec_versions::{Error, ErrorKind, Result};
+use std::alloc::Global;
+
+/// The parts of an advisory file, each a slice of its text.
+#[derive(Clone, Copy, Debug)]
+pub struct Parts<'a> {
+    /// The front matter, which is TOML.
+    pub front_matter: &'a str,
+    /// The Markdown below it, from the title on.
+    pub markdown: &'a str,
+    /// The title.
+    pub title: &'a str,
+    /// What stands below the title, which is Markdown.
+    pub description: &'a str,
+}
+
+/// How many bytes of a text that begins wrongly its message shows.
+const SHOWN: usize = 20;
+
+impl<'a> Parts<'a> {
+    /// The parts of a text. They are cut out of it, which takes no memory; `alloc` is for messages alone.
+    ///
+    /// # Errors
+    ///
+    /// `Parse` for a text without them; `OutOfMemory` for want of memory for the message.
+    pub fn parse(alloc: Global, text: &'a str) -> Result<Parts<'a>>
+        ensures ok { IfOk result (λ p. parts_of text.now ≡ Some (record {
+          front_matter = p.front_matter.now;
+          markdown = p.markdown.now;
+          title = p.title.now;
+          description = p.description.now;
+        })) }
+        ensures err { IfErr result (IsRefusal ErrorKind.Parse (parts_of text.now ≡ None)) }
+        ensures wrong_start { IfErr result (λ e. behind opening text.now ≡ None → IsRefusal ErrorKind.Parse (ShowsBeginning text.now e) e) }
+        ensures slices { IfOk result (λ p. IsSliceOf p.front_matter.now text.now × IsSliceOf p.markdown.now text.now
+            × IsSliceOf p.title.now text.now × IsSliceOf p.description.now text.now) }
+        ensures meaning { (p : FileParts) → (parts_of text.now ≡ Some p) ↔ AreParts text.now p }
+    {
+        let Some(body) = behind(text, "```toml") else {
+            return Err(wrong_start(alloc, text));
+        };
+        let Some((front, rest)) = cut_at(body, "\n```") else {
+            return Err(Error::new(alloc, ErrorKind::Parse, "the front matter has no end"));
+        };
+        let markdown = rest.trim_start();
+        let Some(lines) = behind(markdown, "# ") else {
+            return Err(Error::new(alloc, ErrorKind::Parse, "no title below the front matter"));
+        };
+        let Some((title, description)) = cut_at(lines, "\n") else {
+            return Err(Error::new(alloc, ErrorKind::Parse, "no line below the title"));
+        };
+        Ok(Parts {
+            front_matter: front.trim(),
+            markdown,
+            title: title.trim_end(),
+            description: description.trim(),
+        })
+    }
+}
+
+/// What follows a pattern, where the text begins with it.
+fn behind<'a>(text: &'a str, pattern: &'static str) -> Option<&'a str>
+    ensures { MatchOption result (behind pattern.now text.now ≡ None) (λ rest. behind pattern.now text.now ≡ Some rest.now) }
+{
+    text.strip_prefix(pattern)
+}
+
+/// What stands before the first place of a pattern, and what stands behind it.
+fn cut_at<'a>(text: &'a str, pattern: &'static str) -> Option<(&'a str, &'a str)>
+    ensures { MatchOption result (cut_at pattern.now text.now ≡ None) (λ c. cut_at pattern.now text.now ≡ Some (c.0.now, c.1.now)) }
+{
+    text.split_once(pattern)
+}
+
+/// The refusal of a text that does not begin as an advisory file, which shows how it begins.
+fn wrong_start(alloc: Global, text: &str) -> Error
+    ensures { IsRefusal ErrorKind.Parse (ShowsBeginning text.now result) result }
+{
+    let end = text.floor_char_boundary(SHOWN);
+    let (beginning, _) = text.split_at(end);
+    match format!(in alloc; "not the start of an advisory: {beginning}") {
+        Ok(message) => Error::new(alloc, ErrorKind::Parse, &message),
+        Err(refused) => Error::from(refused),
+    }
+}

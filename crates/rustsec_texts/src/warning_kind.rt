@@ -1,0 +1,89 @@
+// Kinds of warnings.
+
+ghost use Rattle.std.specs.Prelude.{◌≡◌, IfErr, IfOk, Some, None};
+ghost use Rattle.rustsec_versions.specs.Failure.{IsRefusal};
+ghost use Rattle.rustsec_texts.specs.WarningKinds.{warning_kind_cmp, warning_kind_name, warning_kind_of};
+
+use crate::laws::StatedOrder;
+use rustsec_values::{ExactClone, ExactEq};
+use rustsec_versions::{Error, ErrorKind, Result};
+use std::alloc::Global;
+use std::fmt;
+
+/// What a warning is about.
+#[derive(Clone, Copy, PartialEq, Eq, PartialOrd, Ord, Hash, Debug)]
+pub enum WarningKind {
+    /// A notice about a package.
+    Notice,
+    /// A package that nobody maintains.
+    Unmaintained,
+    /// A package that is not sound.
+    Unsound,
+    /// A version that was withdrawn from its registry.
+    Yanked,
+}
+
+impl WarningKind {
+    /// The text of the kind, as `from_str` reads it.
+    pub fn as_str(self) -> &'static str
+        ensures value { result.now ≡ warning_kind_name self }
+        ensures read { warning_kind_of result.now ≡ Some self }
+    {
+        match self {
+            WarningKind::Notice => "notice",
+            WarningKind::Unmaintained => "unmaintained",
+            WarningKind::Unsound => "unsound",
+            WarningKind::Yanked => "yanked",
+        }
+    }
+
+    /// The kind that a text names.
+    ///
+    /// # Errors
+    ///
+    /// `Parse` for any other text; `OutOfMemory`.
+    pub fn from_str(alloc: Global, text: &str) -> Result<WarningKind>
+        ensures ok { IfOk result (λ k. warning_kind_of text.now ≡ Some k) }
+        ensures err { IfErr result (IsRefusal ErrorKind.Parse (warning_kind_of text.now ≡ None)) }
+        ensures printed { IfOk result (λ k. warning_kind_name k ≡ text.now) }
+    {
+        match text {
+            "notice" => Ok(WarningKind::Notice),
+            "unmaintained" => Ok(WarningKind::Unmaintained),
+            "unsound" => Ok(WarningKind::Unsound),
+            "yanked" => Ok(WarningKind::Yanked),
+            _ => Err(Error::new(alloc, ErrorKind::Parse, "not a kind of warning")),
+        }
+    }
+}
+
+impl ExactClone for WarningKind {
+    ghost exact = { λ x y e. e };
+}
+
+impl ExactEq for WarningKind {
+    ghost use Rattle.std.specs.Cmp.Rules.{comparing};
+    ghost use Rattle.std.proofs.Common.{rules};
+
+    ghost decides = { λ x y. Prim.search (comparing, rules) };
+}
+
+impl fmt::Display for WarningKind {
+    ghost use Rattle.std.specs.Prelude.{Some};
+    ghost use Rattle.rustsec_texts.specs.WarningKinds.{warning_kind_name};
+
+    ghost output = { λ k. Some (warning_kind_name k) };
+
+    fn fmt<W: fmt::Write>(&self, f: &mut fmt::Formatter<W>) -> fmt::Result {
+        f.write_str(self.as_str())
+    }
+}
+
+impl StatedOrder for WarningKind {
+    ghost use Rattle.std.specs.Cmp.Rules.{comparing};
+    ghost use Rattle.std.proofs.Common.{rules};
+
+    ghost order = { warning_kind_cmp };
+
+    ghost agrees = { λ x y. Prim.search (comparing, rules) };
+}
