@@ -1,0 +1,247 @@
+// Advisories, and how a text is read as one.
+
+ghost use Rattle.std.specs.Prelude.{◌≡◌, ◌⊎◌, ℕ, IfErr, IfOk, List, None, Some, is_some, option_and_then, string_bytes};
+ghost use Rattle.rustsec_lock.specs.Cvss.{cvss_severity};
+ghost use Rattle.toml.specs.Parse.{parse_document};
+ghost use Rattle.toml.specs.View.{table_view};
+ghost use Rattle.rustsec_advisory.specs.Advisory.{IsAdvisory, IsAdvisoryWith, IsOfDocument, document_text};
+ghost use Rattle.rustsec_advisory.specs.Paths.{is_draft};
+ghost use Rattle.rustsec_advisory.specs.declared.advisory.Advisory as given;
+ghost use Rattle.rustsec_versions.specs.Failure.{IsMemory, IsOfKind, IsRefusal, out_of_memory};
+
+use crate::affected::Affected;
+use crate::fields::{refused, table_at};
+use crate::metadata::Metadata;
+use crate::{path, tables};
+use rustsec_lock::Severity;
+use rustsec_texts::{Date, Id, Parts};
+use rustsec_values::ExactClone;
+use rustsec_versions::{Error, ErrorKind, Result, Versions};
+use std::alloc::{AllocError, Global};
+use std::rt::Files;
+use std::{fs, io};
+use toml::Table;
+
+/// A security advisory: what it says of itself, what is affected, and the requirements that tell
+/// which versions are.
+#[derive(PartialEq, Eq, Drop)]
+pub struct Advisory {
+    /// The table `advisory` of its document, with its title and its description.
+    pub metadata: Metadata,
+    /// The table `affected`, where there is one.
+    pub affected: Option<Affected>,
+    /// The requirements of the table `versions`.
+    pub versions: Versions,
+}
+
+/// The text of the document: the front matter, behind its header where that is left out.
+fn document_text(alloc: Global, front: &str) -> std::result::Result<String, AllocError>
+    ensures { IfOk result (λ s. string_bytes s ≡ document_text front.now) }
+{
+    let mut text = String::new(alloc);
+    if !front.starts_with("[advisory]") {
+        text.push_str("[advisory]\n")?;
+    }
+    text.push_str(front)?;
+    Ok(text)
+}
+
+/// The document of a front matter.
+fn document(alloc: Global, front: &str) -> Result<Table>
+    ensures ok { IfOk result (λ t. parse_document (document_text front.now) ≡ Some (table_view t)) }
+    ensures err { IfErr result (IsRefusal ErrorKind.Parse (parse_document (document_text front.now) ≡ None)) }
+{
+    let text = document_text(alloc, front)?;
+    match toml::table_from_str(alloc, &text) {
+        Ok(table) => Ok(table),
+        Err(e) => {
+            if e.is_memory() {
+                return Err(Error::from(AllocError));
+            }
+            Err(refused(alloc, "the front matter is no TOML document"))
+        }
+    }
+}
+
+/// The advisory of a document, with this title and description.
+fn of_document(alloc: Global, document: &Table, title: &str, description: &str) -> Result<Advisory>
+    ensures ok { IfOk result (IsOfDocument (table_view document.now) title.now description.now) }
+    ensures err { IfErr result (IsRefusal ErrorKind.Parse
+        ((a : given.Advisory) → ¬ IsOfDocument (table_view document.now) title.now description.now a)) }
+{
+    let table = table_at(alloc, document, "advisory")?;
+    let metadata = tables::metadata(alloc, table, title, description)?;
+    let table = table_at(alloc, document, "versions")?;
+    let versions = tables::versions(alloc, table)?;
+    let affected = tables::affected_at(alloc, document, "affected")?;
+    Ok(Advisory {
+        metadata,
+        affected,
+        versions,
+    })
+}
+
+/// The advisory of a text, and the document of its front matter.
+pub(crate) fn read(alloc: Global, text: &str) -> Result<(Advisory, Table)>
+    ensures ok { IfOk result (λ r. IsAdvisoryWith text.now (table_view r.1) r.0) }
+    ensures err { IfErr result (IsRefusal ErrorKind.Parse ((a : given.Advisory) → ¬ IsAdvisory text.now a)) }
+{
+    let parts = Parts::parse(alloc, text)?;
+    let document = document(alloc, parts.front_matter)?;
+    let advisory = of_document(alloc, &document, parts.title, parts.description)?;
+    Ok((advisory, document))
+}
+
+/// The text of a file.
+pub(crate) fn text_of<R: Files + AllocGlobal>(rt: &R, path: &str) -> Result<String>
+    ensures { IfErr result (IsOfKind ErrorKind.Io) }
+{
+    match fs::read_to_string(rt, path) {
+        Ok(text) => Ok(text),
+        Err(e) => {
+            if e.kind() == io::ErrorKind::OutOfMemory {
+                return Err(Error::from(AllocError));
+            }
+            Err(with_path(rt.alloc(), ErrorKind::Io, "couldn't open", path))
+        }
+    }
+}
+
+/// A refusal of a file, whose message names the path.
+fn with_path(alloc: Global, kind: ErrorKind, what: &str, path: &str) -> Error
+    ensures { IsOfKind kind result }
+{
+    match format!(in alloc; "{what} {path}") {
+        Ok(message) => Error::new(alloc, kind, &message),
+        Err(refused) => Error::from(refused),
+    }
+}
+
+/// A refusal of a file's text, as the refusal of the file.
+fn of_file(alloc: Global, error: Error, path: &str) -> Error
+    ensures memory { error ≡ out_of_memory → result ≡ out_of_memory }
+    ensures kind { IsOfKind ErrorKind.Parse result }
+{
+    if error.kind() == ErrorKind::OutOfMemory {
+        return Error::from(AllocError);
+    }
+    with_path(alloc, ErrorKind::Parse, "error parsing", path)
+}
+
+impl Advisory {
+    /// The advisory of a text: front matter between fences, then Markdown under a title.
+    ///
+    /// # Errors
+    ///
+    /// `Parse` where the text is no advisory: where it has no such parts, the front matter is no TOML
+    /// document, a key that must be there is missing, a value is of another kind or refused, or the
+    /// versions are not accepted; else `OutOfMemory`.
+    pub fn from_str(alloc: Global, text: &str) -> Result<Advisory>
+        ensures ok { IfOk result (IsAdvisory text.now) }
+        ensures err { IfErr result (IsRefusal ErrorKind.Parse ((a : given.Advisory) → ¬ IsAdvisory text.now a)) }
+    {
+        let (advisory, _) = read(alloc, text)?;
+        Ok(advisory)
+    }
+
+    /// The advisory of a file's text.
+    ///
+    /// # Errors
+    ///
+    /// `Io` where the file cannot be read or is no UTF-8; then as `from_str`. The message names the path.
+    pub fn load_file<R: Files + AllocGlobal>(rt: &R, path: &str) -> Result<Advisory>
+        ensures ok { IfOk result (λ a. (text : List ℕ) × IsAdvisory text a) }
+        ensures err { IfErr result (λ e. IsOfKind ErrorKind.Io e
+            ⊎ ((text : List ℕ) × IsRefusal ErrorKind.Parse ((a : given.Advisory) → ¬ IsAdvisory text a) e)) }
+    {
+        let text = text_of(rt, path)?;
+        match Advisory::from_str(rt.alloc(), &text) {
+            Ok(advisory) => Ok(advisory),
+            Err(e) => Err(of_file(rt.alloc(), e, path)),
+        }
+    }
+
+    /// The ID.
+    pub fn id(&self) -> &Id
+        ensures { result.now ≡ self.now.metadata.id }
+    {
+        &self.metadata.id
+    }
+
+    /// The title.
+    pub fn title(&self) -> &str
+        ensures { result.now ≡ self.now.metadata.title }
+    {
+        self.metadata.title.as_str()
+    }
+
+    /// The description.
+    pub fn description(&self) -> &str
+        ensures { result.now ≡ self.now.metadata.description }
+    {
+        self.metadata.description.as_str()
+    }
+
+    /// The day on which the fault was made known.
+    pub fn date(&self) -> &Date
+        ensures { result.now ≡ self.now.metadata.date }
+    {
+        &self.metadata.date
+    }
+
+    /// The severity, where there is a CVSS vector of version 3.
+    pub fn severity(&self) -> Option<Severity>
+        ensures { result ≡ option_and_then cvss_severity self.now.metadata.cvss }
+    {
+        match &self.metadata.cvss {
+            Some(cvss) => cvss.severity(),
+            None => None,
+        }
+    }
+
+    /// Whether it was withdrawn.
+    pub fn withdrawn(&self) -> bool
+        ensures { result ≡ is_some self.now.metadata.withdrawn }
+    {
+        self.metadata.withdrawn.is_some()
+    }
+
+    /// Whether a path is a draft's: whether its file's name begins with `RUSTSEC-0000-0000.`.
+    pub fn is_draft(path: &str) -> bool
+        ensures { result ≡ is_draft path.now }
+    {
+        path::is_draft(path)
+    }
+
+    /// An equal advisory.
+    ///
+    /// # Errors
+    ///
+    /// `OutOfMemory` alone.
+    pub fn clone(&self, _alloc: Global) -> Result<Advisory>
+        ensures ok { IfOk result (λ a. a ≡ self.now) }
+        ensures err { IfErr result IsMemory }
+    {
+        let copy = Clone::clone(self)?;
+        Ok(copy)
+    }
+}
+
+impl Clone for Advisory {
+    ghost is_clone = { λ a b. b ≡ a };
+
+    fn clone(&self) -> std::result::Result<Advisory, AllocError> {
+        let metadata = Clone::clone(&self.metadata)?;
+        let affected = Clone::clone(&self.affected)?;
+        let versions = Clone::clone(&self.versions)?;
+        Ok(Advisory {
+            metadata,
+            affected,
+            versions,
+        })
+    }
+}
+
+impl ExactClone for Advisory {
+    ghost exact = { λ x y e. e };
+}

@@ -1,0 +1,328 @@
+//! The linter of advisories: it finds the faults that the reader of advisories lets pass.
+
+ghost use Rattle.std.specs.Prelude.{◌≡◌, ◌⊎◌, ℕ, List, IfErr, IfOk, Some, false, true};
+ghost use Rattle.std.specs.Fmt.{DisplaysOnOk};
+ghost use Rattle.std.specs.Option.{option_copied};
+ghost use Rattle.rustsec_advisory.specs.Advisory.{IsAdvisory};
+ghost use Rattle.rustsec_advisory.specs.Faults.{Fault, fault_text, kind_text, message_text, section_text};
+ghost use Rattle.rustsec_advisory.specs.Lints.{Lints};
+ghost use Rattle.rustsec_advisory.specs.Paths.{is_draft, is_markdown};
+ghost use Rattle.rustsec_advisory.specs.declared.advisory.Advisory as given;
+ghost use Rattle.rustsec_advisory.specs.declared.linter.ErrorKind.TheVariants as fault_kind;
+ghost use Rattle.rustsec_versions.specs.Failure.{IsMemory, IsOfKind, IsRefusal};
+ghost use Rattle.rustsec_versions.specs.declared.error.ErrorKind.TheVariants as failure;
+
+use crate::advisory::{self, Advisory};
+use crate::{faults, path};
+use rustsec_values::{ExactClone, Items, Text};
+use rustsec_versions::Result;
+use std::alloc::{AllocError, Global};
+use std::fmt;
+use std::marker::Model;
+use std::rt::Files;
+
+/// The kind of a fault.
+#[derive(Debug, PartialEq, Eq, Drop)]
+pub enum ErrorKind {
+    /// A section has content that it should not have.
+    Malformed,
+    /// A key has no meaning where it stands.
+    InvalidKey {
+        /// The key.
+        name: Text,
+    },
+    /// A value that its key does not take.
+    InvalidValue {
+        /// The key.
+        name: Text,
+        /// The value, as it prints.
+        value: Text,
+    },
+}
+
+impl ErrorKind {
+    /// A key that has no meaning where it stands.
+    ///
+    /// # Errors
+    ///
+    /// `OutOfMemory` alone.
+    pub fn key(alloc: Global, name: &str) -> Result<ErrorKind>
+        ensures ok { IfOk result (λ k. k ≡ fault_kind.InvalidKey name.now) }
+        ensures err { IfErr result IsMemory }
+    {
+        let name = Text::from_str(alloc, name)?;
+        Ok(ErrorKind::InvalidKey { name })
+    }
+
+    /// A value that its key does not take.
+    ///
+    /// # Errors
+    ///
+    /// `OutOfMemory` alone.
+    pub fn value(alloc: Global, name: &str, value: &str) -> Result<ErrorKind>
+        ensures ok { IfOk result (λ k. k ≡ fault_kind.InvalidValue name.now value.now) }
+        ensures err { IfErr result IsMemory }
+    {
+        let name = Text::from_str(alloc, name)?;
+        let value = Text::from_str(alloc, value)?;
+        Ok(ErrorKind::InvalidValue { name, value })
+    }
+
+    /// An equal kind.
+    ///
+    /// # Errors
+    ///
+    /// `OutOfMemory` alone.
+    pub fn clone(&self, _alloc: Global) -> Result<ErrorKind>
+        ensures ok { IfOk result (λ k. k ≡ self.now) }
+        ensures err { IfErr result IsMemory }
+    {
+        let copy = Clone::clone(self)?;
+        Ok(copy)
+    }
+}
+
+impl Clone for ErrorKind {
+    ghost is_clone = { λ a b. b ≡ a };
+
+    fn clone(&self) -> std::result::Result<ErrorKind, AllocError> {
+        match self {
+            ErrorKind::Malformed => Ok(ErrorKind::Malformed),
+            ErrorKind::InvalidKey { name } => {
+                let name = Clone::clone(name)?;
+                Ok(ErrorKind::InvalidKey { name })
+            }
+            ErrorKind::InvalidValue { name, value } => {
+                let name = Clone::clone(name)?;
+                let value = Clone::clone(value)?;
+                Ok(ErrorKind::InvalidValue { name, value })
+            }
+        }
+    }
+}
+
+impl ExactClone for ErrorKind {
+    ghost exact = { λ x y e. e };
+}
+
+impl fmt::Display for ErrorKind {
+    ghost output = { λ k. Some (kind_text k) };
+
+    fn fmt<W: fmt::Write>(&self, f: &mut fmt::Formatter<W>) -> fmt::Result {
+        match self {
+            ErrorKind::Malformed => f.write_str("malformed content"),
+            ErrorKind::InvalidKey { name } => write!(f, "invalid key `{name}`"),
+            ErrorKind::InvalidValue { name, value } => {
+                write!(f, "invalid value `{value}` for key `{name}`")
+            }
+        }
+    }
+}
+
+/// A fault: its kind, the section where it stands, and a message.
+#[derive(Debug, PartialEq, Eq, Drop)]
+pub struct Error {
+    kind: ErrorKind,
+    section: Option<Text>,
+    message: Option<Text>,
+}
+
+impl Model for Error {
+    ghost use Rattle.rustsec_advisory.specs.Faults.{Fault};
+
+    ghost Value = { Fault };
+
+    ghost view = { λ e. record { kind = e.kind; section = e.section; message = e.message } };
+
+    ghost inverse = { λ f. record { kind = f.kind; section = f.section; message = f.message } };
+}
+
+impl Error {
+    /// A fault with copies of these texts.
+    pub(crate) fn new(
+        alloc: Global,
+        kind: ErrorKind,
+        section: Option<&str>,
+        message: Option<&str>,
+    ) -> Result<Error>
+        ensures ok { IfOk result (λ e. e ≡ record { kind = kind; section = option_copied section.entry; message = option_copied message.entry }) }
+        ensures err { IfErr result IsMemory }
+    {
+        let section = copy_of(alloc, section)?;
+        let message = copy_of(alloc, message)?;
+        Ok(Error {
+            kind,
+            section,
+            message,
+        })
+    }
+
+    /// The kind.
+    pub fn kind(&self) -> &ErrorKind
+        ensures { result.now ≡ self.now.kind }
+    {
+        &self.kind
+    }
+
+    /// The section of the advisory where the fault stands; none for the top.
+    pub fn section(&self) -> Option<&str>
+        ensures { option_copied result ≡ self.now.section }
+    {
+        text_of(&self.section)
+    }
+
+    /// What is wrong, where the kind alone does not tell.
+    pub fn message(&self) -> Option<&str>
+        ensures { option_copied result ≡ self.now.message }
+    {
+        text_of(&self.message)
+    }
+
+    /// An equal fault.
+    ///
+    /// # Errors
+    ///
+    /// `OutOfMemory` alone.
+    pub fn clone(&self, _alloc: Global) -> Result<Error>
+        ensures ok { IfOk result (λ e. e ≡ self.now) }
+        ensures err { IfErr result IsMemory }
+    {
+        let copy = Clone::clone(self)?;
+        Ok(copy)
+    }
+}
+
+/// A copy of a text that may be missing.
+fn copy_of(alloc: Global, text: Option<&str>) -> Result<Option<Text>>
+    ensures ok { IfOk result (λ t. t ≡ option_copied text.entry) }
+    ensures err { IfErr result IsMemory }
+{
+    match text {
+        Some(text) => {
+            let copy = Text::from_str(alloc, text)?;
+            Ok(Some(copy))
+        }
+        None => Ok(None),
+    }
+}
+
+/// A text that may be missing, as std's type.
+fn text_of(text: &Option<Text>) -> Option<&str>
+    ensures { option_copied result ≡ text.now }
+{
+    match text {
+        Some(text) => Some(text.as_str()),
+        None => None,
+    }
+}
+
+impl Clone for Error {
+    ghost is_clone = { λ a b. b ≡ a };
+
+    fn clone(&self) -> std::result::Result<Error, AllocError> {
+        let kind = Clone::clone(&self.kind)?;
+        let section = Clone::clone(&self.section)?;
+        let message = Clone::clone(&self.message)?;
+        Ok(Error {
+            kind,
+            section,
+            message,
+        })
+    }
+}
+
+impl ExactClone for Error {
+    ghost exact = { λ x y e. e };
+}
+
+/// Writes where a fault stands.
+fn write_section<W: fmt::Write>(f: &mut fmt::Formatter<W>, section: &Option<Text>) -> fmt::Result
+    ensures { DisplaysOnOk W.write_str_gives f.old result (Some (section_text section.now)) f.new }
+{
+    match section {
+        Some(section) => write!(f, " in [{section}]"),
+        None => f.write_str(" in toplevel"),
+    }
+}
+
+/// Writes a message, where there is one.
+fn write_message<W: fmt::Write>(f: &mut fmt::Formatter<W>, message: &Option<Text>) -> fmt::Result
+    ensures { DisplaysOnOk W.write_str_gives f.old result (Some (message_text message.now)) f.new }
+{
+    match message {
+        Some(message) => write!(f, ": {message}"),
+        None => Ok(()),
+    }
+}
+
+impl fmt::Display for Error {
+    ghost output = { λ e. Some (fault_text e) };
+
+    fn fmt<W: fmt::Write>(&self, f: &mut fmt::Formatter<W>) -> fmt::Result {
+        fmt::Display::fmt(&self.kind, f)?;
+        write_section(f, &self.section)?;
+        write_message(f, &self.message)
+    }
+}
+
+/// An advisory and its faults.
+#[derive(Drop)]
+pub struct Linter {
+    advisory: Advisory,
+    errors: Items<Error>,
+}
+
+impl Linter {
+    /// Reads an advisory from a text, and finds its faults. `draft` tells whether its file is a
+    /// draft's, where that is known.
+    ///
+    /// # Errors
+    ///
+    /// `Parse` where the text is no advisory; else `OutOfMemory`.
+    pub fn lint_string(alloc: Global, text: &str, draft: Option<bool>) -> Result<Linter>
+        ensures ok { IfOk result (λ l. Lints text.now draft l.advisory l.errors) }
+        ensures err { IfErr result (IsRefusal failure.Parse ((a : given.Advisory) → ¬ IsAdvisory text.now a)) }
+    {
+        let (advisory, document) = advisory::read(alloc, text)?;
+        let errors = faults::of_document(alloc, draft, &advisory, &document)?;
+        Ok(Linter { advisory, errors })
+    }
+
+    /// The same with the text of a file, which is a draft's where its path says so.
+    ///
+    /// # Errors
+    ///
+    /// `Parse` where the path is no Markdown file's; then `Io` where the file cannot be read or is no
+    /// UTF-8; then as `lint_string`.
+    pub fn lint_file<R: Files + AllocGlobal>(rt: &R, path: &str) -> Result<Linter>
+        ensures ok { IfOk result (λ l. (is_markdown path.now ≡ true)
+            × ((text : List ℕ) × Lints text (Some (is_draft path.now)) l.advisory l.errors)) }
+        ensures err { IfErr result (λ e. IsRefusal failure.Parse (is_markdown path.now ≡ false) e
+            ⊎ ((is_markdown path.now ≡ true) × (IsOfKind failure.Io e
+            ⊎ ((text : List ℕ) × IsRefusal failure.Parse ((a : given.Advisory) → ¬ IsAdvisory text a) e)))) }
+    {
+        if !path::is_markdown(path) {
+            return Err(rustsec_versions::Error::new(
+                rt.alloc(),
+                rustsec_versions::ErrorKind::Parse,
+                "the file's extension is not `md`",
+            ));
+        }
+        let text = advisory::text_of(rt, path)?;
+        Linter::lint_string(rt.alloc(), &text, Some(path::is_draft(path)))
+    }
+
+    /// The advisory.
+    pub fn advisory(&self) -> &Advisory
+        ensures { result.now ≡ self.now.advisory }
+    {
+        &self.advisory
+    }
+
+    /// Its faults, in the order of the document's keys.
+    pub fn errors(&self) -> &[Error]
+        ensures { result.now ≡ self.now.errors }
+    {
+        self.errors.as_slice()
+    }
+}

@@ -1,0 +1,206 @@
+// What an advisory says of itself.
+
+ghost use Rattle.std.specs.Prelude.{◌≡◌, IfErr, IfOk};
+ghost use Rattle.rustsec_advisory.specs.Groups.{kinds_of, origin_of, subject_of, terms_of};
+ghost use Rattle.rustsec_versions.specs.Failure.{IsMemory};
+
+use crate::address::Address;
+use rustsec_lock::package::Name;
+use rustsec_lock::{Cvss, SourceId};
+use rustsec_texts::{Category, Collection, Date, Id, Informational, Keyword, License};
+use rustsec_values::{ExactClone, Items, Text};
+use rustsec_versions::Result;
+use std::alloc::{AllocError, Global};
+
+/// What an advisory says of itself: the table `advisory` of its document, and its title and its
+/// description.
+#[derive(PartialEq, Eq, Drop)]
+pub struct Metadata {
+    /// The ID.
+    pub id: Id,
+    /// The name of the package.
+    pub package: Name,
+    /// The title, which stands behind the front matter.
+    pub title: Text,
+    /// The description, which stands behind the title.
+    pub description: Text,
+    /// The day on which the fault was made known.
+    pub date: Date,
+    /// IDs of the same fault.
+    pub aliases: Items<Id>,
+    /// IDs of other faults that go with it.
+    pub related: Items<Id>,
+    /// The collection that it stands in, where the file says so.
+    pub collection: Option<Collection>,
+    /// The categories of the fault.
+    pub categories: Items<Category>,
+    /// Words to look for it by.
+    pub keywords: Items<Keyword>,
+    /// How severe it is.
+    pub cvss: Option<Cvss>,
+    /// What it informs of, where it is no vulnerability.
+    pub informational: Option<Informational>,
+    /// Addresses of more about it.
+    pub references: Items<Address>,
+    /// The source of the package, where it is not the default registry.
+    pub source: Option<SourceId>,
+    /// The address of an announcement.
+    pub url: Option<Address>,
+    /// The day on which it was withdrawn, where it was.
+    pub withdrawn: Option<Date>,
+    /// The license of the text.
+    pub license: License,
+    /// Whether the package may be gone from its registry.
+    pub expect_deleted: bool,
+}
+
+/// What an advisory says of the fault: its names, its package and its day.
+#[derive(Drop)]
+pub(crate) struct Subject {
+    pub id: Id,
+    pub name: Name,
+    pub date: Date,
+    pub aliases: Items<Id>,
+    pub related: Items<Id>,
+}
+
+/// How an advisory sorts the fault.
+#[derive(Drop)]
+pub(crate) struct Kinds {
+    pub collection: Option<Collection>,
+    pub categories: Items<Category>,
+    pub keywords: Items<Keyword>,
+    pub cvss: Option<Cvss>,
+    pub informational: Option<Informational>,
+}
+
+/// What an advisory says of where more is found.
+#[derive(Drop)]
+pub(crate) struct Origin {
+    pub references: Items<Address>,
+    pub source: Option<SourceId>,
+    pub url: Option<Address>,
+}
+
+/// On which terms an advisory stands.
+#[derive(Drop)]
+pub(crate) struct Terms {
+    pub withdrawn: Option<Date>,
+    pub license: License,
+    pub expect_deleted: bool,
+}
+
+impl Metadata {
+    /// The value with these groups of fields.
+    pub(crate) fn of_groups(
+        subject: Subject,
+        kinds: Kinds,
+        origin: Origin,
+        terms: Terms,
+        title: Text,
+        description: Text,
+    ) -> Metadata
+        ensures { (subject_of result ≡ subject) × ((kinds_of result ≡ kinds) × ((origin_of result ≡ origin)
+            × ((terms_of result ≡ terms) × ((result.title ≡ title) × (result.description ≡ description))))) }
+    {
+        Metadata {
+            id: subject.id,
+            package: subject.name,
+            title,
+            description,
+            date: subject.date,
+            aliases: subject.aliases,
+            related: subject.related,
+            collection: kinds.collection,
+            categories: kinds.categories,
+            keywords: kinds.keywords,
+            cvss: kinds.cvss,
+            informational: kinds.informational,
+            references: origin.references,
+            source: origin.source,
+            url: origin.url,
+            withdrawn: terms.withdrawn,
+            license: terms.license,
+            expect_deleted: terms.expect_deleted,
+        }
+    }
+
+    /// A copy of what is said of the fault.
+    fn subject(&self) -> std::result::Result<Subject, AllocError>
+        ensures { IfOk result (λ s. s ≡ subject_of self.now) }
+    {
+        Ok(Subject {
+            id: Clone::clone(&self.id)?,
+            name: Clone::clone(&self.package)?,
+            date: Clone::clone(&self.date)?,
+            aliases: Clone::clone(&self.aliases)?,
+            related: Clone::clone(&self.related)?,
+        })
+    }
+
+    /// A copy of how the fault is sorted.
+    fn kinds(&self) -> std::result::Result<Kinds, AllocError>
+        ensures { IfOk result (λ k. k ≡ kinds_of self.now) }
+    {
+        Ok(Kinds {
+            collection: self.collection,
+            categories: Clone::clone(&self.categories)?,
+            keywords: Clone::clone(&self.keywords)?,
+            cvss: Clone::clone(&self.cvss)?,
+            informational: Clone::clone(&self.informational)?,
+        })
+    }
+
+    /// A copy of what is said of its origin.
+    fn origin(&self) -> std::result::Result<Origin, AllocError>
+        ensures { IfOk result (λ o. o ≡ origin_of self.now) }
+    {
+        Ok(Origin {
+            references: Clone::clone(&self.references)?,
+            source: Clone::clone(&self.source)?,
+            url: Clone::clone(&self.url)?,
+        })
+    }
+
+    /// A copy of its terms.
+    fn terms(&self) -> std::result::Result<Terms, AllocError>
+        ensures { IfOk result (λ t. t ≡ terms_of self.now) }
+    {
+        Ok(Terms {
+            withdrawn: Clone::clone(&self.withdrawn)?,
+            license: Clone::clone(&self.license)?,
+            expect_deleted: self.expect_deleted,
+        })
+    }
+
+    /// An equal value.
+    ///
+    /// # Errors
+    ///
+    /// `OutOfMemory` alone.
+    pub fn clone(&self, _alloc: Global) -> Result<Metadata>
+        ensures ok { IfOk result (λ m. m ≡ self.now) }
+        ensures err { IfErr result IsMemory }
+    {
+        let copy = Clone::clone(self)?;
+        Ok(copy)
+    }
+}
+
+impl Clone for Metadata {
+    ghost is_clone = { λ a b. b ≡ a };
+
+    fn clone(&self) -> std::result::Result<Metadata, AllocError> {
+        let subject = self.subject()?;
+        let kinds = self.kinds()?;
+        let origin = self.origin()?;
+        let terms = self.terms()?;
+        let title = Clone::clone(&self.title)?;
+        let description = Clone::clone(&self.description)?;
+        Ok(Metadata::of_groups(subject, kinds, origin, terms, title, description))
+    }
+}
+
+impl ExactClone for Metadata {
+    ghost exact = { λ x y e. e };
+}

@@ -1,0 +1,95 @@
+// Lists of requirements in a document.
+
+ghost use Rattle.std.specs.Prelude.{◌≡◌, [], IfErr, IfOk, None, Some, map, true};
+ghost use Rattle.semver.specs.Parse.{memory_error};
+ghost use Rattle.toml.specs.View.{array_view, table_view, view};
+ghost use Rattle.rustsec_values.specs.Reading.{read_all};
+ghost use Rattle.rustsec_advisory.specs.Fields.{defaulted, list_of, required, text};
+ghost use Rattle.rustsec_advisory.specs.Requirements.{requirement_of, requirements_of};
+ghost use Rattle.rustsec_versions.specs.Failure.{IsRefusal};
+ghost use Rattle.rustsec_versions.specs.Views.{comparators_of};
+
+use crate::fields::{member, refused};
+use rustsec_versions::{Error, ErrorKind, Requirements, Result};
+use semver::VersionReq;
+use std::alloc::{AllocError, Global};
+use toml::value::Array;
+use toml::{Table, Value};
+
+/// Whether an error of `semver` is want of memory.
+fn is_memory(e: semver::Error) -> bool
+    ensures { e ≡ memory_error → result ≡ true }
+{
+    e == semver::Error::from(AllocError)
+}
+
+/// The requirement of a text.
+fn requirement(alloc: Global, text: &str) -> Result<VersionReq>
+    ensures ok { IfOk result (λ r. requirement_of text.now ≡ Some (comparators_of r)) }
+    ensures err { IfErr result (IsRefusal ErrorKind.Parse (requirement_of text.now ≡ None)) }
+{
+    match VersionReq::parse(alloc, text) {
+        Ok(req) => Ok(req),
+        Err(e) if is_memory(e) => Err(Error::from(AllocError)),
+        Err(_) => Err(refused(alloc, "no requirement")),
+    }
+}
+
+/// The requirement of a value that must be a string.
+fn requirement_in(alloc: Global, value: &Value) -> Result<VersionReq>
+    ensures ok { IfOk result (λ r. text requirement_of (view value.now) ≡ Some (comparators_of r)) }
+    ensures err { IfErr result (IsRefusal ErrorKind.Parse (text requirement_of (view value.now) ≡ None)) }
+{
+    match value.as_str() {
+        Some(text) => requirement(alloc, text),
+        None => Err(refused(alloc, "no string")),
+    }
+}
+
+/// The requirements of an array, in order.
+fn requirements_in(alloc: Global, array: &Array) -> Result<Vec<VersionReq>>
+    ensures ok { IfOk result (λ rs. read_all (text requirement_of) (list_of (array_view array.now)) ≡ Some (map comparators_of rs.items)) }
+    ensures err { IfErr result (IsRefusal ErrorKind.Parse (read_all (text requirement_of) (list_of (array_view array.now)) ≡ None)) }
+{
+    let mut read = Vec::new(alloc);
+    for value in array {
+        match requirement_in(alloc, value) {
+            Ok(req) => read.push(req).map_err(|_| AllocError)?,
+            Err(e) => return Err(e),
+        }
+    }
+    Ok(read)
+}
+
+/// The requirements of a value that must be an array of texts.
+pub fn requirements(alloc: Global, value: &Value) -> Result<Vec<VersionReq>>
+    ensures ok { IfOk result (λ rs. requirements_of (view value.now) ≡ Some (map comparators_of rs.items)) }
+    ensures err { IfErr result (IsRefusal ErrorKind.Parse (requirements_of (view value.now) ≡ None)) }
+{
+    match value.as_array() {
+        Some(array) => requirements_in(alloc, array),
+        None => Err(refused(alloc, "no array")),
+    }
+}
+
+/// The requirements at a key that must be there.
+pub fn requirements_at(alloc: Global, table: &Table, key: &str) -> Result<Vec<VersionReq>>
+    ensures ok { IfOk result (λ rs. required requirements_of key.now (table_view table.now) ≡ Some (map comparators_of rs.items)) }
+    ensures err { IfErr result (IsRefusal ErrorKind.Parse (required requirements_of key.now (table_view table.now) ≡ None)) }
+{
+    match member(table, key) {
+        Some(value) => requirements(alloc, value),
+        None => Err(refused(alloc, "a key is missing")),
+    }
+}
+
+/// The requirements at a key, none where it is missing.
+pub fn optional_requirements_at(alloc: Global, table: &Table, key: &str) -> Result<Vec<VersionReq>>
+    ensures ok { IfOk result (λ rs. defaulted [] requirements_of key.now (table_view table.now) ≡ Some (map comparators_of rs.items)) }
+    ensures err { IfErr result (IsRefusal ErrorKind.Parse (defaulted [] requirements_of key.now (table_view table.now) ≡ None)) }
+{
+    match member(table, key) {
+        Some(value) => requirements(alloc, value),
+        None => Ok(Vec::new(alloc)),
+    }
+}
