@@ -10,7 +10,7 @@ use rustsec_versions::{Requirements, Result};
 use std::alloc::{AllocError, Global};
 
 /// Which platforms and functions are affected.
-#[derive(PartialEq, Eq, Drop)]
+#[derive(PartialEq, Eq)]
 pub struct Affected {
     /// The architectures; all of them where there is none.
     pub arch: Items<Arch>,
@@ -18,6 +18,17 @@ pub struct Affected {
     pub os: Items<OS>,
     /// The functions, each with the requirements of the versions in which it is affected.
     pub functions: SortedMap<FunctionPath, Requirements>,
+}
+
+/// One place drops the fields, so that the end of an owner's life is one step of its proof.
+impl Drop for Affected {
+    fn drop(self) {
+        let Affected {
+            arch: _,
+            os: _,
+            functions: _,
+        } = self;
+    }
 }
 
 impl Affected {

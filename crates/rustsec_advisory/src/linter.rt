@@ -120,11 +120,22 @@ impl fmt::Display for ErrorKind {
 }
 
 /// A fault: its kind, the section where it stands, and a message.
-#[derive(Debug, PartialEq, Eq, Drop)]
+#[derive(Debug, PartialEq, Eq)]
 pub struct Error {
     kind: ErrorKind,
     section: Option<Text>,
     message: Option<Text>,
+}
+
+/// One place drops the fields, so that the end of an owner's life is one step of its proof.
+impl Drop for Error {
+    fn drop(self) {
+        let Error {
+            kind: _,
+            section: _,
+            message: _,
+        } = self;
+    }
 }
 
 impl Model for Error {
@@ -266,10 +277,19 @@ impl fmt::Display for Error {
 }
 
 /// An advisory and its faults.
-#[derive(Drop)]
 pub struct Linter {
     advisory: Advisory,
     errors: Items<Error>,
+}
+
+/// One place drops the fields, so that the end of an owner's life is one step of its proof.
+impl Drop for Linter {
+    fn drop(self) {
+        let Linter {
+            advisory: _,
+            errors: _,
+        } = self;
+    }
 }
 
 impl Linter {

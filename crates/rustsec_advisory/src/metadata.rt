@@ -14,7 +14,7 @@ use std::alloc::{AllocError, Global};
 
 /// What an advisory says of itself: the table `advisory` of its document, and its title and its
 /// description.
-#[derive(PartialEq, Eq, Drop)]
+#[derive(PartialEq, Eq)]
 pub struct Metadata {
     /// The ID.
     pub id: Id,
@@ -88,6 +88,32 @@ pub(crate) struct Terms {
     pub withdrawn: Option<Date>,
     pub license: License,
     pub expect_deleted: bool,
+}
+
+/// One place drops the fields, so that the end of an owner's life is one step of its proof.
+impl Drop for Metadata {
+    fn drop(self) {
+        let Metadata {
+            id: _,
+            package: _,
+            title: _,
+            description: _,
+            date: _,
+            aliases: _,
+            related: _,
+            collection: _,
+            categories: _,
+            keywords: _,
+            cvss: _,
+            informational: _,
+            references: _,
+            source: _,
+            url: _,
+            withdrawn: _,
+            license: _,
+            expect_deleted: _,
+        } = self;
+    }
 }
 
 impl Metadata {

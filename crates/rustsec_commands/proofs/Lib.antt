@@ -1,2 +1,4 @@
+pub mod LintAnswer
 pub mod OneOutput
+pub mod Refused
 pub mod Turns

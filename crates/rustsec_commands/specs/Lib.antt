@@ -4,3 +4,4 @@ pub mod Output
 pub mod Views
 pub mod Answer
 pub mod Words
+pub mod Lint

@@ -1,15 +1,15 @@
 //! The command that the words name.
 
 ghost use Rattle.rustsec_commands.specs.declared.fault.Fault.TheVariants as fault;
-ghost use Rattle.std.specs.Prelude.{◌≡◌, ◌≢◌, [], ◌∷◌, IfErr, IfOk, IfSome, OnOk, codes, false, map};
+ghost use Rattle.std.specs.Prelude.{◌≡◌, ◌≢◌, ℕ, [], ◌∷◌, IfErr, IfOk, IfSome, List, OnOk, codes, false, map};
 ghost use Rattle.std.specs.Io.KnownBytes.{Appends, Keeps};
-ghost use Rattle.rustsec_commands.specs.Answer.{AnswersRanges};
+ghost use Rattle.rustsec_commands.specs.Answer.{AnswersLint, AnswersRanges};
 ghost use Rattle.rustsec_commands.specs.Output.{affected_output, usage};
 ghost use Rattle.rustsec_commands.specs.Words.{names_command};
 
 use crate::answers::{answer, answer_ranges};
 use crate::fault::Fault;
-use crate::output;
+use crate::{lint, output};
 use std::io::{Read, Write};
 use std::rt::Files;
 
@@ -17,6 +17,8 @@ use std::rt::Files;
 ///
 /// - `affected`: as `answer`;
 /// - `ranges`: as `answer_ranges`;
+/// - `lint` and a path: writes a line for each fault of the advisory in that file; status 1 where there
+///   is one, else 0. A refusal of the file gives `refused: KIND`, status 2. The input is not read;
 /// - any other words: writes the usage line, status 2.
 ///
 /// # Errors
@@ -37,6 +39,8 @@ pub fn run<T: Files + AllocGlobal, R: Read, W: Write>(
     ensures ranges { map (λ w. w.now) words.now ≡ codes "ranges" ∷ []
         → IfOk result (λ s. IfSome (R.remaining input.old) (λ bytes.
         AnswersRanges bytes s (W.contents output.old) (W.contents output.new))) }
+    ensures lint { (path : List ℕ) → map (λ w. w.now) words.now ≡ codes "lint" ∷ path ∷ []
+        → IfOk result (λ s. AnswersLint path s (W.contents output.old) (W.contents output.new)) }
     ensures usage_status { names_command (map (λ w. w.now) words.now) ≡ false
         → IfOk result (λ s. s ≡ usage.status) }
     ensures usage_text { names_command (map (λ w. w.now) words.now) ≡ false
@@ -46,6 +50,7 @@ pub fn run<T: Files + AllocGlobal, R: Read, W: Write>(
     match words {
         ["affected"] => answer(rt.alloc(), input, output),
         ["ranges"] => answer_ranges(rt.alloc(), input, output),
+        ["lint", path] => lint::lint_output(rt, path)?.write(output),
         _ => output::usage(rt.alloc())?.write(output),
     }
 }

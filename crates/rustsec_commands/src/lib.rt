@@ -6,6 +6,7 @@ mod asked;
 mod commands;
 mod fault;
 mod line;
+mod lint;
 mod output;
 
 pub use crate::answers::{answer, answer_ranges};

@@ -34,6 +34,13 @@ impl Model for Output {
 }
 
 impl Output {
+    /// A text and a status.
+    pub fn new(text: String, status: u8) -> Output
+        ensures { result ≡ record { text = string_bytes text; status = status } }
+    {
+        Output { text, status }
+    }
+
     /// The whole text is written, and nothing else.
     pub fn write<W: Write>(&self, output: &mut W) -> Result<u8, Fault>
         ensures status { IfOk result (λ s. s ≡ self.now.status) }

@@ -1,0 +1,110 @@
+//! The program `rustsec_bench`: makes one call of the library many times over the text of a file, so
+//! that the call can be timed from outside.
+//!
+//!     rustsec_bench document|lockfile|parts|advisory|lint N FILE
+//!
+//! `document` reads the text as a TOML document and no more, and `parts` takes an advisory apart and
+//! reads its front matter as one. It writes nothing. Its status is 0, 2 for other words, and 1 where the
+//! file or a call refuses.
+#![tactic(auto)]
+
+use rustsec_advisory::{Advisory, Linter};
+use rustsec_lock::Lockfile;
+use rustsec_texts::Parts;
+use rustsec_versions::{Error, ErrorKind, Result};
+use std::alloc::Global;
+use std::process::ExitCode;
+use std::{env, fs};
+
+/// The call that is made.
+#[derive(Clone, Copy)]
+enum Call {
+    Document,
+    Lockfile,
+    Parts,
+    Advisory,
+    Lint,
+}
+
+/// The call of a word.
+fn call_of(word: &str) -> Option<Call> {
+    match word {
+        "document" => Some(Call::Document),
+        "lockfile" => Some(Call::Lockfile),
+        "parts" => Some(Call::Parts),
+        "advisory" => Some(Call::Advisory),
+        "lint" => Some(Call::Lint),
+        _ => None,
+    }
+}
+
+/// Reads a TOML document.
+fn document(alloc: Global, text: &str) -> Result<()> {
+    match toml::table_from_str(alloc, text) {
+        Ok(_) => Ok(()),
+        Err(_) => Err(Error::new(alloc, ErrorKind::Parse, "no document")),
+    }
+}
+
+/// Makes a call once.
+fn once(alloc: Global, call: Call, text: &str) -> Result<()> {
+    match call {
+        Call::Document => document(alloc, text)?,
+        Call::Lockfile => {
+            Lockfile::from_str(alloc, text)?;
+        }
+        Call::Parts => document(alloc, Parts::parse(alloc, text)?.front_matter)?,
+        Call::Advisory => {
+            Advisory::from_str(alloc, text)?;
+        }
+        Call::Lint => {
+            Linter::lint_string(alloc, text, Some(false))?;
+        }
+    }
+    Ok(())
+}
+
+/// Makes a call many times.
+fn repeat(alloc: Global, call: Call, times: u32, text: &str) -> Result<()> {
+    for _ in 0..times {
+        once(alloc, call, text)?;
+    }
+    Ok(())
+}
+
+/// The words behind the program's name, where they are texts.
+fn words(rt: &HostRuntime) -> Option<Vec<String>> {
+    let mut words = Vec::new(rt.alloc());
+    for word in env::args(rt).ok()?.skip(1) {
+        words.push(word).ok()?;
+    }
+    Some(words)
+}
+
+/// The call, how often it is made, and the file.
+fn asked(words: &[String]) -> Option<(Call, u32, &str)> {
+    match words {
+        [call, times, path] => {
+            let call = call_of(call)?;
+            let times = times.parse().ok()?;
+            Some((call, times, path.as_str()))
+        }
+        _ => None,
+    }
+}
+
+fn main(rt: HostRuntime) -> ExitCode {
+    let Some(words) = words(&rt) else {
+        return ExitCode::from(2);
+    };
+    let Some((call, times, path)) = asked(&words) else {
+        return ExitCode::from(2);
+    };
+    let Ok(text) = fs::read_to_string(&rt, path) else {
+        return ExitCode::from(1);
+    };
+    match repeat(rt.alloc(), call, times, &text) {
+        Ok(()) => ExitCode::from(0),
+        Err(_) => ExitCode::from(1),
+    }
+}
