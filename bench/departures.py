@@ -45,7 +45,12 @@ def message_cut_inside_a_character(command, data, ours, theirs):
     return theirs == PANIC and ours[0] == b"refused: parse error\n" and 0x80 <= data[20] < 0xC0
 
 
-OF_LINT = [lists_of_an_advisory, fault_of_a_source, message_cut_inside_a_character]
+def empty_name(command, data, ours, theirs):
+    """The Rust crate reads the empty text as a package's name; in ours a name has a byte at least."""
+    return ours == (b"refused: parse error\n", 2) and b'package = ""\n' in data
+
+
+OF_LINT = [lists_of_an_advisory, fault_of_a_source, message_cut_inside_a_character, empty_name]
 
 
 def explained(departures, *case):

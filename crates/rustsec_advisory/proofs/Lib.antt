@@ -5,3 +5,4 @@ pub mod Lists
 pub mod Members
 pub mod Rows
 pub mod Segments
+pub mod Unique

@@ -149,6 +149,7 @@ impl Advisory {
     /// versions are not accepted; else `OutOfMemory`.
     pub fn from_str(alloc: Global, text: &str) -> Result<Advisory>
         ensures ok { IfOk result (IsAdvisory text.now) }
+        ensures only { IfOk result (λ a. (b : given.Advisory) → IsAdvisory text.now b → b ≡ a) }
         ensures err { IfErr result (IsRefusal ErrorKind.Parse ((a : given.Advisory) → ¬ IsAdvisory text.now a)) }
     {
         let (advisory, _) = read(alloc, text)?;

@@ -301,6 +301,8 @@ impl Linter {
     /// `Parse` where the text is no advisory; else `OutOfMemory`.
     pub fn lint_string(alloc: Global, text: &str, draft: Option<bool>) -> Result<Linter>
         ensures ok { IfOk result (λ l. Lints text.now draft l.advisory l.errors) }
+        ensures only { IfOk result (λ l. (b : given.Advisory) (fs : List Fault)
+            → Lints text.now draft b fs → (b ≡ l.advisory) × (fs ≡ l.errors)) }
         ensures err { IfErr result (IsRefusal failure.Parse ((a : given.Advisory) → ¬ IsAdvisory text.now a)) }
     {
         let (advisory, document) = advisory::read(alloc, text)?;

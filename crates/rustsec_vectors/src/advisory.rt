@@ -12,6 +12,7 @@ use std::alloc::Global;
 use std::fs;
 use std::process::Abort;
 use std::rt::Files;
+use std::str;
 use std::test::Fail;
 
 /// An advisory without faults.
@@ -471,7 +472,7 @@ fn advisory_prefixes(rt: HostRuntime) -> Result<(), Fail> {
     let (front, _) = VALID.split_once("to us\n").ok_or("no title")?;
     let title = front.len() + 6;
     for end in 0..VALID.len() + 1 {
-        let (prefix, _) = VALID.split_at(end);
+        let prefix = str::from_utf8(&VALID.as_bytes()[..end])?;
         assert_eq!(rt; is_advisory(&rt, prefix)?, end >= title, "at {end}");
     }
     Ok(())
