@@ -101,6 +101,10 @@ VECTORS = (
     ["CVSS:4.0", "CVSS:3.1/AV:N/AC:L/PR:N/UI:N/S:C/C:H/I:H", "CVSS:3.1/av:N/AC:L/PR:N/UI:N/S:C/C:H/I:H/A:H", "",
      "CVSS:3.2/AV:N", "CVSS:3.1/AV:N/AC:L/PR:N/UI:N/S:C/C:H/I:H/A:H/A:H"],
 )
+SOURCES = (
+    ["registry+https://github.com/rust-lang/crates.io-index", "sparse+https://index.crates.io/", "git+https://a.b/c?branch=x#d"],
+    ["registry", "foo+https://a.b/", "registry+", ""],
+)
 COLLECTIONS = ["crates", "rust"], ["Crates", ""]
 ARCHES = ["x86", "x86_64", "arm", "wasm32"], ["Arm", "vax", ""]
 SYSTEMS = ["windows", "linux", "ios", "none"], ["Linux", "os2", ""]
@@ -158,6 +162,7 @@ class Maker:
             "informational": text(self.r.choice(["notice", "unmaintained", "unsound", "other", "", "Notice"])),
             "references": self.texts(ADDRESSES),
             "url": text(self.one(ADDRESSES)),
+            "source": text(self.one(SOURCES)),
             "withdrawn": text(self.one(DATES)),
             "license": text(self.r.choice(["CC0-1.0", "CC-BY-4.0", "MIT", "", "cc0-1.0"])),
             "expect-deleted": self.one(FLAGS),

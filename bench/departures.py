@@ -1,5 +1,7 @@
 """Where the answers of the two programs are meant to differ, each with its reason. docs/DIFFERENCES.md
 says the same in words. A departure explains a difference only where ours is what the rules answer."""
+import re
+
 import rules
 
 PANIC = (b"panic\n", 101)
@@ -30,14 +32,25 @@ def with_its_table(data):
     return fence + b"\n[advisory]\n" + rest
 
 
-def lists_of_an_advisory(command, data, ours, theirs):
-    """As the two above, in the lists of an advisory: there ours refuses the file, or lints it."""
-    return theirs == PANIC and (b"18446744073709551615" in data or b'"=' in data)
+def number_of_an_advisory(command, data, ours, theirs):
+    """The number above, in the lists of an advisory: there ours refuses the file."""
+    return theirs == PANIC and ours == (b"refused: parse error\n", 2) and b"18446744073709551615" in data
+
+
+def starts_of_an_advisory(command, data, ours, theirs):
+    """The two starts above, in the lists of an advisory: there ours lints it."""
+    equal, above = (set(re.findall(sign + rb"\s*([0-9][0-9A-Za-z.+-]*)", data)) for sign in (rb"=", rb">"))
+    return theirs == PANIC and ours[1] < 2 and bool(equal & above)
 
 
 def fault_of_a_source(command, data, ours, theirs):
     """The Rust crate's linter calls `source` an invalid key, though its reader knows it; ours doesn't."""
     return b"source" in data and ours[0] == theirs[0].replace(b"invalid key `source` in [advisory]\n", b"")
+
+
+def source_that_is_no_address(command, data, ours, theirs):
+    """The Rust crate reads what stands behind a source's kind as an address; ours takes any text."""
+    return b"source = " in data and theirs == (b"refused: parse error\n", 2) and ours[1] < 2
 
 
 def message_cut_inside_a_character(command, data, ours, theirs):
@@ -47,10 +60,13 @@ def message_cut_inside_a_character(command, data, ours, theirs):
 
 def empty_name(command, data, ours, theirs):
     """The Rust crate reads the empty text as a package's name; in ours a name has a byte at least."""
-    return ours == (b"refused: parse error\n", 2) and b'package = ""\n' in data
+    return ours == (b"refused: parse error\n", 2) and re.search(rb'package = ""\s', data)
 
 
-OF_LINT = [lists_of_an_advisory, fault_of_a_source, message_cut_inside_a_character, empty_name]
+OF_LINT = [
+    number_of_an_advisory, starts_of_an_advisory, fault_of_a_source, source_that_is_no_address,
+    message_cut_inside_a_character, empty_name,
+]
 
 
 def explained(departures, *case):

@@ -1,7 +1,9 @@
 -- Addresses: texts that the URL Standard's parser takes, seen as they print.
-use Rattle.std.specs.Prelude.{ℕ, List, Option, Some, None, Ok, Err}
+use Rattle.std.specs.Prelude.{ℕ, List, Option, Some, None, Result, Ok, Err, alloc_error}
+use Rattle.std.specs.declared.alloc.AllocError.{AllocError}
 use Rattle.url.specs.Parser.{Parsed, parse_url}
 use Rattle.url.specs.Parts.{Parts, serialize}
+use Rattle.url.specs.declared.error.ParseError.TheVariants as reason
 
 -- how an address prints that was parsed
 abbrev pub printed : Parsed Parts → Option (List ℕ)
@@ -11,3 +13,10 @@ printed (Err e) = None
 -- the address of a text
 abbrev pub address_of : List ℕ → Option (List ℕ)
 address_of text = printed (parse_url None text)
+
+-- what a parser answers, none for a refusal, and want of memory for want of room alone
+abbrev pub unless_no_room : {T : Type 0} → Parsed T → Result (Option T) AllocError
+unless_no_room (Ok url) = Ok (Some url)
+unless_no_room (Err reason.OutOfMemory) = Err alloc_error
+unless_no_room (Err reason.Overflow) = Err alloc_error
+unless_no_room (Err e) = Ok None

@@ -2,9 +2,11 @@ pub mod Addresses
 pub mod Fields
 pub mod Requirements
 pub mod Paths
+pub mod Files
 pub mod Affected
 pub mod Groups
 pub mod Metadata
 pub mod Advisory
 pub mod Faults
 pub mod Lints
+pub mod Decided

@@ -4,7 +4,7 @@ ghost use Rattle.std.specs.Prelude.{◌≡◌, IfErr, IfOk, None, Some, nat_eq};
 ghost use Rattle.std.specs.Cmp.{partial_equiv_from_equiv};
 ghost use Rattle.std.specs.Cmp.Lexicographic.{bytes_decides, nat_list_eq_equiv, pointwise};
 ghost use Rattle.url.specs.Parts.{serialize};
-ghost use Rattle.rustsec_advisory.specs.Addresses.{address_of};
+ghost use Rattle.rustsec_advisory.specs.Addresses.{address_of, unless_no_room};
 ghost use Rattle.rustsec_versions.specs.Failure.{IsRefusal};
 
 use rustsec_values::{ExactClone, ExactEq};
@@ -13,7 +13,7 @@ use std::alloc::{AllocError, Global};
 use std::convert::AsStr;
 use std::fmt;
 use std::marker::Model;
-use url::{ParseError, Url};
+use url::{ParseError, ParseResult, Url};
 
 /// An address by the URL Standard. Every contract sees it as the text that it prints.
 #[derive(Drop)]
@@ -30,6 +30,17 @@ impl Model for Address {
     ghost view = { λ a. serialize a.url };
 }
 
+/// What the parser gives, none where it refuses its text. Want of memory stands for want of room alone.
+fn unless_no_room(parsed: ParseResult<Url>) -> std::result::Result<Option<Url>, AllocError>
+    ensures { result ≡ unless_no_room parsed }
+{
+    match parsed {
+        Ok(url) => Ok(Some(url)),
+        Err(ParseError::OutOfMemory | ParseError::Overflow) => Err(AllocError),
+        Err(_) => Ok(None),
+    }
+}
+
 impl Address {
     /// The address of a text.
     ///
@@ -41,10 +52,9 @@ impl Address {
         ensures ok { IfOk result (λ a. address_of text.now ≡ Some a) }
         ensures err { IfErr result (IsRefusal ErrorKind.Parse (address_of text.now ≡ None)) }
     {
-        match Url::parse(alloc, text) {
-            Ok(url) => Ok(Address { url }),
-            Err(ParseError::OutOfMemory | ParseError::Overflow) => Err(Error::from(AllocError)),
-            Err(_) => Err(Error::new(alloc, ErrorKind::Parse, "no address")),
+        match unless_no_room(Url::parse(alloc, text))? {
+            Some(url) => Ok(Address { url }),
+            None => Err(Error::new(alloc, ErrorKind::Parse, "no address")),
         }
     }
 

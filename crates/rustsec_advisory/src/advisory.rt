@@ -1,10 +1,12 @@
 // Advisories, and how a text is read as one.
 
 ghost use Rattle.std.specs.Prelude.{◌≡◌, ◌⊎◌, ℕ, IfErr, IfOk, List, None, Some, is_some, option_and_then, string_bytes};
+ghost use Rattle.std.specs.Option.{option_copied};
 ghost use Rattle.rustsec_lock.specs.Cvss.{cvss_severity};
 ghost use Rattle.toml.specs.Parse.{parse_document};
 ghost use Rattle.toml.specs.View.{table_view};
 ghost use Rattle.rustsec_advisory.specs.Advisory.{IsAdvisory, IsAdvisoryWith, IsOfDocument, document_text};
+ghost use Rattle.rustsec_advisory.specs.Files.{NamesFile, file_failure, open_failure, parse_failure};
 ghost use Rattle.rustsec_advisory.specs.Paths.{is_draft};
 ghost use Rattle.rustsec_advisory.specs.declared.advisory.Advisory as given;
 ghost use Rattle.rustsec_versions.specs.Failure.{IsMemory, IsOfKind, IsRefusal, out_of_memory};
@@ -15,7 +17,7 @@ use crate::metadata::Metadata;
 use crate::{path, tables};
 use rustsec_lock::Severity;
 use rustsec_texts::{Date, Id, Parts};
-use rustsec_values::ExactClone;
+use rustsec_values::{ExactClone, ExactEq};
 use rustsec_versions::{Error, ErrorKind, Result, Versions};
 use std::alloc::{AllocError, Global};
 use std::rt::Files;
@@ -103,40 +105,58 @@ pub(crate) fn read(alloc: Global, text: &str) -> Result<(Advisory, Table)>
     Ok((advisory, document))
 }
 
+/// The text of a file, or the error of the system.
+fn text_in<R: Files>(rt: &R, alloc: Global, path: &str) -> io::Result<String> {
+    let file = fs::File::open(rt, path)?;
+    io::read_to_string(alloc, file)
+}
+
 /// The text of a file.
-pub(crate) fn text_of<R: Files + AllocGlobal>(rt: &R, path: &str) -> Result<String>
-    ensures { IfErr result (IsOfKind ErrorKind.Io) }
+pub(crate) fn text_of<R: Files>(rt: &R, alloc: Global, path: &str) -> Result<String>
+    ensures kind { IfErr result (IsOfKind ErrorKind.Io) }
+    ensures value { IfErr result (λ e. (e ≡ open_failure path.now) ⊎ (e ≡ out_of_memory)) }
 {
-    match fs::read_to_string(rt, path) {
+    match text_in(rt, alloc, path) {
         Ok(text) => Ok(text),
         Err(e) => {
             if e.kind() == io::ErrorKind::OutOfMemory {
                 return Err(Error::from(AllocError));
             }
-            Err(with_path(rt.alloc(), ErrorKind::Io, "couldn't open", path))
+            Err(with_path(alloc, ErrorKind::Io, "couldn't open", path, None))
         }
     }
 }
 
-/// A refusal of a file, whose message names the path.
-fn with_path(alloc: Global, kind: ErrorKind, what: &str, path: &str) -> Error
-    ensures { IsOfKind kind result }
+/// A refusal of a file, whose message names the path, with the text of its cause where there is one.
+fn with_path(alloc: Global, kind: ErrorKind, what: &str, path: &str, cause: Option<&str>) -> Error
+    ensures kind { IsOfKind kind result }
+    ensures value { (result ≡ file_failure kind what.now path.now (option_copied cause.entry)) ⊎ (result ≡ out_of_memory) }
 {
     match format!(in alloc; "{what} {path}") {
-        Ok(message) => Error::new(alloc, kind, &message),
+        Ok(message) => match cause {
+            Some(cause) => Error::with_source(alloc, kind, &message, cause),
+            None => Error::new(alloc, kind, &message),
+        },
         Err(refused) => Error::from(refused),
     }
 }
 
-/// A refusal of a file's text, as the refusal of the file.
+/// A refusal of a file's text, as the refusal of the file, whose cause is its message.
 fn of_file(alloc: Global, error: Error, path: &str) -> Error
     ensures memory { error ≡ out_of_memory → result ≡ out_of_memory }
     ensures kind { IsOfKind ErrorKind.Parse result }
+    ensures value { (result ≡ parse_failure path.now error.message) ⊎ (result ≡ out_of_memory) }
 {
     if error.kind() == ErrorKind::OutOfMemory {
         return Error::from(AllocError);
     }
-    with_path(alloc, ErrorKind::Parse, "error parsing", path)
+    with_path(
+        alloc,
+        ErrorKind::Parse,
+        "error parsing",
+        path,
+        Some(error.message()),
+    )
 }
 
 impl Advisory {
@@ -160,16 +180,18 @@ impl Advisory {
     ///
     /// # Errors
     ///
-    /// `Io` where the file cannot be read or is no UTF-8; then as `from_str`. The message names the path.
-    pub fn load_file<R: Files + AllocGlobal>(rt: &R, path: &str) -> Result<Advisory>
+    /// `Io` where the file cannot be read or is no UTF-8; then as `from_str`. The message names the path,
+    /// and the message of `from_str` is the cause.
+    pub fn load_file<R: Files>(rt: &R, alloc: Global, path: &str) -> Result<Advisory>
         ensures ok { IfOk result (λ a. (text : List ℕ) × IsAdvisory text a) }
         ensures err { IfErr result (λ e. IsOfKind ErrorKind.Io e
             ⊎ ((text : List ℕ) × IsRefusal ErrorKind.Parse ((a : given.Advisory) → ¬ IsAdvisory text a) e)) }
+        ensures names { IfErr result (NamesFile path.now) }
     {
-        let text = text_of(rt, path)?;
-        match Advisory::from_str(rt.alloc(), &text) {
+        let text = text_of(rt, alloc, path)?;
+        match Advisory::from_str(alloc, &text) {
             Ok(advisory) => Ok(advisory),
-            Err(e) => Err(of_file(rt.alloc(), e, path)),
+            Err(e) => Err(of_file(alloc, e, path)),
         }
     }
 
@@ -256,4 +278,10 @@ impl Clone for Advisory {
 
 impl ExactClone for Advisory {
     ghost exact = { λ x y e. e };
+}
+
+impl ExactEq for Advisory {
+    ghost use Rattle.rustsec_advisory.specs.Decided.{advisory_decides};
+
+    ghost decides = { advisory_decides };
 }

@@ -5,7 +5,7 @@ ghost use Rattle.rustsec_versions.specs.Failure.{IsMemory};
 
 use rustsec_lock::platforms::{Arch, OS};
 use rustsec_texts::FunctionPath;
-use rustsec_values::{ExactClone, Items, SortedMap};
+use rustsec_values::{ExactClone, ExactEq, Items, SortedMap};
 use rustsec_versions::{Requirements, Result};
 use std::alloc::{AllocError, Global};
 
@@ -74,4 +74,10 @@ impl Clone for Affected {
 
 impl ExactClone for Affected {
     ghost exact = { λ x y e. e };
+}
+
+impl ExactEq for Affected {
+    ghost use Rattle.rustsec_advisory.specs.Decided.{affected_decides};
+
+    ghost decides = { affected_decides };
 }

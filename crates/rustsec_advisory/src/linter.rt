@@ -14,7 +14,7 @@ ghost use Rattle.rustsec_versions.specs.declared.error.ErrorKind.TheVariants as 
 
 use crate::advisory::{self, Advisory};
 use crate::{faults, path};
-use rustsec_values::{ExactClone, Items, Text};
+use rustsec_values::{ExactClone, ExactEq, Items, Text};
 use rustsec_versions::Result;
 use std::alloc::{AllocError, Global};
 use std::fmt;
@@ -103,6 +103,12 @@ impl Clone for ErrorKind {
 
 impl ExactClone for ErrorKind {
     ghost exact = { λ x y e. e };
+}
+
+impl ExactEq for ErrorKind {
+    ghost use Rattle.rustsec_advisory.specs.Decided.{kind_decides};
+
+    ghost decides = { kind_decides };
 }
 
 impl fmt::Display for ErrorKind {
@@ -246,6 +252,12 @@ impl ExactClone for Error {
     ghost exact = { λ x y e. e };
 }
 
+impl ExactEq for Error {
+    ghost use Rattle.rustsec_advisory.specs.Decided.{fault_decides};
+
+    ghost decides = { fault_decides };
+}
+
 /// Writes where a fault stands.
 fn write_section<W: fmt::Write>(f: &mut fmt::Formatter<W>, section: &Option<Text>) -> fmt::Result
     ensures { DisplaysOnOk W.write_str_gives f.old result (Some (section_text section.now)) f.new }
@@ -316,7 +328,7 @@ impl Linter {
     ///
     /// `Parse` where the path is no Markdown file's; then `Io` where the file cannot be read or is no
     /// UTF-8; then as `lint_string`.
-    pub fn lint_file<R: Files + AllocGlobal>(rt: &R, path: &str) -> Result<Linter>
+    pub fn lint_file<R: Files>(rt: &R, alloc: Global, path: &str) -> Result<Linter>
         ensures ok { IfOk result (λ l. (is_markdown path.now ≡ true)
             × ((text : List ℕ) × Lints text (Some (is_draft path.now)) l.advisory l.errors)) }
         ensures err { IfErr result (λ e. IsRefusal failure.Parse (is_markdown path.now ≡ false) e
@@ -325,13 +337,13 @@ impl Linter {
     {
         if !path::is_markdown(path) {
             return Err(rustsec_versions::Error::new(
-                rt.alloc(),
+                alloc,
                 rustsec_versions::ErrorKind::Parse,
                 "the file's extension is not `md`",
             ));
         }
-        let text = advisory::text_of(rt, path)?;
-        Linter::lint_string(rt.alloc(), &text, Some(path::is_draft(path)))
+        let text = advisory::text_of(rt, alloc, path)?;
+        Linter::lint_string(alloc, &text, Some(path::is_draft(path)))
     }
 
     /// The advisory.

@@ -8,7 +8,7 @@ use crate::address::Address;
 use rustsec_lock::package::Name;
 use rustsec_lock::{Cvss, SourceId};
 use rustsec_texts::{Category, Collection, Date, Id, Informational, Keyword, License};
-use rustsec_values::{ExactClone, Items, Text};
+use rustsec_values::{ExactClone, ExactEq, Items, Text};
 use rustsec_versions::Result;
 use std::alloc::{AllocError, Global};
 
@@ -229,4 +229,10 @@ impl Clone for Metadata {
 
 impl ExactClone for Metadata {
     ghost exact = { λ x y e. e };
+}
+
+impl ExactEq for Metadata {
+    ghost use Rattle.rustsec_advisory.specs.Decided.{metadata_decides};
+
+    ghost decides = { metadata_decides };
 }

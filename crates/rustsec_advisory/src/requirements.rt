@@ -1,7 +1,8 @@
 // Lists of requirements in a document.
 
-ghost use Rattle.std.specs.Prelude.{◌≡◌, [], IfErr, IfOk, None, Some, map, true};
-ghost use Rattle.semver.specs.Parse.{memory_error};
+ghost use Rattle.std.specs.Prelude.{◌≡◌, ◌≢◌, [], Err, IfErr, IfOk, IsOk, None, Some, map, option_map, true};
+ghost use Rattle.semver.specs.Parse.{memory_error, req_of};
+ghost use Rattle.semver.specs.declared.error.Error as semver;
 ghost use Rattle.toml.specs.View.{array_view, table_view, view};
 ghost use Rattle.rustsec_values.specs.Reading.{read_all};
 ghost use Rattle.rustsec_advisory.specs.Fields.{defaulted, list_of, required, text};
@@ -18,9 +19,22 @@ use toml::{Table, Value};
 
 /// Whether an error of `semver` is want of memory.
 fn is_memory(e: semver::Error) -> bool
-    ensures { e ≡ memory_error → result ≡ true }
+    ensures memory { e ≡ memory_error → result ≡ true }
+    ensures only { result ≡ true → e ≡ memory_error }
 {
     e == semver::Error::from(AllocError)
+}
+
+/// The requirement of a text, none where the text is refused. A refusal is never want of memory.
+fn parsed(alloc: Global, text: &str) -> std::result::Result<Option<VersionReq>, AllocError>
+    ensures ok { IfOk result (λ r. requirement_of text.now ≡ option_map comparators_of r) }
+    ensures refused { (e : semver.Error) → req_of text.now ≡ Err e → e ≢ memory_error → IsOk result }
+{
+    match VersionReq::parse(alloc, text) {
+        Ok(req) => Ok(Some(req)),
+        Err(e) if is_memory(e) => Err(AllocError),
+        Err(_) => Ok(None),
+    }
 }
 
 /// The requirement of a text.
@@ -28,10 +42,9 @@ fn requirement(alloc: Global, text: &str) -> Result<VersionReq>
     ensures ok { IfOk result (λ r. requirement_of text.now ≡ Some (comparators_of r)) }
     ensures err { IfErr result (IsRefusal ErrorKind.Parse (requirement_of text.now ≡ None)) }
 {
-    match VersionReq::parse(alloc, text) {
-        Ok(req) => Ok(req),
-        Err(e) if is_memory(e) => Err(Error::from(AllocError)),
-        Err(_) => Err(refused(alloc, "no requirement")),
+    match parsed(alloc, text)? {
+        Some(req) => Ok(req),
+        None => Err(refused(alloc, "no requirement")),
     }
 }
 

@@ -41,6 +41,10 @@ pub fn run<T: Files + AllocGlobal, R: Read, W: Write>(
         AnswersRanges bytes s (W.contents output.old) (W.contents output.new))) }
     ensures lint { (path : List ℕ) → map (λ w. w.now) words.now ≡ codes "lint" ∷ path ∷ []
         → IfOk result (λ s. AnswersLint path s (W.contents output.old) (W.contents output.new)) }
+    ensures lint_unread { (path : List ℕ) → map (λ w. w.now) words.now ≡ codes "lint" ∷ path ∷ []
+        → R.remaining input.new ≡ R.remaining input.old }
+    ensures usage_unread { names_command (map (λ w. w.now) words.now) ≡ false
+        → R.remaining input.new ≡ R.remaining input.old }
     ensures usage_status { names_command (map (λ w. w.now) words.now) ≡ false
         → IfOk result (λ s. s ≡ usage.status) }
     ensures usage_text { names_command (map (λ w. w.now) words.now) ≡ false

@@ -55,7 +55,7 @@ fn refusal(alloc: Global, error: Error) -> Result<Output, AllocError>
 pub fn lint_output<T: Files + AllocGlobal>(rt: &T, path: &str) -> Result<Output, AllocError>
     ensures { IfOk result (IsLintOutput path.now) }
 {
-    match Linter::lint_file(rt, path) {
+    match Linter::lint_file(rt, rt.alloc(), path) {
         Ok(linter) => faults(rt.alloc(), &linter),
         Err(error) => refusal(rt.alloc(), error),
     }

@@ -1,6 +1,5 @@
 -- What stands behind a beginning, and the lone one of several parts.
-use Rattle.std.proofs.Common.{◌≡◌, ◌∙◌, ℕ, ◌+◌, ◌<◌, ◌≤◌, ◌⊎◌, true, false, List, [], ◌∷◌, ◌++◌, Option, Some, None, option_map, is_some, map, filter_map, drop, get_or, length, nat_eq, refl, sym, ap, subst, add-one, drop-cons, append-nil, eq-eqb, inl, inr}
-use Rattle.std.proofs.lemmas.Bool.{ne_eqb}
+use Rattle.std.proofs.Common.{◌≡◌, ◌∙◌, ◌==◌, ℕ, ◌+◌, ◌<◌, ◌≤◌, ◌⊎◌, true, false, List, [], ◌∷◌, ◌++◌, Option, Some, None, option_map, is_some, map, filter_map, drop, get_or, length, nat_eq, refl, sym, ap, subst, add-one, drop-cons, append-nil, inl, inr}
 use Rattle.std.proofs.lemmas.List.{drop_all, length-map}
 use Rattle.std.proofs.lemmas.Str.Pattern.{starts_text}
 use Rattle.std.specs.List.{starts_with}
@@ -80,20 +79,13 @@ given_again name parts k d (Some x) v h found some e = given_twice name parts k 
 
 -- ---- the text behind a version
 
--- what eight parts give, and what any other number of them does
-pub base_of_parts : (minor : ℕ) (text : List ℕ) (ps : List (Bor (List ℕ))) → map (λ p. p.now) ps ≡ parts_of text → length ps ≡ 8
-    → base_of minor text ≡ metrics_of minor (map (λ p. p.now) ps)
+-- what the parts give, where there are eight of them
+pub base_of_parts : (minor : ℕ) (text : List ℕ) (ps : List (Bor (List ℕ))) → map (λ p. p.now) ps ≡ parts_of text
+    → base_of minor text ≡ only_if (length ps == 8) (metrics_of minor (map (λ p. p.now) ps))
 unfolding base_of
-base_of_parts minor text ps e h =
-    let eight : length (parts_of text) ≡ 8 = ap length (sym e) ∙ (length-map ps (λ p. p.now) ∙ h) in
-    ap (λ b. only_if b (metrics_of minor (parts_of text))) (eq-eqb (length (parts_of text)) 8 eight) ∙ ap (metrics_of minor) (sym e)
-
-pub base_of_others : (minor : ℕ) (text : List ℕ) (ps : List (Bor (List ℕ))) → map (λ p. p.now) ps ≡ parts_of text → (length ps ≡ 8 → ⊥)
-    → base_of minor text ≡ None
-unfolding base_of
-base_of_others minor text ps e h =
-    let others : length (parts_of text) ≡ 8 → ⊥ = λ eight. h (sym (length-map ps (λ p. p.now)) ∙ (ap length e ∙ eight)) in
-    ap (λ b. only_if b (metrics_of minor (parts_of text))) (ne_eqb (length (parts_of text)) 8 others)
+base_of_parts minor text ps e =
+    ap (λ qs. only_if (length qs == 8) (metrics_of minor qs)) (sym e)
+    ∙ ap (λ n. only_if (n == 8) (metrics_of minor (map (λ p. p.now) ps))) (length-map ps (λ p. p.now))
 
 -- a refusal, or want of memory for its message
 pub refusal : {P : Type 0} {m : List ℕ} (e : Failure) → P → (e ≡ record { kind = kind.Parse; message = m; cause = None }) ⊎ (e ≡ out_of_memory)

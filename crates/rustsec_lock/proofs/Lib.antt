@@ -7,3 +7,4 @@ pub mod ScoreTable
 pub mod Sources
 pub mod Tables
 pub mod ValidVersions
+pub mod Vectors

@@ -1,6 +1,8 @@
 -- The score of base metrics, in tenths, and its rating: CVSS 3.1, sections 5, 7.1 and 7.4, in exact whole units
 -- of 10^-12 in place of floating point.
 use Rattle.std.specs.Prelude.{◌≡◌, ℕ, zero, suc, ◌+◌, ◌-◌, ◌*◌, ◌/◌, ◌^◌, ◌≤◌, ◌==◌, Bool, true, false, List, min, nat_lt, if◌then◌else◌, codes}
+use Rattle.std.specs.Ordering.{nat_cmp, on}
+use Rattle.std.specs.declared.cmp.Ordering.{Ordering}
 use Rattle.rustsec_lock.specs.declared.metrics.AttackComplexity.{AttackComplexity}
 use Rattle.rustsec_lock.specs.declared.metrics.AttackComplexity.TheVariants as attack_complexity
 use Rattle.rustsec_lock.specs.declared.metrics.AttackVector.{AttackVector}
@@ -172,3 +174,14 @@ severity_text severity.Low = codes "low"
 severity_text severity.Medium = codes "medium"
 severity_text severity.High = codes "high"
 severity_text severity.Critical = codes "critical"
+
+-- the place of a rating in the order
+abbrev pub severity_place : Severity → ℕ
+severity_place severity.None = 0
+severity_place severity.Low = 1
+severity_place severity.Medium = 2
+severity_place severity.High = 3
+severity_place severity.Critical = 4
+
+abbrev pub severity_cmp : Severity → Severity → Ordering
+severity_cmp = on severity_place nat_cmp

@@ -1,6 +1,6 @@
 //! Vectors of CVSS: section 6 of CVSS 3.1, and version 4 as a text.
 
-ghost use Rattle.std.specs.Prelude.{◌≡◌, Some, None, IfErr, IfOk, IfSome, map, option_map};
+ghost use Rattle.std.specs.Prelude.{◌≡◌, ◌==◌, Some, None, IfErr, IfOk, IfSome, length, map, option_map};
 ghost use Rattle.std.specs.Fmt.{DisplaysOnOk};
 ghost use Rattle.rustsec_versions.specs.Failure.{IsMemory, IsRefusal};
 ghost use Rattle.rustsec_lock.specs.Cvss.{base_of, base_text, behind, cvss_of, cvss_severity, cvss_text, given, metrics_of};
@@ -75,6 +75,13 @@ fn metrics(minor_version: usize, parts: &[&str]) -> Option<Base>
     })
 }
 
+/// Whether a vector has a part for each of the eight base metrics, and no other part.
+fn are_eight(parts: &[&str]) -> bool
+    ensures { result ≡ (length parts.now == 8) }
+{
+    parts.len() == 8
+}
+
 /// The metrics of the text behind a vector's version: eight parts between slashes.
 fn base(alloc: Global, minor_version: usize, text: &str) -> Result<Base>
     ensures ok { IfOk result (λ b. base_of minor_version text.now ≡ Some b) }
@@ -82,7 +89,7 @@ fn base(alloc: Global, minor_version: usize, text: &str) -> Result<Base>
     ensures err { IfErr result (IsRefusal ErrorKind.Parse (base_of minor_version text.now ≡ None)) }
 {
     let parts: Vec<&str> = text.split('/').collect(alloc)?;
-    if parts.len() == 8 {
+    if are_eight(&parts) {
         if let Some(base) = metrics(minor_version, &parts) {
             return Ok(base);
         }

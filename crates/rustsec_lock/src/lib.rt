@@ -12,7 +12,7 @@ mod score;
 mod severity;
 mod source;
 mod source_order;
-pub mod table;
+mod table;
 
 /// Packages and their names.
 pub mod package {

@@ -1,6 +1,6 @@
 // Lockfiles.
 
-ghost use Rattle.std.specs.Prelude.{◌≡◌, ◌⊎◌, ℕ, IfErr, IfOk, List, None, Some, option_map};
+ghost use Rattle.std.specs.Prelude.{◌≡◌, ◌++◌, ◌∷◌, ◌⊎◌, [], ℕ, IfErr, IfOk, List, None, OnOk, Some, option_map};
 ghost use Rattle.semver.specs.Identifiers.{parts_of};
 ghost use Rattle.toml.specs.View.{array_view, table_view, view};
 ghost use Rattle.rustsec_values.specs.Reading.{read_all, read_optional};
@@ -94,6 +94,16 @@ fn package_of(alloc: Global, value: &Value) -> Result<Package>
     }
 }
 
+/// Puts the package of a value behind others.
+fn add_package(alloc: Global, packages: &mut Items<Package>, value: &Value) -> Result<()>
+    ensures ok { OnOk result (option_map (λ p. packages.old ++ p ∷ []) (package_of (view value.now)) ≡ Some packages.new) }
+    ensures err { IfErr result (IsRefusal ErrorKind.Parse (package_of (view value.now) ≡ None)) }
+{
+    let package = package_of(alloc, value)?;
+    packages.push(package)?;
+    Ok(())
+}
+
 /// The packages of an array, in order.
 fn packages_in(alloc: Global, array: &Array) -> Result<Items<Package>>
     ensures ok { IfOk result (λ ps. read_all package_of (list_of (array_view array.now)) ≡ Some ps) }
@@ -101,12 +111,15 @@ fn packages_in(alloc: Global, array: &Array) -> Result<Items<Package>>
 {
     let mut packages = Items::new(alloc);
     for value in array {
-        match package_of(alloc, value) {
-            Ok(package) => packages.push(package)?,
-            Err(e) => return Err(e),
-        }
+        add_package(alloc, &mut packages, value)?;
     }
     Ok(packages)
+}
+
+/// The text of a file.
+fn text_of<R: Files>(rt: &R, alloc: Global, path: &str) -> io::Result<String> {
+    let file = fs::File::open(rt, path)?;
+    io::read_to_string(alloc, file)
 }
 
 /// A lockfile: its packages, in order.
@@ -169,22 +182,22 @@ impl Lockfile {
     /// # Errors
     ///
     /// `Io` where the file cannot be read or is no UTF-8; else as `from_str`.
-    pub fn load<R: Files + AllocGlobal>(rt: &R, path: &str) -> Result<Lockfile>
+    pub fn load<R: Files>(rt: &R, alloc: Global, path: &str) -> Result<Lockfile>
         ensures ok { IfOk result (λ l. (text : List ℕ) × (lockfile_of text ≡ Some l.packages)) }
         ensures valid { IfOk result (λ l. AreValid l.packages) }
         ensures err { IfErr result (λ e. (IsOfKind ErrorKind.Io e)
             ⊎ ((text : List ℕ) × IsRefusal ErrorKind.Parse (lockfile_of text ≡ None) e)) }
     {
-        let text = match fs::read_to_string(rt, path) {
+        let text = match text_of(rt, alloc, path) {
             Ok(text) => text,
             Err(e) => {
                 if e.kind() == io::ErrorKind::OutOfMemory {
                     return Err(Error::from(AllocError));
                 }
-                return Err(Error::new(rt.alloc(), ErrorKind::Io, "a lockfile cannot be read"));
+                return Err(Error::new(alloc, ErrorKind::Io, "a lockfile cannot be read"));
             }
         };
-        Lockfile::from_str(rt.alloc(), text.as_str())
+        Lockfile::from_str(alloc, text.as_str())
     }
 
     /// An equal lockfile.

@@ -2,10 +2,10 @@
 
 ghost use Rattle.std.specs.Prelude.{◌≡◌, ◌<◌, IfErr, IfOk, None, Some, length};
 ghost use Rattle.rustsec_versions.specs.Failure.{IsMemory, IsRefusal};
-ghost use Rattle.rustsec_lock.specs.Names.{name_of};
+ghost use Rattle.rustsec_lock.specs.Names.{name_cmp, name_of};
 
 use crate::refusal::refused;
-use rustsec_values::{ExactClone, ExactEq, Text};
+use rustsec_values::{ExactClone, ExactEq, StatedOrder, Text};
 use rustsec_versions::{ErrorKind, Result};
 use std::alloc::{AllocError, Global};
 use std::convert::AsStr;
@@ -89,6 +89,15 @@ impl ExactEq for Name {
     ghost use Rattle.std.specs.Cmp.Lexicographic.{bytes_decides};
 
     ghost decides = { bytes_decides };
+}
+
+impl StatedOrder for Name {
+    ghost use Rattle.std.specs.Cmp.Rules.{comparing};
+    ghost use Rattle.std.proofs.Common.{rules};
+
+    ghost order = { name_cmp };
+
+    ghost agrees = { λ x y. Prim.search (comparing, rules) };
 }
 
 impl fmt::Display for Name {

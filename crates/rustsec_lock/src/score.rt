@@ -169,11 +169,18 @@ fn weighted(scope: Scope, sum: u64) -> u64
     }
 }
 
+/// A sum, of which what is above ten does not count.
+fn at_most_ten(sum: u64) -> u64
+    ensures { result ≡ at_most_ten sum }
+{
+    sum.min(10 * ONE)
+}
+
 /// The tenths of a sum: it is rounded to hundred-thousandths first, and then up.
 fn tenths(sum: u64) -> u8
     ensures { result ≡ rounded_up (hundred_thousandths (at_most_ten sum)) }
 {
-    let nearest = (sum.min(10 * ONE) + 5_000_000) / 10_000_000;
+    let nearest = (at_most_ten(sum) + 5_000_000) / 10_000_000;
     ((nearest + 9999) / 10_000) as u8
 }
 

@@ -1,9 +1,9 @@
 //! Ratings by the scores of CVSS.
 
 ghost use Rattle.std.specs.Prelude.{◌≡◌, Some};
-ghost use Rattle.rustsec_lock.specs.Score.{severity_of, severity_text};
+ghost use Rattle.rustsec_lock.specs.Score.{severity_cmp, severity_of, severity_text};
 
-use rustsec_values::{ExactClone, ExactEq};
+use rustsec_values::{ExactClone, ExactEq, StatedOrder};
 use std::fmt;
 
 /// The qualitative rating of a score: CVSS 3.1, section 5.
@@ -73,4 +73,13 @@ impl ExactEq for Severity {
     ghost use Rattle.rustsec_lock.specs.contracts.severity.Severity.{the_type};
 
     ghost decides = { λ x y. (same_true the_type tt x y, true_same the_type x y) };
+}
+
+impl StatedOrder for Severity {
+    ghost use Rattle.std.specs.Cmp.Rules.{comparing};
+    ghost use Rattle.std.proofs.Common.{rules};
+
+    ghost order = { severity_cmp };
+
+    ghost agrees = { λ x y. Prim.search (comparing, rules) };
 }

@@ -12,7 +12,7 @@ use std::alloc::Global;
 use toml::{Table, Value};
 
 /// The value at a key.
-pub fn member<'a>(table: &'a Table, key: &str) -> Option<&'a Value>
+pub(crate) fn member<'a>(table: &'a Table, key: &str) -> Option<&'a Value>
     ensures { option_map (λ v. view v.now) result ≡ get_member key.now (table_view table.now) }
 {
     table.get(key)
@@ -23,7 +23,7 @@ pub fn member<'a>(table: &'a Table, key: &str) -> Option<&'a Value>
 /// # Errors
 ///
 /// `Parse` where the key is missing or its value is no text; else `OutOfMemory`, for the message.
-pub fn text_at<'a>(alloc: Global, table: &'a Table, key: &str) -> Result<&'a str>
+pub(crate) fn text_at<'a>(alloc: Global, table: &'a Table, key: &str) -> Result<&'a str>
     ensures ok { IfOk result (λ s. text_at key.now (table_view table.now) ≡ Some s.now) }
     ensures err { IfErr result (IsRefusal ErrorKind.Parse (text_at key.now (table_view table.now) ≡ None)) }
 {
@@ -41,7 +41,11 @@ pub fn text_at<'a>(alloc: Global, table: &'a Table, key: &str) -> Result<&'a str
 /// # Errors
 ///
 /// `Parse` where its value is no text; else `OutOfMemory`, for the message.
-pub fn optional_text_at<'a>(alloc: Global, table: &'a Table, key: &str) -> Result<Option<&'a str>>
+pub(crate) fn optional_text_at<'a>(
+    alloc: Global,
+    table: &'a Table,
+    key: &str,
+) -> Result<Option<&'a str>>
     ensures ok { IfOk result (λ s. optional_text_at key.now (table_view table.now) ≡ Some (option_map (λ t. t.now) s)) }
     ensures err { IfErr result (IsRefusal ErrorKind.Parse (optional_text_at key.now (table_view table.now) ≡ None)) }
 {

@@ -4,8 +4,7 @@ ghost use Rattle.std.specs.Prelude.{◌≡◌, ◌⊎◌, IfErr, IfOk, List, ℕ
 ghost use Rattle.rustsec_versions.specs.Failure.{IsMemory};
 ghost use Rattle.rustsec_texts.specs.Categories.{category_cmp, category_name, category_of};
 
-use crate::laws::StatedOrder;
-use rustsec_values::{ExactClone, ExactEq, Text};
+use rustsec_values::{ExactClone, ExactEq, StatedOrder, Text};
 use rustsec_versions::Result;
 use std::alloc::{AllocError, Global};
 use std::fmt;

@@ -4,8 +4,7 @@ ghost use Rattle.std.specs.Prelude.{◌≡◌, IfErr, IfOk, Some, None};
 ghost use Rattle.rustsec_versions.specs.Failure.{IsRefusal};
 ghost use Rattle.rustsec_texts.specs.Collections.{collection_cmp, collection_name, collection_of, collections};
 
-use crate::laws::StatedOrder;
-use rustsec_values::{ExactClone, ExactEq};
+use rustsec_values::{ExactClone, ExactEq, StatedOrder};
 use rustsec_versions::{Error, ErrorKind, Result};
 use std::alloc::Global;
 use std::fmt;

@@ -4,9 +4,8 @@ ghost use Rattle.std.specs.Prelude.{◌≡◌, ◌⊎◌, ◌↔◌, IsTrue, IfE
 ghost use Rattle.rustsec_versions.specs.Failure.{IsMemory};
 ghost use Rattle.rustsec_texts.specs.Informational.{informational_cmp, informational_name, informational_of, is_other_kind, kind_of_warnings};
 
-use crate::laws::StatedOrder;
 use crate::warning_kind::WarningKind;
-use rustsec_values::{ExactClone, ExactEq, Text};
+use rustsec_values::{ExactClone, ExactEq, StatedOrder, Text};
 use rustsec_versions::Result;
 use std::alloc::{AllocError, Global};
 use std::fmt;

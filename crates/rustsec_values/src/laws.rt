@@ -2,6 +2,7 @@
 
 ghost use Rattle.std.specs.Prelude.{◌≡◌};
 ghost use Rattle.std.specs.Bool.{Decides};
+ghost use Rattle.std.specs.declared.cmp.Ordering.{Ordering};
 
 /// A type whose clone, where there is memory for one, is the same value.
 pub trait ExactClone: Clone {
@@ -11,4 +12,11 @@ pub trait ExactClone: Clone {
 /// A type whose `==` holds exactly between the same values.
 pub trait ExactEq: Eq {
     ghost decides: { (x y : Self) → Decides (Self.eq x y) (x ≡ y) };
+}
+
+/// A type whose order is a stated one.
+pub trait StatedOrder: Ord {
+    ghost order: { Self → Self → Ordering };
+
+    ghost agrees: { (x y : Self) → Self.cmp x y ≡ Self.order x y };
 }

@@ -9,6 +9,6 @@ mod sorted_map;
 mod text;
 
 pub use crate::items::Items;
-pub use crate::laws::{ExactClone, ExactEq};
+pub use crate::laws::{ExactClone, ExactEq, StatedOrder};
 pub use crate::sorted_map::SortedMap;
 pub use crate::text::Text;

@@ -1,92 +1,16 @@
-// Advisory files: what is read of them, and the faults that a linter finds in them.
+// Advisory files: which texts are advisories, and what is read of them.
 
-use crate::fixtures::expect_output;
-use rustsec_advisory::Advisory;
-use rustsec_advisory::linter::{self, Linter};
+use crate::files::{VALID, changed};
+use rustsec_advisory::{Address, Advisory, Affected};
 use rustsec_lock::platforms::{Arch, OS};
 use rustsec_lock::{Cvss, Severity};
 use rustsec_texts::{FunctionPath, License};
 use rustsec_versions::{Error, ErrorKind};
 use semver::{Version, VersionReq};
-use std::alloc::Global;
-use std::fs;
 use std::process::Abort;
 use std::rt::Files;
-use std::str;
 use std::test::Fail;
-
-/// An advisory without faults.
-const VALID: &str = "```toml
-[advisory]
-id = \"RUSTSEC-2001-2101\"
-package = \"base\"
-date = \"2001-02-03\"
-url = \"https://www.youtube.com/watch?v=jQE66WA2s-A\"
-categories = [\"code-execution\", \"privilege-escalation\"]
-keywords = [\"how\", \"are\", \"you\", \"gentlemen\"]
-aliases = [\"CVE-2001-2101\"]
-cvss = \"CVSS:3.1/AV:N/AC:L/PR:N/UI:N/S:C/C:H/I:H/A:H\"
-
-[versions]
-patched = [\">= 1.2.3\"]
-
-[affected]
-arch = [\"x86\"]
-os = [\"windows\"]
-functions = { \"base::belongs::All\" = [\"< 1.2.3\"] }
-```
-
-# All your base are belong to us
-
-You have no chance to survive. Make your time.
-";
-
-/// An advisory with seven faults.
-const INVALID: &str = "```toml
-[advisory]
-id = \"LULZSEC-2001-2101\"
-package = \"base\"
-collection = \"crates\"
-date = \"2001-02-03\"
-url = \"ftp://www.youtube.com/watch?v=jQE66WA2s-A\"
-categories = [\"invalid-category\"]
-keywords = [\"how\", \"are\", \"you\", \"gentlemen\"]
-aliases = [\"CVE-2001-2101\"]
-cvss = \"CVSS:3.1/AV:N/AC:L/PR:N/UI:N/S:C/C:H/I:H/A:H\"
-invalid-advisory-key = \"invalid\"
-
-[versions]
-patched = [\">= 1.2.3\"]
-
-[affected]
-arch = [\"x86\"]
-os = [\"windows\"]
-functions = { \"notyourbase::belongs::All\" = [\"< 1.2.3\"] }
-
-[invalid-section]
-```
-
-# All your base are belong to us
-
-You have no chance to survive. Make your time.
-";
-
-/// Its faults where its file is no draft's.
-const INVALID_FAULTS: &[&str] = &[
-    "invalid value `invalid-category` for key `category` in [advisory]: unknown category",
-    "malformed content in [advisory]: collection shouldn't be explicit; inferred by location",
-    "invalid value `\"LULZSEC-2001-2101\"` for key `id` in [advisory]: unknown advisory ID type",
-    "invalid key `invalid-advisory-key` in [advisory]",
-    "invalid value `\"ftp://www.youtube.com/watch?v=jQE66WA2s-A\"` for key `url` in [advisory]: URL must start with https://",
-    "invalid value `notyourbase::belongs::All` for key `functions` in [affected]: function path must start with crate name",
-    "invalid key `invalid-section` in toplevel",
-];
-
-/// A text with its first place of another one changed.
-fn changed(alloc: Global, text: &str, old: &str, new: &str) -> Result<String, Fail> {
-    let (before, after) = text.split_once(old).ok_or("there is nothing to change")?;
-    Ok(format!(in alloc; "{before}{new}{after}")?)
-}
+use std::{fs, str};
 
 /// Whether a text is an advisory; any refusal must be of the kind `Parse`.
 fn is_advisory<T: AllocGlobal + Abort + Files>(rt: &T, text: &str) -> Result<bool, Fail> {
@@ -99,46 +23,25 @@ fn is_advisory<T: AllocGlobal + Abort + Files>(rt: &T, text: &str) -> Result<boo
     }
 }
 
-/// Checks how faults print.
-fn expect_printed<T: AllocGlobal + Abort + Files>(
-    rt: &T,
-    faults: &[linter::Error],
-    expected: &[&str],
-) -> Result<(), Fail> {
-    assert_eq!(rt; faults.len(), expected.len());
-    for (i, fault) in faults.iter().enumerate() {
-        assert_eq!(rt; fault.to_string(rt.alloc())?.as_str(), expected[i]);
-    }
-    Ok(())
-}
-
-/// Checks the faults of a text.
-fn expect_faults<T: AllocGlobal + Abort + Files>(
-    rt: &T,
-    text: &str,
-    draft: Option<bool>,
-    expected: &[&str],
-) -> Result<(), Fail> {
-    let linter = Linter::lint_string(rt.alloc(), text, draft)?;
-    expect_printed(rt, linter.errors(), expected)
-}
-
-/// Checks that a text is the same advisory.
+/// Checks whether a text is the same advisory as another one.
 fn expect_same<T: AllocGlobal + Abort + Files>(
     rt: &T,
     text: &str,
     other: &Advisory,
+    same: bool,
 ) -> Result<(), Fail> {
     let advisory = Advisory::from_str(rt.alloc(), text)?;
-    assert!(rt; advisory == *other);
+    assert_eq!(rt; advisory == *other, same);
     Ok(())
 }
 
 #[test]
 fn advisory_table_line(rt: HostRuntime) -> Result<(), Fail> {
     let bare = changed(rt.alloc(), VALID, "[advisory]\n", "")?;
+    let later = changed(rt.alloc(), VALID, "2001-02-03", "2001-02-04")?;
     let advisory = Advisory::from_str(rt.alloc(), VALID)?;
-    expect_same(&rt, &bare, &advisory)
+    expect_same(&rt, &bare, &advisory, true)?;
+    expect_same(&rt, &later, &advisory, false)
 }
 
 #[test]
@@ -148,29 +51,146 @@ fn advisory_table_line_behind_a_comment(rt: HostRuntime) -> Result<(), Fail> {
     Ok(())
 }
 
+/// Checks whether the advisory without faults is one still, with its first place of a text changed.
+fn expect_change<T: AllocGlobal + Abort + Files>(
+    rt: &T,
+    old: &str,
+    new: &str,
+    accepted: bool,
+) -> Result<(), Fail> {
+    let text = changed(rt.alloc(), VALID, old, new)?;
+    assert_eq!(rt; is_advisory(rt, &text)?, accepted, "with {new}");
+    Ok(())
+}
+
 #[test]
 fn advisory_changes(rt: HostRuntime) -> Result<(), Fail> {
-    for (old, new, accepted) in [
-        ("date = ", "title = \"\"\ndate = ", true),
-        ("date = ", "unknown-key = 1\ndate = ", true),
-        ("date = ", "title = \"x\"\ndate = ", false),
-        ("patched = [\">= 1.2.3\"]\n", "", false),
-        ("\"2001-02-03\"", "2001-02-03", false),
-        ("[\"windows\"]", "[\"beos\"]", false),
-        (
-            "[affected]",
-            "unaffected = [\"> 1.0.0\"]\n[affected]",
-            false,
-        ),
-    ] {
-        let text = changed(rt.alloc(), VALID, old, new)?;
-        assert_eq!(rt; is_advisory(&rt, &text)?, accepted, "with {new}");
+    expect_change(&rt, "date = ", "title = \"\"\ndate = ", true)?;
+    expect_change(&rt, "date = ", "unknown-key = 1\ndate = ", true)?;
+    expect_change(&rt, "date = ", "title = \"x\"\ndate = ", false)?;
+    expect_change(&rt, "patched = [\">= 1.2.3\"]\n", "", false)?;
+    expect_change(&rt, "\"2001-02-03\"", "2001-02-03", false)?;
+    expect_change(&rt, "[\"windows\"]", "[\"beos\"]", false)?;
+    expect_change(
+        &rt,
+        "[affected]",
+        "unaffected = [\"> 1.0.0\"]\n[affected]",
+        false,
+    )
+}
+
+/// Checks whether a text is an advisory with each of these lines put before its date.
+fn expect_lines<T: AllocGlobal + Abort + Files>(
+    rt: &T,
+    lines: &[&str],
+    accepted: bool,
+) -> Result<(), Fail> {
+    for line in lines {
+        let new = format!(in rt.alloc(); "{line}\ndate = ")?;
+        expect_change(rt, "date = ", &new, accepted)?;
     }
     Ok(())
 }
 
-/// Checks the fields of the advisory without faults.
-fn expect_fields<T: AllocGlobal + Abort + Files>(rt: &T, advisory: &Advisory) -> Result<(), Fail> {
+/// Lines of keys that the advisory without faults lacks, which are accepted.
+const ACCEPTED_LINES: &[&str] = &[
+    "description = \"\"",
+    "related = [\"RUSTSEC-2001-0001\", \"\"]",
+    "collection = \"rust\"",
+    "informational = \"other\"",
+    "references = [\"https://a.b/\", \"mailto:a@a.b\"]",
+    "source = \"registry+https://a/\"",
+    "withdrawn = \"2001-02-04\"",
+    "license = \"\"",
+    "expect-deleted = true",
+    "\"\" = []",
+];
+
+/// Lines of such keys with a value of another kind, or one that its reader refuses.
+const REFUSED_LINES: &[&str] = &[
+    "title = 1",
+    "description = \"x\"",
+    "description = []",
+    "related = \"RUSTSEC-2001-0001\"",
+    "related = [1]",
+    "related = [\"RUSTSEC-2001\"]",
+    "collection = \"Rust\"",
+    "collection = [\"rust\"]",
+    "informational = true",
+    "references = \"https://a.b/\"",
+    "references = [\"a.b\"]",
+    "source = \"registry\"",
+    "source = {}",
+    "withdrawn = \"2001-02-29\"",
+    "withdrawn = 2001-02-04",
+    "license = 1",
+    "expect-deleted = 1",
+    "expect-deleted = \"true\"",
+    "id = \"RUSTSEC-2001-2101\"",
+];
+
+#[test]
+fn advisory_keys_that_may_be_missing(rt: HostRuntime) -> Result<(), Fail> {
+    expect_lines(&rt, ACCEPTED_LINES, true)?;
+    expect_lines(&rt, REFUSED_LINES, false)
+}
+
+#[test]
+fn advisory_keys_that_must_be_there(rt: HostRuntime) -> Result<(), Fail> {
+    expect_change(&rt, "id = \"RUSTSEC-2001-2101\"\n", "", false)?;
+    expect_change(&rt, "package = \"base\"\n", "", false)?;
+    expect_change(&rt, "date = \"2001-02-03\"\n", "", false)?;
+    expect_change(&rt, "[versions]\npatched = [\">= 1.2.3\"]\n", "", false)?;
+    expect_change(&rt, "[versions]", "[version]", false)?;
+    expect_change(&rt, "[advisory]", "advisory = 1\n[advisor]", false)?;
+    expect_change(&rt, "[affected]", "[another]", true)
+}
+
+#[test]
+fn advisory_values_that_are_refused(rt: HostRuntime) -> Result<(), Fail> {
+    expect_change(&rt, "\"RUSTSEC-2001-2101\"", "\"RUSTSEC-1999-2101\"", false)?;
+    expect_change(&rt, "\"base\"", "\"\"", false)?;
+    expect_change(&rt, "\"2001-02-03\"", "\"2001-02-29\"", false)?;
+    expect_change(
+        &rt,
+        "\"https://www.youtube.com/watch?v=jQE66WA2s-A\"",
+        "\"a.b\"",
+        false,
+    )?;
+    expect_change(&rt, "\"code-execution\"", "1", false)?;
+    expect_change(&rt, "\"how\"", "1", false)?;
+    expect_change(&rt, "\"CVE-2001-2101\"", "\"CVE-1999-1\"", false)?;
+    expect_change(&rt, "CVSS:3.1/AV:N", "CVSS:3.1/AV:n", false)
+}
+
+#[test]
+fn advisory_lists_that_are_refused(rt: HostRuntime) -> Result<(), Fail> {
+    expect_change(&rt, "[\">= 1.2.3\"]", "\">= 1.2.3\"", false)?;
+    expect_change(&rt, "[\">= 1.2.3\"]", "[1]", false)?;
+    expect_change(&rt, "[\">= 1.2.3\"]", "[\"1.2.3.4\"]", false)?;
+    expect_change(&rt, "[\">= 1.2.3\"]", "[\"1.*\"]", false)?;
+    expect_change(&rt, "[\">= 1.2.3\"]", "[]", true)?;
+    expect_change(
+        &rt,
+        "[affected]",
+        "unaffected = [\"< 1.0.0\"]\n[affected]",
+        true,
+    )?;
+    expect_change(&rt, "[affected]", "unaffected = 1\n[affected]", false)
+}
+
+#[test]
+fn advisory_platforms_and_functions_that_are_refused(rt: HostRuntime) -> Result<(), Fail> {
+    expect_change(&rt, "[\"x86\"]", "[\"x87\"]", false)?;
+    expect_change(&rt, "[\"x86\"]", "\"x86\"", false)?;
+    expect_change(&rt, "base::belongs::All", "base", false)?;
+    expect_change(&rt, "[\"< 1.2.3\"]", "\"< 1.2.3\"", false)?;
+    expect_change(&rt, "[\"< 1.2.3\"]", "[\"< \"]", false)?;
+    expect_change(&rt, "functions = {", "functions = []\nother = {", false)
+}
+
+/// Checks what names and dates the advisory without faults.
+fn expect_subject<T: AllocGlobal + Abort + Files>(rt: &T, advisory: &Advisory) -> Result<(), Fail> {
     assert_eq!(rt; advisory.id().as_str(), "RUSTSEC-2001-2101");
     assert_eq!(rt; advisory.metadata.package.as_str(), "base");
     assert_eq!(rt; advisory.title(), "All your base are belong to us");
@@ -179,12 +199,43 @@ fn expect_fields<T: AllocGlobal + Abort + Files>(rt: &T, advisory: &Advisory) ->
         "You have no chance to survive. Make your time."
     );
     assert_eq!(rt; advisory.date().as_str(), "2001-02-03");
-    assert!(rt; advisory.metadata.license == License::CcZero10);
-    assert!(rt; !advisory.withdrawn());
+    assert_eq!(rt; advisory.metadata.aliases.len(), 1);
     let alias = advisory.metadata.aliases.get(0).ok_or("no alias")?;
     assert!(rt; alias.is_cve());
+    assert_eq!(rt; alias.as_str(), "CVE-2001-2101");
     assert_eq!(rt; alias.year(), Some(2001));
     Ok(())
+}
+
+/// Checks how it is sorted, and where more is found.
+fn expect_kinds<T: AllocGlobal + Abort + Files>(rt: &T, advisory: &Advisory) -> Result<(), Fail> {
+    let metadata = &advisory.metadata;
+    assert_eq!(rt; metadata.categories.len(), 2);
+    let first = metadata.categories.get(0).ok_or("no category")?;
+    assert_eq!(rt; first.name(), "code-execution");
+    let second = metadata.categories.get(1).ok_or("no second category")?;
+    assert_eq!(rt; second.name(), "privilege-escalation");
+    assert_eq!(rt; metadata.keywords.len(), 4);
+    let last = metadata.keywords.get(3).ok_or("no last keyword")?;
+    assert_eq!(rt; last.as_str(), "gentlemen");
+    let url = metadata.url.as_ref().ok_or("no address")?;
+    assert_eq!(rt; url.as_str(), "https://www.youtube.com/watch?v=jQE66WA2s-A");
+    assert!(rt; metadata.license == License::CcZero10);
+    Ok(())
+}
+
+/// Checks that it says nothing more.
+fn expect_nothing_more<T: AllocGlobal + Abort + Files>(rt: &T, advisory: &Advisory) {
+    let metadata = &advisory.metadata;
+    assert!(rt; metadata.related.is_empty());
+    assert!(rt; metadata.collection.is_none());
+    assert!(rt; metadata.informational.is_none());
+    assert!(rt; metadata.references.is_empty());
+    assert!(rt; metadata.source.is_none());
+    assert!(rt; metadata.withdrawn.is_none());
+    assert!(rt; !advisory.withdrawn());
+    assert!(rt; !metadata.expect_deleted);
+    assert!(rt; advisory.versions.unaffected().is_empty());
 }
 
 /// Checks its severity.
@@ -203,10 +254,12 @@ fn expect_affected_parts<T: AllocGlobal + Abort + Files>(
     advisory: &Advisory,
 ) -> Result<(), Fail> {
     let affected = advisory.affected.as_ref().ok_or("nothing affected")?;
-    assert!(rt; affected.arch.get(0) == Some(&Arch::X86));
-    assert!(rt; affected.os.get(0) == Some(&OS::Windows));
+    assert!(rt; affected.arch.len() == 1 && affected.arch.get(0) == Some(&Arch::X86));
+    assert!(rt; affected.os.len() == 1 && affected.os.get(0) == Some(&OS::Windows));
+    assert_eq!(rt; affected.functions.len(), 1);
     let path = FunctionPath::from_str(rt.alloc(), "base::belongs::All")?;
     let reqs = affected.functions.get(&path).ok_or("no function")?;
+    assert_eq!(rt; reqs.as_slice().len(), 1);
     let req = reqs.as_slice().first().ok_or("no requirement")?;
     expect_matches(rt, req, "1.2.2", true)?;
     expect_matches(rt, req, "1.2.3", false)
@@ -224,7 +277,20 @@ fn expect_matches<T: AllocGlobal + Abort + Files>(
     Ok(())
 }
 
-/// Checks which versions are vulnerable.
+/// Checks which versions are patched.
+fn expect_patched<T: AllocGlobal + Abort + Files>(rt: &T, advisory: &Advisory) -> Result<(), Fail> {
+    assert_eq!(rt; advisory.versions.patched().len(), 1);
+    let req = advisory
+        .versions
+        .patched()
+        .first()
+        .ok_or("nothing patched")?;
+    expect_matches(rt, req, "1.2.2", false)?;
+    expect_matches(rt, req, "1.2.3", true)?;
+    expect_matches(rt, req, "1.2.4", true)
+}
+
+/// Checks whether a version is vulnerable.
 fn expect_vulnerable<T: AllocGlobal + Abort + Files>(
     rt: &T,
     advisory: &Advisory,
@@ -242,9 +308,12 @@ fn expect_vulnerable<T: AllocGlobal + Abort + Files>(
 
 /// Checks all of the advisory without faults.
 fn expect_valid<T: AllocGlobal + Abort + Files>(rt: &T, advisory: &Advisory) -> Result<(), Fail> {
-    expect_fields(rt, advisory)?;
+    expect_subject(rt, advisory)?;
+    expect_kinds(rt, advisory)?;
+    expect_nothing_more(rt, advisory);
     expect_score(rt, advisory)?;
     expect_affected_parts(rt, advisory)?;
+    expect_patched(rt, advisory)?;
     expect_vulnerable(rt, advisory, "1.2.2", true)?;
     expect_vulnerable(rt, advisory, "1.2.3", false)?;
     expect_vulnerable(rt, advisory, "1.2.4", false)
@@ -252,7 +321,7 @@ fn expect_valid<T: AllocGlobal + Abort + Files>(rt: &T, advisory: &Advisory) -> 
 
 /// Checks all of the advisory in a file.
 fn expect_file<T: AllocGlobal + Abort + Files>(rt: &T, path: &str) -> Result<(), Fail> {
-    let advisory = Advisory::load_file(rt, path)?;
+    let advisory = Advisory::load_file(rt, rt.alloc(), path)?;
     expect_valid(rt, &advisory)
 }
 
@@ -287,9 +356,29 @@ fn advisory_licenses(rt: HostRuntime) -> Result<(), Fail> {
     expect_license(&rt, "MPL-2.0", false)
 }
 
+/// Checks an advisory that is withdrawn, and one whose vector has no score.
+fn expect_withdrawn<T: AllocGlobal + Abort + Files>(rt: &T, text: &str) -> Result<(), Fail> {
+    let advisory = Advisory::from_str(rt.alloc(), text)?;
+    assert!(rt; advisory.withdrawn());
+    assert!(rt; advisory.severity().is_none());
+    Ok(())
+}
+
+#[test]
+fn advisory_withdrawn(rt: HostRuntime) -> Result<(), Fail> {
+    let text = changed(
+        rt.alloc(),
+        VALID,
+        "date = ",
+        "withdrawn = \"2001-02-04\"\ndate = ",
+    )?;
+    let text = changed(rt.alloc(), &text, "CVSS:3.1/", "CVSS:4.0/")?;
+    expect_withdrawn(&rt, &text)
+}
+
 /// The refusal of a file.
 fn refusal_of<T: AllocGlobal + Abort + Files>(rt: &T, path: &str) -> Result<Error, Fail> {
-    match Advisory::load_file(rt, path) {
+    match Advisory::load_file(rt, rt.alloc(), path) {
         Ok(_) => Err(Fail::from("the file was read")),
         Err(error) => Ok(error),
     }
@@ -301,134 +390,47 @@ fn expect_refusal<T: AllocGlobal + Abort + Files>(
     path: &str,
     kind: ErrorKind,
     message: &str,
+    caused: bool,
 ) -> Result<(), Fail> {
     let error = refusal_of(rt, path)?;
     assert_eq!(rt; error.kind(), kind);
     assert_eq!(rt; error.message(), message);
+    assert_eq!(rt; error.cause().is_some(), caused);
     Ok(())
 }
 
 #[test]
 fn files_that_cannot_be_read(rt: HostRuntime) -> Result<(), Fail> {
-    expect_refusal(&rt, "absent.md", ErrorKind::Io, "couldn't open absent.md")?;
+    fs::write(&rt, "no-text.md", b"```toml\n\xff\n```\n# T\n".as_slice())?;
     fs::write(&rt, "no-advisory.md", "# T\n")?;
+    expect_refusal(
+        &rt,
+        "absent.md",
+        ErrorKind::Io,
+        "couldn't open absent.md",
+        false,
+    )?;
+    expect_refusal(
+        &rt,
+        "no-text.md",
+        ErrorKind::Io,
+        "couldn't open no-text.md",
+        false,
+    )?;
     expect_refusal(
         &rt,
         "no-advisory.md",
         ErrorKind::Parse,
         "error parsing no-advisory.md",
+        true,
     )?;
+    fs::remove_file(&rt, "no-text.md")?;
     fs::remove_file(&rt, "no-advisory.md")?;
     Ok(())
 }
 
 #[test]
-fn valid_advisory_lint(rt: HostRuntime) -> Result<(), Fail> {
-    expect_faults(&rt, VALID, Some(false), &[])?;
-    expect_faults(&rt, VALID, None, &[])?;
-    expect_faults(
-        &rt,
-        VALID,
-        Some(true),
-        &[
-            "invalid value `\"RUSTSEC-2001-2101\"` for key `id` in [advisory]: advisory ID draft status does not match file name",
-        ],
-    )
-}
-
-#[test]
-fn invalid_advisory_lint(rt: HostRuntime) -> Result<(), Fail> {
-    expect_faults(&rt, INVALID, Some(false), INVALID_FAULTS)?;
-    let bare = changed(rt.alloc(), INVALID, "[advisory]\n", "")?;
-    expect_faults(&rt, &bare, Some(false), INVALID_FAULTS)
-}
-
-#[test]
-fn lint_single_faults(rt: HostRuntime) -> Result<(), Fail> {
-    for (old, new, fault) in [
-        (
-            "RUSTSEC-2001-2101",
-            "RUSTSEC-2002-2101",
-            "invalid value `\"RUSTSEC-2002-2101\"` for key `id` in [advisory]: year in advisory ID does not match date",
-        ),
-        (
-            "date = ",
-            "license = \"MPL-2.0\"\ndate = ",
-            "invalid value `MPL-2.0` for key `license` in [advisory]: Unknown license",
-        ),
-        (
-            "date = ",
-            "yanked = true\ndate = ",
-            "malformed content in [metadata]: Field `yanked` is deprecated, use `withdrawn` field instead",
-        ),
-    ] {
-        let text = changed(rt.alloc(), VALID, old, new)?;
-        expect_faults(&rt, &text, None, &[fault])?;
-    }
-    Ok(())
-}
-
-#[test]
-fn lint_changes_without_faults(rt: HostRuntime) -> Result<(), Fail> {
-    let withdrawn = changed(
-        rt.alloc(),
-        VALID,
-        "date = ",
-        "yanked = true\nwithdrawn = \"2001-02-04\"\ndate = ",
-    )?;
-    expect_faults(&rt, &withdrawn, None, &[])?;
-    let dashed = changed(rt.alloc(), VALID, "\"base\"", "\"my-base\"")?;
-    let dashed = changed(rt.alloc(), &dashed, "base::belongs::All", "my_base::f")?;
-    expect_faults(&rt, &dashed, None, &[])
-}
-
-#[test]
-fn placeholder_lint(rt: HostRuntime) -> Result<(), Fail> {
-    let text = changed(rt.alloc(), VALID, "RUSTSEC-2001-2101", "RUSTSEC-0000-0000")?;
-    expect_faults(&rt, &text, Some(true), &[])?;
-    expect_faults(&rt, &text, None, &[])?;
-    expect_faults(
-        &rt,
-        &text,
-        Some(false),
-        &[
-            "invalid value `\"RUSTSEC-0000-0000\"` for key `id` in [advisory]: advisory ID draft status does not match file name",
-        ],
-    )
-}
-
-#[test]
-fn lint_command(rt: HostRuntime) -> Result<(), Fail> {
-    expect_output(&rt, &["lint", "x.txt"], "", 2, "refused: parse error\n")?;
-    expect_output(
-        &rt,
-        &["lint", "absent.md"],
-        "",
-        2,
-        "refused: I/O operation failed\n",
-    )?;
-    expect_output(&rt, &["lint"], "", 2, "usage: rustsec_audit COMMAND\n")?;
-    fs::write(&rt, "lint-command.md", VALID)?;
-    expect_output(&rt, &["lint", "lint-command.md"], "", 0, "")?;
-    fs::remove_file(&rt, "lint-command.md")?;
-    Ok(())
-}
-
-#[test]
-fn lint_command_with_faults(rt: HostRuntime) -> Result<(), Fail> {
-    fs::write(&rt, "lint-command-with-faults.md", INVALID)?;
-    let mut lines = String::new(rt.alloc());
-    for fault in INVALID_FAULTS {
-        lines.push_str(fault)?;
-        lines.push_str("\n")?;
-    }
-    expect_output(&rt, &["lint", "lint-command-with-faults.md"], "", 1, &lines)?;
-    fs::remove_file(&rt, "lint-command-with-faults.md")?;
-    Ok(())
-}
-
-#[test]
-fn drafts_by_their_paths(rt: HostRuntime) -> Result<(), Fail> {
+fn drafts_by_their_paths(rt: HostRuntime) {
     for (path, draft) in [
         ("RUSTSEC-0000-0000.md", true),
         ("crates/base/RUSTSEC-0000-0000.x.md", true),
@@ -440,11 +442,14 @@ fn drafts_by_their_paths(rt: HostRuntime) -> Result<(), Fail> {
     ] {
         assert_eq!(rt; Advisory::is_draft(path), draft, "of {path}");
     }
-    Ok(())
 }
 
-/// Checks a copy of an advisory.
-fn expect_copy<T: AllocGlobal + Abort + Files>(rt: &T, advisory: &Advisory) -> Result<(), Fail> {
+/// Checks copies of an advisory and of its parts.
+fn expect_copies<T: AllocGlobal + Abort + Files>(rt: &T, advisory: &Advisory) -> Result<(), Fail> {
+    let affected = advisory.affected.as_ref().ok_or("nothing affected")?;
+    assert!(rt; affected.clone(rt.alloc())? == *affected);
+    assert!(rt; !(Affected::default(rt.alloc()) == *affected));
+    assert!(rt; advisory.metadata.clone(rt.alloc())? == advisory.metadata);
     let copy = advisory.clone(rt.alloc())?;
     assert!(rt; copy == *advisory);
     Ok(())
@@ -453,16 +458,18 @@ fn expect_copy<T: AllocGlobal + Abort + Files>(rt: &T, advisory: &Advisory) -> R
 #[test]
 fn advisories_with_ample_memory(rt: HostRuntime) -> Result<(), Fail> {
     let advisory = Advisory::from_str(rt.alloc(), VALID)?;
-    expect_copy(&rt, &advisory)
+    expect_copies(&rt, &advisory)
 }
 
 #[test]
-fn kinds_of_faults_with_ample_memory(rt: HostRuntime) -> Result<(), Fail> {
-    let key = linter::ErrorKind::key(rt.alloc(), "yanked")?;
-    assert_eq!(rt; key.to_string(rt.alloc())?.as_str(), "invalid key `yanked`");
-    let value = linter::ErrorKind::value(rt.alloc(), "license", "MPL-2.0")?;
-    assert!(rt; value.clone(rt.alloc())? == value);
-    assert!(rt; !(key == value));
+fn addresses_with_ample_memory(rt: HostRuntime) -> Result<(), Fail> {
+    let address = Address::from_str(rt.alloc(), "HTTPS://A.b")?;
+    assert_eq!(rt; address.as_str(), "https://a.b/");
+    assert!(rt; address.clone()? == address);
+    match Address::from_str(rt.alloc(), "a.b") {
+        Ok(_) => return Err(Fail::from("an address without a scheme")),
+        Err(e) => assert_eq!(rt; e.kind(), ErrorKind::Parse),
+    }
     Ok(())
 }
 
@@ -476,4 +483,35 @@ fn advisory_prefixes(rt: HostRuntime) -> Result<(), Fail> {
         assert_eq!(rt; is_advisory(&rt, prefix)?, end >= title, "at {end}");
     }
     Ok(())
+}
+
+/// Checks whether an advisory is one still with so many arrays in one another; `toml` reads 80.
+fn expect_nested<T: AllocGlobal + Abort + Files>(
+    rt: &T,
+    depth: usize,
+    accepted: bool,
+) -> Result<(), Fail> {
+    let open = "[".repeat(rt.alloc(), depth)?;
+    let close = "]".repeat(rt.alloc(), depth)?;
+    let line = format!(in rt.alloc(); "deep = {open}{close}\ndate = ")?;
+    expect_change(rt, "date = ", &line, accepted)
+}
+
+#[test]
+fn advisory_front_matter_nested_to_the_limit(rt: HostRuntime) -> Result<(), Fail> {
+    expect_nested(&rt, 80, true)?;
+    expect_nested(&rt, 81, false)?;
+    expect_nested(&rt, 100000, false)
+}
+
+#[test]
+fn backquotes_alone(rt: HostRuntime) -> Result<(), Fail> {
+    let text = "`".repeat(rt.alloc(), 10000000)?;
+    match Advisory::from_str(rt.alloc(), &text) {
+        Ok(_) => Err(Fail::from("backquotes are no advisory")),
+        Err(e) => {
+            assert_eq!(rt; e.kind(), ErrorKind::Parse);
+            Ok(())
+        }
+    }
 }

@@ -69,7 +69,7 @@ fn cvss_scores(rt: HostRuntime) -> Result<(), Fail> {
             Severity::Medium,
         ),
         (
-            "CVSS:3.1/AV:N/AC:L/PR:N/UI:N/S:C/C:N/I:N/A:N",
+            "CVSS:3.1/AV:N/AC:L/PR:N/UI:R/S:C/C:N/I:N/A:N",
             0,
             Severity::None,
         ),
@@ -97,9 +97,59 @@ fn cvss_vectors(rt: HostRuntime) -> Result<(), Fail> {
     )?;
     expect_refused(&rt, "CVSS:3.0/I:L/C:L/S:C/UI:R/PR:N/AC:L/AV:N")?;
     expect_refused(&rt, "CVSS:3.0/A:N/A:N/I:L/C:L/S:C/UI:R/PR:N/AC:L/AV:N")?;
+    expect_refused(&rt, "CVSS:3.1/AV:L/AC:H/PR:H/UI:R/S:U/C:L/I:N")?;
+    expect_refused(&rt, "CVSS:3.1/AV:L/AC:H/PR:H/UI:R/S:U/C:L/I:N/A:N/A:N")?;
     expect_printed(&rt, "CVSS:4.0/x", "CVSS:4.0/x")?;
+    expect_printed(&rt, "CVSS:4.0/", "CVSS:4.0/")?;
     let kept = Cvss::from_str(rt.alloc(), "CVSS:4.0/x")?;
     assert_eq!(rt; kept.severity(), None);
+    Ok(())
+}
+
+/// Checks which version a vector is of.
+fn expect_version<T: Files + AllocGlobal + Abort>(
+    rt: &T,
+    text: &str,
+    minor_version: usize,
+) -> Result<(), Fail> {
+    match Cvss::from_str(rt.alloc(), text)? {
+        Cvss::CvssV30(base) => {
+            assert!(rt; minor_version == 0);
+            assert_eq!(rt; base.minor_version, 0, "{text}");
+        }
+        Cvss::CvssV31(base) => {
+            assert!(rt; minor_version == 1);
+            assert_eq!(rt; base.minor_version, 1, "{text}");
+        }
+        Cvss::CvssV40(kept) => {
+            assert!(rt; minor_version == 4);
+            assert_eq!(rt; kept.as_str(), text);
+        }
+    }
+    Ok(())
+}
+
+#[test]
+fn cvss_versions(rt: HostRuntime) -> Result<(), Fail> {
+    expect_version(&rt, "CVSS:3.0/AV:N/AC:L/PR:N/UI:N/S:C/C:H/I:H/A:H", 0)?;
+    expect_version(&rt, "CVSS:3.1/S:C/AV:N/A:H/AC:L/I:H/PR:N/C:H/UI:N", 1)?;
+    expect_version(&rt, "CVSS:4.0/x/AV:N", 4)
+}
+
+#[test]
+fn cvss_by_hand(rt: HostRuntime) -> Result<(), Fail> {
+    let vector = Cvss::from_str(rt.alloc(), "CVSS:3.1/AV:N/AC:L/PR:N/UI:N/S:U/C:H/I:H/A:H")?;
+    let base = base_of(&vector).expect(&rt, "a vector of version 3");
+    let later = Base {
+        minor_version: 7,
+        ..base
+    };
+    assert_eq!(rt; later.score_tenths(), 98);
+    let printed = Cvss::CvssV31(later).to_string(rt.alloc())?;
+    assert_eq!(rt;
+        printed.as_str(),
+        "CVSS:3.7/AV:N/AC:L/PR:N/UI:N/S:U/C:H/I:H/A:H"
+    );
     Ok(())
 }
 
@@ -159,7 +209,19 @@ fn severity_names(rt: HostRuntime) -> Result<(), Fail> {
     Ok(())
 }
 
-/// The losses, in the order of the scores below, which are those that the Rust crate `cvss` gives, in tenths.
+/// The rating of a score in tenths, by the table of CVSS 3.1, section 5.
+fn rating_of(tenths: u8) -> Severity {
+    match tenths {
+        0 => Severity::None,
+        1..=39 => Severity::Low,
+        40..=69 => Severity::Medium,
+        70..=89 => Severity::High,
+        _ => Severity::Critical,
+    }
+}
+
+/// The losses, in the order of the scores below. Those are in tenths, by a program of its own: the equations of
+/// CVSS 3.1 in floats, written from the standard.
 const LOSSES: [&str; 27] = [
     "C:N/I:N/A:N",
     "C:N/I:N/A:L",
@@ -201,6 +263,10 @@ fn expect_row<T: Files + AllocGlobal + Abort>(rt: &T, row: &str) -> Result<(), F
         let score = scores.next().expect(rt, "a score for each loss");
         let printed = base.score_tenths().to_string(rt.alloc())?;
         assert_eq!(rt; printed.as_str(), score, "{text}");
+        assert!(rt;
+            vector.severity() == Some(rating_of(base.score_tenths())),
+            "{text}"
+        );
         let again = vector.to_string(rt.alloc())?;
         assert_eq!(rt; again.as_str(), text.as_str());
     }

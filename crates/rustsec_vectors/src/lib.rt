@@ -1,5 +1,6 @@
 //! Worked examples of all crates, each a test of its own name, whose answers come from outside: from
-//! the rules in `docs/DEFINITIONS.md`, worked by hand, or from the Rust crate.
+//! the rules in `docs/DEFINITIONS.md`, worked by hand, from the Rust crate, or from a program of its own
+//! that the test names.
 #![tactic(auto)]
 
 #[cfg(test)]
@@ -11,7 +12,11 @@ mod commands;
 #[cfg(test)]
 mod cvss;
 #[cfg(test)]
+mod files;
+#[cfg(test)]
 mod fixtures;
+#[cfg(test)]
+mod lint;
 #[cfg(test)]
 mod lock;
 #[cfg(test)]

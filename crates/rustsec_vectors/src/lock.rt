@@ -126,13 +126,17 @@ fn expect_no_file<T: Files + AllocGlobal + Abort>(
     path: &str,
     kind: ErrorKind,
 ) -> Result<(), Fail> {
-    assert_eq!(rt; kind_of(Lockfile::load(rt, path)), Some(kind), "of {path}");
+    assert_eq!(rt;
+        kind_of(Lockfile::load(rt, rt.alloc(), path)),
+        Some(kind),
+        "of {path}"
+    );
     Ok(())
 }
 
 /// Checks the lockfile of two packages in a file.
 fn expect_file<T: Files + AllocGlobal + Abort>(rt: &T, path: &str) -> Result<(), Fail> {
-    let lockfile = Lockfile::load(rt, path)?;
+    let lockfile = Lockfile::load(rt, rt.alloc(), path)?;
     expect_two(rt, &lockfile)
 }
 

@@ -1,0 +1,77 @@
+// Advisory files that tests share.
+
+use std::alloc::Global;
+use std::test::Fail;
+
+/// An advisory without faults.
+pub const VALID: &str = "```toml
+[advisory]
+id = \"RUSTSEC-2001-2101\"
+package = \"base\"
+date = \"2001-02-03\"
+url = \"https://www.youtube.com/watch?v=jQE66WA2s-A\"
+categories = [\"code-execution\", \"privilege-escalation\"]
+keywords = [\"how\", \"are\", \"you\", \"gentlemen\"]
+aliases = [\"CVE-2001-2101\"]
+cvss = \"CVSS:3.1/AV:N/AC:L/PR:N/UI:N/S:C/C:H/I:H/A:H\"
+
+[versions]
+patched = [\">= 1.2.3\"]
+
+[affected]
+arch = [\"x86\"]
+os = [\"windows\"]
+functions = { \"base::belongs::All\" = [\"< 1.2.3\"] }
+```
+
+# All your base are belong to us
+
+You have no chance to survive. Make your time.
+";
+
+/// An advisory with seven faults.
+pub const INVALID: &str = "```toml
+[advisory]
+id = \"LULZSEC-2001-2101\"
+package = \"base\"
+collection = \"crates\"
+date = \"2001-02-03\"
+url = \"ftp://www.youtube.com/watch?v=jQE66WA2s-A\"
+categories = [\"invalid-category\"]
+keywords = [\"how\", \"are\", \"you\", \"gentlemen\"]
+aliases = [\"CVE-2001-2101\"]
+cvss = \"CVSS:3.1/AV:N/AC:L/PR:N/UI:N/S:C/C:H/I:H/A:H\"
+invalid-advisory-key = \"invalid\"
+
+[versions]
+patched = [\">= 1.2.3\"]
+
+[affected]
+arch = [\"x86\"]
+os = [\"windows\"]
+functions = { \"notyourbase::belongs::All\" = [\"< 1.2.3\"] }
+
+[invalid-section]
+```
+
+# All your base are belong to us
+
+You have no chance to survive. Make your time.
+";
+
+/// Its faults where its file is no draft's.
+pub const INVALID_FAULTS: &[&str] = &[
+    "invalid value `invalid-category` for key `category` in [advisory]: unknown category",
+    "malformed content in [advisory]: collection shouldn't be explicit; inferred by location",
+    "invalid value `\"LULZSEC-2001-2101\"` for key `id` in [advisory]: unknown advisory ID type",
+    "invalid key `invalid-advisory-key` in [advisory]",
+    "invalid value `\"ftp://www.youtube.com/watch?v=jQE66WA2s-A\"` for key `url` in [advisory]: URL must start with https://",
+    "invalid value `notyourbase::belongs::All` for key `functions` in [affected]: function path must start with crate name",
+    "invalid key `invalid-section` in toplevel",
+];
+
+/// A text with its first place of another one changed.
+pub fn changed(alloc: Global, text: &str, old: &str, new: &str) -> Result<String, Fail> {
+    let (before, after) = text.split_once(old).ok_or("there is nothing to change")?;
+    Ok(format!(in alloc; "{before}{new}{after}")?)
+}
