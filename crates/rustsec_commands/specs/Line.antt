@@ -1,5 +1,5 @@
 -- The lines of the input, and what each of them says.
-use Rattle.std.specs.Prelude.{ℕ, ◌-◌, ◌==◌, Bool, List, length, take, drop, Option, Some, None, codes, nat_eq, option_map, slice_index, if◌then◌else◌}
+use Rattle.std.specs.Prelude.{ℕ, ◌-◌, ◌==◌, List, length, take, drop, Option, Some, None, codes, nat_eq, option_map, slice_index, if◌then◌else◌}
 use Rattle.std.specs.List.{slice_split, starts_with}
 use Rattle.std.specs.Str.{is_utf8}
 use Rattle.semver.specs.Parse.{Held, Parts, req_of, version_parts}

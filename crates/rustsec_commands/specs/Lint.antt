@@ -1,5 +1,5 @@
 -- What the command `lint` writes for a file.
-use Rattle.std.specs.Prelude.{◌≡◌, ◌++◌, ◌==◌, ◌⊎◌, ℕ, List, Some, codes, false, flat_map, length, true, if◌then◌else◌}
+use Rattle.std.specs.Prelude.{◌≡◌, ◌++◌, ◌==◌, ℕ, List, Some, codes, false, flat_map, length, true, if◌then◌else◌}
 use Rattle.rustsec_advisory.specs.Advisory.{IsAdvisory}
 use Rattle.rustsec_advisory.specs.Faults.{Fault, fault_text}
 use Rattle.rustsec_advisory.specs.Lints.{Lints}

@@ -1,5 +1,5 @@
 -- What a contract sees of a line that was read, and of what the lines ask.
-use Rattle.std.specs.Prelude.{List, [], ◌∷◌, ◌++◌}
+use Rattle.std.specs.Prelude.{[], ◌∷◌, ◌++◌}
 use Rattle.semver.specs.Identifiers.{parts_of}
 use Rattle.rustsec_versions.specs.Views.{comparators_of}
 use Rattle.rustsec_commands.specs.Asked.{Asked}

@@ -1,4 +1,3 @@
-use Rattle.std.proofs.Common.{◌≡◌}
 use Rattle.rustsec_commands.specs.declared.asked.Question.TheVariants as question
 use Rattle.rustsec_commands.proofs.Turns.{affected-given, affected-malformed, said-input}
 use Rattle.rustsec_commands.proofs.output.affected_output.Goals as goal
