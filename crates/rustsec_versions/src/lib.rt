@@ -3,6 +3,7 @@
 
 mod comparator;
 mod error;
+mod from_text;
 mod interval;
 mod next_version;
 mod print;
@@ -12,6 +13,7 @@ mod starts;
 mod versions;
 
 pub use crate::error::{Error, ErrorKind, Result};
+pub use crate::from_text::FromText;
 pub use crate::interval::{Bound, UnaffectedRange};
 pub use crate::next_version::successor;
 pub use crate::print::requirement_text;
