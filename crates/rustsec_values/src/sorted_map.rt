@@ -1,17 +1,20 @@
 // A map that contracts see as the list of its entries, in the order of the keys.
 
-ghost use Rattle.std.specs.Prelude.{◌≡◌, ◌==◌, ◌&&◌, [], List, IfOk, OnOk, OnErr, length};
+ghost use Rattle.std.specs.Prelude.{◌≡◌, ◌==◌, ◌&&◌, ◌<◌, ◌^◌, [], List, IfOk, OnOk, OnErr, length};
 ghost use Rattle.std.specs.BTreeMap.{insert_entry, is_at};
 ghost use Rattle.std.specs.Cmp.{and_equiv, and_per, on_equiv, on_per};
 ghost use Rattle.std.specs.Cmp.Lexicographic.{lists_equiv, lists_per, pointwise, pointwise_decides};
 ghost use Rattle.std.specs.List.Sorted.{IsStrictlySortedBy};
+ghost use Rattle.std.specs.BTreeMap.{IsOrdered};
 ghost use Rattle.std.specs.Map.{keys_of, lookup};
+ghost use Rattle.std.specs.Map.Iter.{ShowsInOrder, deref_pair};
 ghost use Rattle.std.specs.Option.{option_copied};
 ghost use Rattle.rustsec_values.specs.Equality.{pair_decides};
 
 use crate::laws::{ExactClone, ExactEq};
 use std::alloc::{AllocError, Global};
-use std::collections::BTreeMap;
+use std::collections::{BTreeMap, btree_map};
+use std::fmt;
 use std::marker::Model;
 
 /// A map from keys to values, which every contract sees as the list of its entries in the order of
@@ -65,6 +68,30 @@ impl<K: Ord, V> SortedMap<K, V> {
     {
         self.map.get(key)
     }
+
+    /// The entries, in the order of the keys.
+    pub fn iter(&self) -> btree_map::Iter<'_, K, V>
+        ensures rest { result ≡ self.now }
+        ensures runs { ShowsInOrder (deref_pair {K = K} {X = V}) }
+        ensures ordered { IsStrictlySortedBy K.cmp (keys_of self.now) }
+        ensures fits { length self.now < 2 ^ 63 }
+    {
+        self.map.iter()
+    }
+}
+
+impl<'a, K: Ord, V> IntoIterator for &'a SortedMap<K, V> {
+    type Item = (&'a K, &'a V);
+
+    type IntoIter = btree_map::Iter<'a, K, V>;
+
+    ghost into_iter_gives = { λ m it. (it ≡ m.now) × (length m.now < 2 ^ 63) × ShowsInOrder (deref_pair {K = K} {X = V})
+        × IsStrictlySortedBy K.cmp (keys_of m.now) };
+
+    /// The entries, in the order of the keys.
+    fn into_iter(self) -> btree_map::Iter<'a, K, V> {
+        self.iter()
+    }
 }
 
 impl<K: Ord + Drop, V: Drop> SortedMap<K, V> {
@@ -72,7 +99,7 @@ impl<K: Ord + Drop, V: Drop> SortedMap<K, V> {
     ///
     /// # Errors
     ///
-    /// Want of memory, which drops the entry and leaves the map as it was.
+    /// Out of memory, which drops the entry and leaves the map as it was.
     pub fn insert(&mut self, key: K, value: V) -> Result<(), AllocError>
         ensures ok { OnOk result (self.new ≡ insert_entry K.cmp self.old key value) }
         ensures err { OnErr result (self.new ≡ self.old) }
@@ -134,4 +161,10 @@ impl<K: Ord, V: Eq> Eq for SortedMap<K, V> {
 
 impl<K: Ord + ExactEq, V: ExactEq> ExactEq for SortedMap<K, V> {
     ghost decides = { pointwise_decides (pair_decides K.eq V.eq K.decides V.decides) };
+}
+
+impl<K: Ord + fmt::Debug, V: fmt::Debug> fmt::Debug for SortedMap<K, V> {
+    fn fmt<W: fmt::Write>(&self, f: &mut fmt::Formatter<W>) -> fmt::Result {
+        f.debug_map().entries(self.iter()).finish()
+    }
 }

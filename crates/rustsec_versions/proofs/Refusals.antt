@@ -14,7 +14,7 @@ pub refused_by : (k : ErrorKind) (e : Failure) {P Q : Type 0} → (P → Q) → 
 refused_by k e follows (inl bad) = inl (bad.0, follows bad.1)
 refused_by k e follows (inr memory) = inr memory
 
--- no reason for a refusal leaves want of memory
+-- a refusal whose reason never holds is out of memory
 pub only_memory : {A : Type 0} (k : ErrorKind) (r : Result A Failure) {P : Type 0} → ¬ P → IfErr r (IsRefusal k P) → IfErr r IsMemory
 only_memory k (Ok x) never h = tt
 only_memory k (Err e) never (inl bad) = absurd (never bad.1)

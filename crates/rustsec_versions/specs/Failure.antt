@@ -14,19 +14,19 @@ abbrev pub or_empty : Option (List ℕ) → List ℕ
 or_empty None = []
 or_empty (Some text) = text
 
--- want of memory, which has no message
+-- the error of refused memory, which has no message
 abbrev pub out_of_memory : Failure
 out_of_memory = record { kind = kind.OutOfMemory; message = []; cause = None }
 
--- want of memory only
+-- refused for memory alone
 abbrev pub IsMemory : Failure → Type 0
 IsMemory e = e ≡ out_of_memory
 
--- refused with this kind, which means that the reason holds; or want of memory
+-- refused with this kind, which means that the reason holds; or out of memory
 abbrev pub IsRefusal : ErrorKind → Type 0 → Failure → Type 0
 IsRefusal k reason e = ((e.kind ≡ k) × reason) ⊎ (e ≡ out_of_memory)
 
--- refused with this kind, or want of memory for the message
+-- refused with this kind, or out of memory for the message
 abbrev pub IsOfKind : ErrorKind → Failure → Type 0
 IsOfKind k e = (e.kind ≡ k) ⊎ (e ≡ out_of_memory)
 

@@ -14,7 +14,7 @@ use crate::interval::Bound;
 use semver::{BuildMetadata, Comparator, Op, Prerelease, Version, VersionReq};
 use std::alloc::{AllocError, Global};
 
-/// Whether an error of `semver` is want of memory.
+/// Whether an error of `semver` says that memory was refused.
 fn is_memory(e: semver::Error) -> bool
     ensures { e ≡ memory_error → result ≡ true }
 {

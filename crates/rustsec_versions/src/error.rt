@@ -78,7 +78,7 @@ impl Model for Error {
 }
 
 impl Error {
-    /// An error with a copy of this message, or want of memory where there is none for the copy.
+    /// An error with a copy of this message, or `OutOfMemory` where there is none for the copy.
     pub fn new(alloc: Global, kind: ErrorKind, message: &str) -> Error
         ensures { (result ≡ record { kind = kind; message = message.now; cause = None })
             ⊎ (result ≡ out_of_memory) }
@@ -122,7 +122,7 @@ impl Error {
         self.kind
     }
 
-    /// The message, which is empty for want of memory.
+    /// The message, which is empty if the kind is `OutOfMemory`.
     pub fn message(&self) -> &str
         ensures { result.now ≡ self.now.message }
     {
@@ -177,7 +177,7 @@ impl From<AllocError> for Error {
 
     ghost from_gives = { λ _ e. e ≡ out_of_memory };
 
-    /// Want of memory, which takes none.
+    /// The error of refused memory, which takes none.
     fn from(_: AllocError) -> Error {
         Error {
             kind: ErrorKind::OutOfMemory,
