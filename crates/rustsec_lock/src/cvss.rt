@@ -11,7 +11,7 @@ use crate::metrics::{
 };
 use crate::severity::Severity;
 use rustsec_values::{ExactClone, ExactEq, Text};
-use rustsec_versions::{Error, ErrorKind, Result};
+use rustsec_versions::{Error, ErrorKind, FromText, Result};
 use std::alloc::{AllocError, Global};
 use std::fmt;
 
@@ -154,6 +154,16 @@ impl Cvss {
     {
         let copy = Clone::clone(self)?;
         Ok(copy)
+    }
+}
+
+impl FromText for Cvss {
+    ghost use Rattle.rustsec_lock.specs.Cvss.{cvss_of};
+
+    ghost reads = { cvss_of };
+
+    fn from_text(alloc: Global, text: &str) -> Result<Cvss> {
+        Cvss::from_str(alloc, text)
     }
 }
 

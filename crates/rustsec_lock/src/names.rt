@@ -6,7 +6,7 @@ ghost use Rattle.rustsec_lock.specs.Names.{name_cmp, name_of};
 
 use crate::refusal::refused;
 use rustsec_values::{ExactClone, ExactEq, StatedOrder, Text};
-use rustsec_versions::{ErrorKind, Result};
+use rustsec_versions::{ErrorKind, FromText, Result};
 use std::alloc::{AllocError, Global};
 use std::convert::AsStr;
 use std::fmt;
@@ -69,6 +69,16 @@ impl Name {
     {
         let copy = Clone::clone(self)?;
         Ok(copy)
+    }
+}
+
+impl FromText for Name {
+    ghost use Rattle.rustsec_lock.specs.Names.{name_of};
+
+    ghost reads = { name_of };
+
+    fn from_text(alloc: Global, text: &str) -> Result<Name> {
+        Name::from_str(alloc, text)
     }
 }
 

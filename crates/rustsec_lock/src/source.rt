@@ -10,7 +10,7 @@ ghost use Rattle.rustsec_lock.specs.Source.{default_source, is_default, kind_of,
 
 use crate::refusal::refused;
 use rustsec_values::{ExactClone, ExactEq, Text};
-use rustsec_versions::{ErrorKind, Result};
+use rustsec_versions::{ErrorKind, FromText, Result};
 use std::alloc::{AllocError, Global};
 use std::cmp::Ordering;
 use std::fmt;
@@ -207,6 +207,16 @@ impl SourceId {
     {
         let copy = Clone::clone(self)?;
         Ok(copy)
+    }
+}
+
+impl FromText for SourceId {
+    ghost use Rattle.rustsec_lock.specs.Source.{source_id_of};
+
+    ghost reads = { source_id_of };
+
+    fn from_text(alloc: Global, text: &str) -> Result<SourceId> {
+        SourceId::from_url(alloc, text)
     }
 }
 

@@ -5,7 +5,7 @@ ghost use Rattle.rustsec_versions.specs.Failure.{IsMemory};
 ghost use Rattle.rustsec_texts.specs.Categories.{category_cmp, category_name, category_of};
 
 use rustsec_values::{ExactClone, ExactEq, StatedOrder, Text};
-use rustsec_versions::Result;
+use rustsec_versions::{FromText, Result};
 use std::alloc::{AllocError, Global};
 use std::fmt;
 
@@ -97,6 +97,17 @@ impl Category {
     {
         let copy = Clone::clone(self)?;
         Ok(copy)
+    }
+}
+
+impl FromText for Category {
+    ghost use Rattle.std.specs.Prelude.{Some};
+    ghost use Rattle.rustsec_texts.specs.Categories.{category_of};
+
+    ghost reads = { λ text. Some (category_of text) };
+
+    fn from_text(alloc: Global, text: &str) -> Result<Category> {
+        Category::from_str(alloc, text)
     }
 }
 

@@ -5,7 +5,7 @@ ghost use Rattle.rustsec_versions.specs.Failure.{IsRefusal};
 ghost use Rattle.rustsec_texts.specs.Collections.{collection_cmp, collection_name, collection_of, collections};
 
 use rustsec_values::{ExactClone, ExactEq, StatedOrder};
-use rustsec_versions::{Error, ErrorKind, Result};
+use rustsec_versions::{Error, ErrorKind, FromText, Result};
 use std::alloc::Global;
 use std::fmt;
 
@@ -27,9 +27,9 @@ impl Collection {
     }
 
     /// The name, as `from_str` reads it.
-    pub fn as_str(self) -> &'static str
-        ensures value { result.now ≡ collection_name self }
-        ensures read { collection_of result.now ≡ Some self }
+    pub fn as_str(&self) -> &'static str
+        ensures value { result.now ≡ collection_name self.now }
+        ensures read { collection_of result.now ≡ Some self.now }
     {
         match self {
             Collection::Crates => "crates",
@@ -41,10 +41,13 @@ impl Collection {
     ///
     /// # Errors
     ///
-    /// `Parse` for any other text; `OutOfMemory`.
+    /// `Parse` for any other text; `OutOfMemory` in its place if there is no memory for the message.
     pub fn from_str(alloc: Global, text: &str) -> Result<Collection>
         ensures ok { IfOk result (λ c. collection_of text.now ≡ Some c) }
         ensures err { IfErr result (IsRefusal ErrorKind.Parse (collection_of text.now ≡ None)) }
+
+        // Any error, of memory too, means that the text is none of the names.
+        ensures none { IfErr result (λ e. collection_of text.now ≡ None) }
         ensures printed { IfOk result (λ c. collection_name c ≡ text.now) }
     {
         match text {
@@ -52,6 +55,16 @@ impl Collection {
             "rust" => Ok(Collection::Rust),
             _ => Err(Error::new(alloc, ErrorKind::Parse, "not a collection")),
         }
+    }
+}
+
+impl FromText for Collection {
+    ghost use Rattle.rustsec_texts.specs.Collections.{collection_of};
+
+    ghost reads = { collection_of };
+
+    fn from_text(alloc: Global, text: &str) -> Result<Collection> {
+        Collection::from_str(alloc, text)
     }
 }
 

@@ -12,7 +12,7 @@ ghost use Rattle.rustsec_texts.specs.Dates.{Day, date_of, day_numbers, day_of, i
 
 use crate::numbers::{digits, three_parts};
 use rustsec_values::{ExactClone, ExactEq, Text};
-use rustsec_versions::{Error, ErrorKind, Result};
+use rustsec_versions::{Error, ErrorKind, FromText, Result};
 use std::alloc::{AllocError, Global};
 use std::cmp::Ordering;
 use std::convert::AsStr;
@@ -139,6 +139,16 @@ impl Date {
     {
         let copy = Clone::clone(self)?;
         Ok(copy)
+    }
+}
+
+impl FromText for Date {
+    ghost use Rattle.rustsec_texts.specs.Dates.{date_of};
+
+    ghost reads = { date_of };
+
+    fn from_text(alloc: Global, text: &str) -> Result<Date> {
+        Date::from_str(alloc, text)
     }
 }
 

@@ -11,7 +11,7 @@ ghost use Rattle.rustsec_texts.specs.Paths.{IsPathOf, between_colons, is_identif
 
 use crate::identifier::Identifier;
 use rustsec_values::{ExactClone, ExactEq, Items};
-use rustsec_versions::{Error, ErrorKind, Result};
+use rustsec_versions::{Error, ErrorKind, FromText, Result};
 use std::alloc::{AllocError, Global};
 use std::cmp::Ordering;
 use std::hash::{Hash, Hasher};
@@ -125,6 +125,16 @@ impl FunctionPath {
     {
         let copy = Clone::clone(self)?;
         Ok(copy)
+    }
+}
+
+impl FromText for FunctionPath {
+    ghost use Rattle.rustsec_texts.specs.Paths.{path_of};
+
+    ghost reads = { path_of };
+
+    fn from_text(alloc: Global, text: &str) -> Result<FunctionPath> {
+        FunctionPath::from_str(alloc, text)
     }
 }
 

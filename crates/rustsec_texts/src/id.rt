@@ -11,7 +11,7 @@ ghost use Rattle.rustsec_texts.specs.declared.id_kind.IdKind.TheVariants as vari
 use crate::id_kind::IdKind;
 use crate::numbers::{number, three_parts};
 use rustsec_values::{ExactClone, ExactEq, Text};
-use rustsec_versions::{Error, ErrorKind, Result};
+use rustsec_versions::{Error, ErrorKind, FromText, Result};
 use std::alloc::{AllocError, Global};
 use std::cmp::Ordering;
 use std::convert::AsStr;
@@ -228,6 +228,16 @@ impl Id {
     {
         let copy = Clone::clone(self)?;
         Ok(copy)
+    }
+}
+
+impl FromText for Id {
+    ghost use Rattle.rustsec_texts.specs.Ids.{id_of};
+
+    ghost reads = { id_of };
+
+    fn from_text(alloc: Global, text: &str) -> Result<Id> {
+        Id::from_str(alloc, text)
     }
 }
 

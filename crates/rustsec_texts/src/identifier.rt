@@ -1,28 +1,20 @@
 //! The identifiers of function paths.
 
-ghost use Rattle.std.specs.Prelude.{◌≡◌, IfErr, IfOk, None, Some, nat_eq, refl, true};
-ghost use Rattle.std.proofs.Common.{rules};
-ghost use Rattle.std.specs.Cmp.{partial_equiv_from_equiv};
-ghost use Rattle.std.specs.Cmp.Lexicographic.{bytes_decides, nat_list_cmp_total, nat_list_eq_equiv, pointwise, slice_cmp, texts_po, texts_ties};
-ghost use Rattle.std.specs.Cmp.Rules.{hashing};
-ghost use Rattle.std.specs.Hash as fed;
+ghost use Rattle.std.specs.Prelude.{◌≡◌, IfErr, IfOk, None, Some};
 ghost use Rattle.std.specs.List.{list_all};
-ghost use Rattle.std.specs.Ordering.{nat_cmp};
 ghost use Rattle.rustsec_versions.specs.Failure.{IsMemory, IsRefusal};
 ghost use Rattle.rustsec_texts.specs.Paths.{identifier_of, is_first, is_identifier, is_later};
 
-use rustsec_values::{ExactClone, ExactEq, Text};
-use rustsec_versions::{Error, ErrorKind, Result};
+use rustsec_values::{ExactClone, ExactEq, StatedOrder, Text};
+use rustsec_versions::{Error, ErrorKind, FromText, Result};
 use std::alloc::{AllocError, Global};
-use std::cmp::Ordering;
 use std::convert::AsStr;
 use std::fmt;
-use std::hash::{Hash, Hasher};
 use std::marker::Model;
 
 /// An identifier of a function path: a letter, `_` or `<`, and then letters, digits, `_`, `<`, `>` or `,`,
 /// all of ASCII.
-#[derive(Debug, Drop)]
+#[derive(PartialEq, Eq, PartialOrd, Ord, Hash, Debug, Drop)]
 pub struct Identifier {
     text: Text,
 }
@@ -36,6 +28,8 @@ impl Model for Identifier {
     ghost view = { λ i. i.text };
 
     ghost invariant = { λ i. is_identifier i.text ≡ true };
+
+    ghost inverse = { λ t. record { text = t } };
 }
 
 /// Whether an identifier may begin with this character.
@@ -111,6 +105,16 @@ impl Identifier {
     }
 }
 
+impl FromText for Identifier {
+    ghost use Rattle.rustsec_texts.specs.Paths.{identifier_of};
+
+    ghost reads = { identifier_of };
+
+    fn from_text(alloc: Global, text: &str) -> Result<Identifier> {
+        Identifier::from_str(alloc, text)
+    }
+}
+
 impl Clone for Identifier {
     ghost is_clone = { λ a b. b ≡ a };
 
@@ -124,57 +128,21 @@ impl ExactClone for Identifier {
     ghost exact = { λ x y e. e };
 }
 
-impl PartialEq for Identifier {
-    ghost eq = { pointwise nat_eq };
-
-    ghost laws = { partial_equiv_from_equiv nat_list_eq_equiv };
-
-    fn eq(&self, other: &Identifier) -> bool {
-        self.text == other.text
-    }
-}
-
-impl Eq for Identifier {
-    ghost laws = { nat_list_eq_equiv };
-}
-
 impl ExactEq for Identifier {
+    ghost use Rattle.std.specs.Cmp.Lexicographic.{bytes_decides};
+
     ghost decides = { bytes_decides };
 }
 
-impl PartialOrd for Identifier {
-    ghost partial_cmp = { λ a b. Some (slice_cmp nat_cmp a b) };
+impl StatedOrder for Identifier {
+    ghost use Rattle.std.specs.Cmp.Lexicographic.{slice_cmp};
+    ghost use Rattle.std.specs.Cmp.Rules.{comparing};
+    ghost use Rattle.std.specs.Ordering.{nat_cmp};
+    ghost use Rattle.std.proofs.Common.{rules};
 
-    ghost laws = { texts_po };
+    ghost order = { slice_cmp nat_cmp };
 
-    fn partial_cmp(&self, other: &Identifier) -> Option<Ordering> {
-        Some(self.cmp(other))
-    }
-}
-
-impl Ord for Identifier {
-    ghost cmp = { slice_cmp nat_cmp };
-
-    ghost total = { nat_list_cmp_total };
-
-    ghost matches_partial_cmp = { λ a b. refl };
-
-    ghost matches_eq = { texts_ties };
-
-    /// By text.
-    fn cmp(&self, other: &Identifier) -> Ordering {
-        self.text.cmp(&other.text)
-    }
-}
-
-impl Hash for Identifier {
-    ghost hash_input = { λ i. fed.str i };
-
-    ghost respects_eq = { Prim.search (hashing, rules) };
-
-    fn hash<H: Hasher>(&self, state: &mut H) {
-        self.text.hash(state);
-    }
+    ghost agrees = { λ x y. Prim.search (comparing, rules) };
 }
 
 impl fmt::Display for Identifier {

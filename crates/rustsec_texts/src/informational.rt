@@ -6,7 +6,7 @@ ghost use Rattle.rustsec_texts.specs.Informational.{informational_cmp, informati
 
 use crate::warning_kind::WarningKind;
 use rustsec_values::{ExactClone, ExactEq, StatedOrder, Text};
-use rustsec_versions::Result;
+use rustsec_versions::{FromText, Result};
 use std::alloc::{AllocError, Global};
 use std::fmt;
 
@@ -110,6 +110,17 @@ impl Informational {
     {
         let copy = Clone::clone(self)?;
         Ok(copy)
+    }
+}
+
+impl FromText for Informational {
+    ghost use Rattle.std.specs.Prelude.{Some};
+    ghost use Rattle.rustsec_texts.specs.Informational.{informational_of};
+
+    ghost reads = { λ text. Some (informational_of text) };
+
+    fn from_text(alloc: Global, text: &str) -> Result<Informational> {
+        Informational::from_str(alloc, text)
     }
 }
 

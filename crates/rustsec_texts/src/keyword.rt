@@ -1,21 +1,17 @@
 // Keywords of advisories.
 
-ghost use Rattle.std.specs.Prelude.{◌≡◌, IfErr, IfOk, Some, nat_eq, refl};
-ghost use Rattle.std.specs.Cmp.{partial_equiv_from_equiv};
-ghost use Rattle.std.specs.Cmp.Lexicographic.{bytes_decides, nat_list_cmp_total, nat_list_eq_equiv, pointwise, slice_cmp, texts_po, texts_ties};
-ghost use Rattle.std.specs.Ordering.{nat_cmp};
+ghost use Rattle.std.specs.Prelude.{◌≡◌, IfErr, IfOk};
 ghost use Rattle.rustsec_versions.specs.Failure.{IsMemory};
 
-use rustsec_values::{ExactClone, ExactEq, Text};
-use rustsec_versions::Result;
+use rustsec_values::{ExactClone, ExactEq, StatedOrder, Text};
+use rustsec_versions::{FromText, Result};
 use std::alloc::{AllocError, Global};
-use std::cmp::Ordering;
 use std::convert::AsStr;
 use std::fmt;
 use std::marker::Model;
 
 /// A keyword of an advisory, which may be any text. Keywords are ordered by their bytes.
-#[derive(Debug, Drop)]
+#[derive(PartialEq, Eq, PartialOrd, Ord, Debug, Drop)]
 pub struct Keyword {
     text: Text,
 }
@@ -26,6 +22,8 @@ impl Model for Keyword {
     ghost Value = { List ℕ };
 
     ghost view = { λ k. k.text };
+
+    ghost inverse = { λ t. record { text = t } };
 }
 
 impl Keyword {
@@ -63,6 +61,16 @@ impl Keyword {
     }
 }
 
+impl FromText for Keyword {
+    ghost use Rattle.std.specs.Prelude.{Some};
+
+    ghost reads = { λ text. Some text };
+
+    fn from_text(alloc: Global, text: &str) -> Result<Keyword> {
+        Keyword::from_str(alloc, text)
+    }
+}
+
 impl Clone for Keyword {
     ghost is_clone = { λ a b. b ≡ a };
 
@@ -76,46 +84,21 @@ impl ExactClone for Keyword {
     ghost exact = { λ x y e. e };
 }
 
-impl PartialEq for Keyword {
-    ghost eq = { pointwise nat_eq };
-
-    ghost laws = { partial_equiv_from_equiv nat_list_eq_equiv };
-
-    fn eq(&self, other: &Keyword) -> bool {
-        self.text == other.text
-    }
-}
-
-impl Eq for Keyword {
-    ghost laws = { nat_list_eq_equiv };
-}
-
 impl ExactEq for Keyword {
+    ghost use Rattle.std.specs.Cmp.Lexicographic.{bytes_decides};
+
     ghost decides = { bytes_decides };
 }
 
-impl PartialOrd for Keyword {
-    ghost partial_cmp = { λ a b. Some (slice_cmp nat_cmp a b) };
+impl StatedOrder for Keyword {
+    ghost use Rattle.std.specs.Cmp.Lexicographic.{slice_cmp};
+    ghost use Rattle.std.specs.Cmp.Rules.{comparing};
+    ghost use Rattle.std.specs.Ordering.{nat_cmp};
+    ghost use Rattle.std.proofs.Common.{rules};
 
-    ghost laws = { texts_po };
+    ghost order = { slice_cmp nat_cmp };
 
-    fn partial_cmp(&self, other: &Keyword) -> Option<Ordering> {
-        Some(self.cmp(other))
-    }
-}
-
-impl Ord for Keyword {
-    ghost cmp = { slice_cmp nat_cmp };
-
-    ghost total = { nat_list_cmp_total };
-
-    ghost matches_partial_cmp = { λ a b. refl };
-
-    ghost matches_eq = { texts_ties };
-
-    fn cmp(&self, other: &Keyword) -> Ordering {
-        self.text.cmp(&other.text)
-    }
+    ghost agrees = { λ x y. Prim.search (comparing, rules) };
 }
 
 impl fmt::Display for Keyword {

@@ -5,7 +5,7 @@ ghost use Rattle.rustsec_versions.specs.Failure.{IsMemory};
 ghost use Rattle.rustsec_texts.specs.Licenses.{default_license, license_name, license_of};
 
 use rustsec_values::{ExactClone, ExactEq, Text};
-use rustsec_versions::Result;
+use rustsec_versions::{FromText, Result};
 use std::alloc::{AllocError, Global};
 use std::fmt;
 
@@ -72,6 +72,17 @@ impl License {
     {
         let copy = Clone::clone(self)?;
         Ok(copy)
+    }
+}
+
+impl FromText for License {
+    ghost use Rattle.std.specs.Prelude.{Some};
+    ghost use Rattle.rustsec_texts.specs.Licenses.{license_of};
+
+    ghost reads = { λ text. Some (license_of text) };
+
+    fn from_text(alloc: Global, text: &str) -> Result<License> {
+        License::from_str(alloc, text)
     }
 }
 

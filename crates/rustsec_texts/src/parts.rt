@@ -29,7 +29,7 @@ impl<'a> Parts<'a> {
     ///
     /// # Errors
     ///
-    /// `Parse` for a text without them; `OutOfMemory` for want of memory for the message.
+    /// `Parse` for a text without them; `OutOfMemory` in its place if there is no memory for the message.
     pub fn parse(alloc: Global, text: &'a str) -> Result<Parts<'a>>
         ensures ok { IfOk result (λ p. parts_of text.now ≡ Some (record {
           front_matter = p.front_matter.now;
@@ -38,6 +38,9 @@ impl<'a> Parts<'a> {
           description = p.description.now;
         })) }
         ensures err { IfErr result (IsRefusal ErrorKind.Parse (parts_of text.now ≡ None)) }
+
+        // Any error, of memory too, means that the text has no parts.
+        ensures none { IfErr result (λ e. parts_of text.now ≡ None) }
         ensures wrong_start { IfErr result (λ e. behind opening text.now ≡ None → IsRefusal ErrorKind.Parse (ShowsBeginning text.now e) e) }
         ensures slices { IfOk result (λ p. IsSliceOf p.front_matter.now text.now × IsSliceOf p.markdown.now text.now
             × IsSliceOf p.title.now text.now × IsSliceOf p.description.now text.now) }

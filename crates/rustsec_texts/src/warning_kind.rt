@@ -5,7 +5,7 @@ ghost use Rattle.rustsec_versions.specs.Failure.{IsRefusal};
 ghost use Rattle.rustsec_texts.specs.WarningKinds.{warning_kind_cmp, warning_kind_name, warning_kind_of};
 
 use rustsec_values::{ExactClone, ExactEq, StatedOrder};
-use rustsec_versions::{Error, ErrorKind, Result};
+use rustsec_versions::{Error, ErrorKind, FromText, Result};
 use std::alloc::Global;
 use std::fmt;
 
@@ -24,9 +24,9 @@ pub enum WarningKind {
 
 impl WarningKind {
     /// The text of the kind, as `from_str` reads it.
-    pub fn as_str(self) -> &'static str
-        ensures value { result.now ≡ warning_kind_name self }
-        ensures read { warning_kind_of result.now ≡ Some self }
+    pub fn as_str(&self) -> &'static str
+        ensures value { result.now ≡ warning_kind_name self.now }
+        ensures read { warning_kind_of result.now ≡ Some self.now }
     {
         match self {
             WarningKind::Notice => "notice",
@@ -40,10 +40,13 @@ impl WarningKind {
     ///
     /// # Errors
     ///
-    /// `Parse` for any other text; `OutOfMemory`.
+    /// `Parse` for any other text; `OutOfMemory` in its place if there is no memory for the message.
     pub fn from_str(alloc: Global, text: &str) -> Result<WarningKind>
         ensures ok { IfOk result (λ k. warning_kind_of text.now ≡ Some k) }
         ensures err { IfErr result (IsRefusal ErrorKind.Parse (warning_kind_of text.now ≡ None)) }
+
+        // Any error, of memory too, means that the text is none of the names.
+        ensures none { IfErr result (λ e. warning_kind_of text.now ≡ None) }
         ensures printed { IfOk result (λ k. warning_kind_name k ≡ text.now) }
     {
         match text {
@@ -53,6 +56,16 @@ impl WarningKind {
             "yanked" => Ok(WarningKind::Yanked),
             _ => Err(Error::new(alloc, ErrorKind::Parse, "not a kind of warning")),
         }
+    }
+}
+
+impl FromText for WarningKind {
+    ghost use Rattle.rustsec_texts.specs.WarningKinds.{warning_kind_of};
+
+    ghost reads = { warning_kind_of };
+
+    fn from_text(alloc: Global, text: &str) -> Result<WarningKind> {
+        WarningKind::from_str(alloc, text)
     }
 }
 
