@@ -1,0 +1,117 @@
+//! The text of a file, and the bytes of any reader, to their end.
+
+ghost use Rattle.std.specs.Prelude.{◌≡◌, ◌↔◌, IfErr, IfOk, IfSome, IsUtf8, string_bytes, true};
+ghost use Rattle.std.specs.IoError.{error_kind};
+ghost use Rattle.std.specs.Io.KnownBytes.{Consumes, IsAtEnd, Keeps};
+ghost use Rattle.rustsec_files.specs.ReadFailures.{IsReadFailure};
+ghost use Rattle.rustsec_versions.specs.Failure.{IsRefusal};
+
+use rustsec_versions::{Error, ErrorKind, Result};
+use std::alloc::{AllocError, Global};
+use std::io::{ErrorKind as IoErrorKind, Read};
+use std::rt::Files;
+use std::{fs, io};
+
+/// The most reads of a reader, 2^32, so that a call returns for a reader without an end too.
+const MAX_READS: u64 = 4294967296;
+
+/// All bytes that a reader has left. A read that was interrupted is tried again.
+///
+/// # Errors
+///
+/// The reader's own error; `Other` if it has not ended after 2^32 reads; `OutOfMemory` if there is no
+/// memory for the bytes.
+pub fn bytes_of<R: Read>(alloc: Global, reader: &mut R) -> io::Result<Vec<u8>>
+    ensures { IfOk result (λ v. IfSome (R.remaining reader.old) (λ bytes. v.items ≡ bytes)) }
+{
+    let mut all = Vec::new(alloc);
+    let mut buf = [0u8; 65536];
+    'reads: for _ in 0..MAX_READS {
+        match reader.read(&mut buf) {
+            Ok(0) => return Ok(all),
+            Ok(count) => all.extend_from_slice(&buf[..count])?,
+            Err(e) => {
+                if e.kind() != IoErrorKind::Interrupted {
+                    return Err(e);
+                }
+            }
+        }
+    }
+    Err(io::Error::other("no end after 4294967296 reads"))
+}
+
+/// Whether reading failed for want of memory, and not for what was read.
+pub fn is_out_of_memory(error: &io::Error) -> bool
+    ensures { result ≡ true ↔ error_kind error.now ≡ IoErrorKind.OutOfMemory }
+{
+    error.kind() == IoErrorKind::OutOfMemory
+}
+
+/// The failure of a file that cannot be read, for this reason.
+fn failure(alloc: Global, path: &str, why: &str) -> Error
+    ensures { IsReadFailure path.now result }
+{
+    match format!(in alloc; "couldn't read {path}") {
+        Ok(message) => Error::with_source(alloc, ErrorKind::Io, &message, why),
+        Err(refused) => Error::from(refused),
+    }
+}
+
+/// The failure of a file that cannot be read, for this error.
+fn failed(alloc: Global, path: &str, error: io::Error) -> Error
+    ensures { IsReadFailure path.now result }
+{
+    if is_out_of_memory(&error) {
+        return Error::from(AllocError);
+    }
+    match format!(in alloc; "{error}") {
+        Ok(why) => failure(alloc, path, &why),
+        Err(refused) => Error::from(refused),
+    }
+}
+
+/// The text of a file that holds these bytes, with no copy of them. `path` is for the message alone.
+///
+/// # Errors
+///
+/// `Io` if the bytes are no UTF-8; else `OutOfMemory`, for the message.
+pub fn text_of_bytes(alloc: Global, bytes: Vec<u8>, path: &str) -> Result<String>
+    ensures ok { IfOk result (λ s. string_bytes s ≡ bytes.items) }
+    ensures err { IfErr result (IsRefusal ErrorKind.Io (¬ IsUtf8 bytes.items)) }
+    ensures names { IfErr result (IsReadFailure path.now) }
+{
+    match String::from_utf8(bytes) {
+        Ok(text) => Ok(text),
+        Err(_) => Err(failure(alloc, path, "the text is no UTF-8")),
+    }
+}
+
+/// The text of a file's reader: all bytes that it has left. `path` is for the message alone.
+///
+/// # Errors
+///
+/// `Io` if a read fails, the reader has not ended after 2^32 reads, or the bytes are no UTF-8; else
+/// `OutOfMemory`. The message names the path, the cause says why.
+pub fn text_of<R: Read>(alloc: Global, reader: &mut R, path: &str) -> Result<String>
+    ensures text { IfOk result (λ s. IfSome (R.remaining reader.old) (λ bytes. string_bytes s ≡ bytes)) }
+    ensures err { IfErr result (IsReadFailure path.now) }
+{
+    match bytes_of(alloc, reader) {
+        Ok(bytes) => text_of_bytes(alloc, bytes, path),
+        Err(e) => Err(failed(alloc, path, e)),
+    }
+}
+
+/// The text of a file. It is opened, and `text_of` reads it.
+///
+/// # Errors
+///
+/// `Io` if the file cannot be opened; then as `text_of`.
+pub fn text_of_file<R: Files>(rt: &R, alloc: Global, path: &str) -> Result<String>
+    ensures { IfErr result (IsReadFailure path.now) }
+{
+    match fs::File::open(rt, path) {
+        Ok(mut file) => text_of(alloc, &mut file, path),
+        Err(e) => Err(failed(alloc, path, e)),
+    }
+}
