@@ -1,5 +1,5 @@
 -- Names with a known beginning.
-use Rattle.std.proofs.Common.{◌≡◌, ◌∙◌, MatchOption, Bor, ℕ, Bool, true, false, List, [], ◌∷◌, ◌++◌, Option, Some, None, codes, refl, ap, inl, inr, eq-eqb}
+use Rattle.std.proofs.Common.{◌≡◌, ◌∙◌, MatchOption, Bor, ℕ, false, List, [], ◌∷◌, ◌++◌, Option, Some, None, codes, refl, ap, inl, inr, eq-eqb}
 use Rattle.std.proofs.lemmas.Bool.{cases_Bool}
 use Rattle.std.specs.Cmp.Lexicographic.{bytes_decides}
 use Rattle.std.specs.Str.{bytes_eq}
