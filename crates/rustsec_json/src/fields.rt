@@ -1,0 +1,129 @@
+// What an object of a JSON tree holds at its keys.
+
+ghost use Rattle.std.specs.Prelude.{◌≡◌, [], IfErr, IfOk, None, Some, option_map};
+ghost use Rattle.serde_json.specs.Find.{as_object, get_member};
+ghost use Rattle.serde_json.specs.View.{members_view, view};
+ghost use Rattle.rustsec_json.specs.Fields.{defaulted, every, optional, required};
+ghost use Rattle.rustsec_versions.specs.Failure.{IsOfKind, IsRefusal, out_of_memory};
+
+use crate::read::FromTree;
+use rustsec_values::Items;
+use rustsec_versions::{Error, ErrorKind, Result};
+use serde_json::{Map, Value};
+use std::alloc::{AllocError, Global};
+
+/// The refusal of a tree.
+pub fn refused(alloc: Global, message: &str) -> Error
+    ensures { IsOfKind ErrorKind.Parse result }
+{
+    Error::new(alloc, ErrorKind::Parse, message)
+}
+
+/// The refusal of an object without a key that must be there.
+fn missing(alloc: Global, key: &str) -> Error
+    ensures { IsOfKind ErrorKind.Parse result }
+{
+    match format!(in alloc; "the key `{key}` is missing") {
+        Ok(message) => refused(alloc, &message),
+        Err(e) => Error::from(e),
+    }
+}
+
+/// The refusal of the value at a key, which names the key.
+fn at_key(alloc: Global, key: &str, error: Error) -> Error
+    ensures memory { error ≡ out_of_memory → result ≡ out_of_memory }
+    ensures kind { IsOfKind ErrorKind.Parse result }
+{
+    if error.kind() == ErrorKind::OutOfMemory {
+        return Error::from(AllocError);
+    }
+    let text = error.message();
+    match format!(in alloc; "at the key `{key}`: {text}") {
+        Ok(message) => refused(alloc, &message),
+        Err(e) => Error::from(e),
+    }
+}
+
+/// The members of a tree that must be an object.
+///
+/// # Errors
+///
+/// `Parse` where it is none; else `OutOfMemory`.
+pub fn fields_of(alloc: Global, tree: &Value) -> Result<&Map<String, Value>>
+    ensures ok { IfOk result (λ m. as_object (view tree.now) ≡ Some (members_view m.now.entries)) }
+    ensures err { IfErr result (IsRefusal ErrorKind.Parse (as_object (view tree.now) ≡ None)) }
+{
+    match tree.as_object() {
+        Some(fields) => Ok(fields),
+        None => Err(refused(alloc, "an object was expected")),
+    }
+}
+
+/// The tree at a key of an object.
+fn member<'a>(fields: &'a Map<String, Value>, key: &str) -> Option<&'a Value>
+    ensures { option_map (λ v. view v.now) result ≡ get_member key.now (members_view fields.now.entries) }
+{
+    fields.get(key)
+}
+
+/// The value at a key that must be there.
+///
+/// # Errors
+///
+/// `Parse` where the key is missing, or its tree is refused; else `OutOfMemory`.
+pub fn required_at<T: FromTree>(alloc: Global, fields: &Map<String, Value>, key: &str) -> Result<T>
+    ensures ok { IfOk result (λ x. required T.reads key.now (members_view fields.now.entries) ≡ Some x) }
+    ensures err { IfErr result (IsRefusal ErrorKind.Parse (required T.reads key.now (members_view fields.now.entries) ≡ None)) }
+{
+    let Some(tree) = member(fields, key) else {
+        return Err(missing(alloc, key));
+    };
+    match T::from_tree(alloc, tree) {
+        Ok(value) => Ok(value),
+        Err(e) => Err(at_key(alloc, key, e)),
+    }
+}
+
+/// The value at a key that may be missing; null stands for none too.
+///
+/// # Errors
+///
+/// `Parse` where its tree is refused; else `OutOfMemory`.
+pub fn optional_at<T: FromTree>(
+    alloc: Global,
+    fields: &Map<String, Value>,
+    key: &str,
+) -> Result<Option<T>>
+    ensures ok { IfOk result (λ x. optional T.reads key.now (members_view fields.now.entries) ≡ Some x) }
+    ensures err { IfErr result (IsRefusal ErrorKind.Parse (optional T.reads key.now (members_view fields.now.entries) ≡ None)) }
+{
+    let Some(tree) = member(fields, key) else {
+        return Ok(None);
+    };
+    match Option::<T>::from_tree(alloc, tree) {
+        Ok(value) => Ok(value),
+        Err(e) => Err(at_key(alloc, key, e)),
+    }
+}
+
+/// The values of the list at a key, none where the key is missing.
+///
+/// # Errors
+///
+/// `Parse` where there is another value than a list, or a tree of it is refused; else `OutOfMemory`.
+pub fn list_at<T: FromTree>(
+    alloc: Global,
+    fields: &Map<String, Value>,
+    key: &str,
+) -> Result<Items<T>>
+    ensures ok { IfOk result (λ xs. defaulted [] (every T.reads) key.now (members_view fields.now.entries) ≡ Some xs) }
+    ensures err { IfErr result (IsRefusal ErrorKind.Parse (defaulted [] (every T.reads) key.now (members_view fields.now.entries) ≡ None)) }
+{
+    let Some(tree) = member(fields, key) else {
+        return Ok(Items::new(alloc));
+    };
+    match Items::<T>::from_tree(alloc, tree) {
+        Ok(values) => Ok(values),
+        Err(e) => Err(at_key(alloc, key, e)),
+    }
+}

@@ -1,0 +1,11 @@
+//! JSON trees: how values are made into trees, and read from them again.
+#![tactic(auto)]
+
+mod fields;
+mod make;
+mod read;
+mod texts;
+
+pub use crate::fields::{fields_of, list_at, optional_at, refused, required_at};
+pub use crate::make::ToTree;
+pub use crate::read::FromTree;

@@ -1,0 +1,70 @@
+// Values of JSON trees.
+
+ghost use Rattle.std.specs.Prelude.{◌≡◌, IfErr, IfOk, None, Option, Some};
+ghost use Rattle.serde_json.specs.Data.{Data};
+ghost use Rattle.serde_json.specs.View.{items_view, view};
+ghost use Rattle.rustsec_json.specs.Fields.{list_of};
+ghost use Rattle.rustsec_values.specs.Reading.{read_all};
+ghost use Rattle.rustsec_versions.specs.Failure.{IsRefusal};
+
+use crate::fields::refused;
+use rustsec_values::Items;
+use rustsec_versions::{ErrorKind, Result};
+use serde_json::Value;
+use std::alloc::Global;
+
+/// A type whose values are read from JSON trees.
+pub trait FromTree: Drop + Sized {
+    ghost reads: { Data → Option Self };
+
+    /// The value of a tree.
+    ///
+    /// # Errors
+    ///
+    /// `Parse` where the type takes no such tree; else `OutOfMemory`.
+    fn from_tree(alloc: Global, tree: &Value) -> Result<Self>
+        ensures ok { IfOk result (λ x. Self.reads (view tree.now) ≡ Some x) }
+        ensures err { IfErr result (IsRefusal ErrorKind.Parse (Self.reads (view tree.now) ≡ None)) };
+}
+
+/// The values of trees, in order.
+fn list<T: FromTree>(alloc: Global, trees: &Vec<Value>) -> Result<Items<T>>
+    ensures ok { IfOk result (λ xs. read_all T.reads (list_of (items_view trees.now.items)) ≡ Some xs) }
+    ensures err { IfErr result (IsRefusal ErrorKind.Parse (read_all T.reads (list_of (items_view trees.now.items)) ≡ None)) }
+{
+    let mut read = Items::new(alloc);
+    for tree in trees {
+        match T::from_tree(alloc, tree) {
+            Ok(value) => read.push(value)?,
+            Err(e) => return Err(e),
+        }
+    }
+    Ok(read)
+}
+
+impl<T: FromTree> FromTree for Items<T> {
+    ghost use Rattle.rustsec_json.specs.Fields.{every};
+
+    ghost reads = { every T.reads };
+
+    fn from_tree(alloc: Global, tree: &Value) -> Result<Items<T>> {
+        match tree.as_array() {
+            Some(trees) => list(alloc, trees),
+            None => Err(refused(alloc, "a list was expected")),
+        }
+    }
+}
+
+impl<T: FromTree> FromTree for Option<T> {
+    ghost use Rattle.rustsec_json.specs.Fields.{or_null};
+
+    ghost reads = { or_null T.reads };
+
+    fn from_tree(alloc: Global, tree: &Value) -> Result<Option<T>> {
+        if tree.is_null() {
+            return Ok(None);
+        }
+        let value = T::from_tree(alloc, tree)?;
+        Ok(Some(value))
+    }
+}
