@@ -59,8 +59,8 @@ pub fn fields_of(alloc: Global, tree: &Value) -> Result<&Map<String, Value>>
     }
 }
 
-/// The tree at a key of an object.
-fn member<'a>(fields: &'a Map<String, Value>, key: &str) -> Option<&'a Value>
+/// The tree at a key of an object, where the key is there.
+pub fn member<'a>(fields: &'a Map<String, Value>, key: &str) -> Option<&'a Value>
     ensures { option_map (λ v. view v.now) result ≡ get_member key.now (members_view fields.now.entries) }
 {
     fields.get(key)

@@ -6,6 +6,6 @@ mod make;
 mod read;
 mod texts;
 
-pub use crate::fields::{fields_of, list_at, optional_at, refused, required_at};
+pub use crate::fields::{fields_of, list_at, member, optional_at, refused, required_at};
 pub use crate::make::ToTree;
 pub use crate::read::FromTree;
