@@ -1,2 +1,4 @@
+pub mod Beginnings
+pub mod ClosedTables
 pub mod Equality
 pub mod Reading

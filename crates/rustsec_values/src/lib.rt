@@ -3,11 +3,15 @@
 //! memory they lie in.
 #![tactic(auto)]
 
+mod beginning;
+mod closed_table;
 mod items;
 mod laws;
 mod sorted_map;
 mod text;
 
+pub use crate::beginning::beginning_of;
+pub use crate::closed_table::{Named, value_named};
 pub use crate::items::Items;
 pub use crate::laws::{ExactClone, ExactEq, StatedOrder};
 pub use crate::sorted_map::SortedMap;

@@ -10,5 +10,6 @@ pub mod Apart
 pub mod Successor
 pub mod Ranges
 pub mod Gaps
+pub mod Refusals
 pub mod RequirementText
 pub mod Decided

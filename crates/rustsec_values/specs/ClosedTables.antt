@@ -1,0 +1,8 @@
+-- Closed tables: finitely many values, each with a name.
+use Rattle.std.specs.Prelude.{ℕ, List, Option}
+use Rattle.std.specs.List.{find}
+use Rattle.std.specs.Str.{bytes_eq}
+
+-- the first of some values whose name is this text
+abbrev pub value_named : {A : Type 0} → (A → List ℕ) → List A → List ℕ → Option A
+value_named name values text = find (λ x. bytes_eq (name x) text) values

@@ -1,0 +1,32 @@
+// Closed tables: types of finitely many values, each with a name.
+
+ghost use Rattle.std.specs.Prelude.{◌≡◌, ℕ, IfSome, List};
+ghost use Rattle.rustsec_values.specs.ClosedTables.{value_named};
+
+/// A type of finitely many values, each with a name.
+pub trait Named: Copy + 'static {
+    ghost name_of: { Self → List ℕ };
+
+    ghost values: { List Self };
+
+    /// All values, in their order.
+    fn all() -> &'static [Self]
+        ensures { result.now ≡ values };
+
+    /// The name.
+    fn name(&self) -> &'static str
+        ensures { result.now ≡ name_of self.now };
+}
+
+/// The first value whose name is this text, where one has it.
+pub fn value_named<T: Named>(text: &str) -> Option<T>
+    ensures value { result ≡ value_named T.name_of T.values text.now }
+    ensures name { IfSome result (λ x. T.name_of x ≡ text.now) }
+{
+    for value in T::all() {
+        if value.name() == text {
+            return Some(*value);
+        }
+    }
+    None
+}
