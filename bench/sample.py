@@ -129,40 +129,80 @@ HEAD = """\
 // Answers of the program that agree with those of the Rust crate, a sample of random inputs. Made by
 // `bench/compare OURS THEIRS --seed {seed} --count {count} --sample {sample} --module`.
 
-use crate::fixtures::output_of;
+use crate::fixtures::writes;
+use std::alloc::Global;
 use std::process::Abort;
 use std::rt::Files;
 use std::test::Fail;
+"""
 
-/// Checks what a command writes for an input, and its status.
-fn expect<T: Files + AllocGlobal + Abort>(
+HELPERS = """
+/// Checks what a command writes for inputs, with status 0.
+fn expect_answers<T: Files + AllocGlobal + Abort>(
+    rt: &T,
+    command: &str,
+    rows: &[(&[u8], &[u8])],
+) -> Result<(), Fail> {
+    for (input, text) in rows {
+        assert!(rt;
+            writes(rt, &[command], input, 0, text)?,
+            "for {input:?}: not {text:?}"
+        );
+    }
+    Ok(())
+}
+
+/// What is written of a malformed line.
+fn malformed(alloc: Global, number: u8) -> Result<String, Fail> {
+    Ok(format!(in alloc; "line {number}: malformed\\n")?)
+}
+
+/// Whether a command says of an input that this line is malformed, with status 2.
+fn names_line<T: Files + AllocGlobal>(
     rt: &T,
     command: &str,
     input: &[u8],
-    status: u8,
-    text: &[u8],
-) -> Result<(), Fail> {{
-    let (found, written) = output_of(rt, &[command], input)?;
-    assert_eq!(rt; written.as_slice(), text, "for {{input:?}}");
-    assert_eq!(rt; found, status, "for {{input:?}}");
+    number: u8,
+) -> Result<bool, Fail> {
+    let text = malformed(rt.alloc(), number)?;
+    writes(rt, &[command], input, 2, text.as_bytes())
+}
+
+/// Checks that a command says of inputs which line is malformed.
+fn expect_malformed<T: Files + AllocGlobal + Abort>(
+    rt: &T,
+    command: &str,
+    rows: &[(&[u8], u8)],
+) -> Result<(), Fail> {
+    for (input, number) in rows {
+        assert!(rt;
+            names_line(rt, command, input, *number)?,
+            "line {number} of {input:?}"
+        );
+    }
     Ok(())
-}}
+}
+
+/// Checks that a command refuses the lists of inputs, with status 2.
+fn expect_refused<T: Files + AllocGlobal + Abort>(
+    rt: &T,
+    command: &str,
+    inputs: &[&[u8]],
+) -> Result<(), Fail> {
+    for input in inputs {
+        let holds = writes(rt, &[command], input, 2, b"refused: bad parameter\\n")?;
+        assert!(rt; holds, "for {input:?}");
+    }
+    Ok(())
+}
 """
 
 TEST = """
 #[test]
 fn sampled_{command}(rt: HostRuntime) -> Result<(), Fail> {{
-    for (input, text) in {COMMAND} {{
-        expect(&rt, "{command}", input, 0, text)?;
-    }}
-    for (input, number) in {COMMAND}_MALFORMED {{
-        let text = format!(in rt.alloc(); "line {{number}}: malformed\\n")?;
-        expect(&rt, "{command}", input, 2, text.as_bytes())?;
-    }}
-    for input in {COMMAND}_REFUSED {{
-        expect(&rt, "{command}", input, 2, b"refused: bad parameter\\n")?;
-    }}
-    Ok(())
+    expect_answers(&rt, "{command}", &{COMMAND})?;
+    expect_malformed(&rt, "{command}", &{COMMAND}_MALFORMED)?;
+    expect_refused(&rt, "{command}", &{COMMAND}_REFUSED)
 }}
 """
 
@@ -192,5 +232,5 @@ def tables(command, rows):
 
 def module(rows, options):
     out = HEAD.format(seed=options.seed, count=options.count, sample=options.sample)
-    out += "".join(tables(command, rows[command]) for command in COMMANDS)
+    out += "".join(tables(command, rows[command]) for command in COMMANDS) + HELPERS
     return out + "".join(TEST.format(command=command, COMMAND=command.upper()) for command in COMMANDS)

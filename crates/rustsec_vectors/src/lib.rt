@@ -4,32 +4,42 @@
 #![tactic(auto)]
 
 #[cfg(test)]
-mod advisory;
+mod advisories;
 #[cfg(test)]
-mod calls;
+mod advisory_parts;
+#[cfg(test)]
+mod advisory_texts;
+#[cfg(test)]
+mod ample_memory;
+#[cfg(test)]
+mod categories_and_licenses;
 #[cfg(test)]
 mod commands;
 #[cfg(test)]
 mod cvss;
 #[cfg(test)]
-mod files;
+mod dates;
 #[cfg(test)]
 mod fixtures;
 #[cfg(test)]
+mod function_paths;
+#[cfg(test)]
+mod ids;
+#[cfg(test)]
+mod intervals;
+#[cfg(test)]
 mod lint;
 #[cfg(test)]
-mod lock;
+mod lockfiles;
 #[cfg(test)]
-mod memory;
+mod packages;
 #[cfg(test)]
-mod parts;
+mod platforms;
 #[cfg(test)]
-mod paths;
+mod sampled_commands;
 #[cfg(test)]
-mod ranges;
+mod sources;
 #[cfg(test)]
-mod sampled;
+mod successors;
 #[cfg(test)]
-mod texts;
-#[cfg(test)]
-mod versions;
+mod verdicts;

@@ -1,24 +1,11 @@
 // Answers of the program that agree with those of the Rust crate, a sample of random inputs. Made by
 // `bench/compare OURS THEIRS --seed 7 --count 30000 --sample 120 --module`.
 
-use crate::fixtures::output_of;
+use crate::fixtures::writes;
+use std::alloc::Global;
 use std::process::Abort;
 use std::rt::Files;
 use std::test::Fail;
-
-/// Checks what a command writes for an input, and its status.
-fn expect<T: Files + AllocGlobal + Abort>(
-    rt: &T,
-    command: &str,
-    input: &[u8],
-    status: u8,
-    text: &[u8],
-) -> Result<(), Fail> {
-    let (found, written) = output_of(rt, &[command], input)?;
-    assert_eq!(rt; written.as_slice(), text, "for {input:?}");
-    assert_eq!(rt; found, status, "for {input:?}");
-    Ok(())
-}
 
 /// Inputs of `affected` with what is written.
 const AFFECTED: [(&[u8], &[u8]); 30] = [
@@ -230,32 +217,75 @@ const RANGES_REFUSED: [&[u8]; 15] = [
     b"patched ^ 3.0.1-0\r\npatched <  3.0.0,>= 3.0.0",
 ];
 
-#[test]
-fn sampled_affected(rt: HostRuntime) -> Result<(), Fail> {
-    for (input, text) in AFFECTED {
-        expect(&rt, "affected", input, 0, text)?;
+/// Checks what a command writes for inputs, with status 0.
+fn expect_answers<T: Files + AllocGlobal + Abort>(
+    rt: &T,
+    command: &str,
+    rows: &[(&[u8], &[u8])],
+) -> Result<(), Fail> {
+    for (input, text) in rows {
+        assert!(rt;
+            writes(rt, &[command], input, 0, text)?,
+            "for {input:?}: not {text:?}"
+        );
     }
-    for (input, number) in AFFECTED_MALFORMED {
-        let text = format!(in rt.alloc(); "line {number}: malformed\n")?;
-        expect(&rt, "affected", input, 2, text.as_bytes())?;
+    Ok(())
+}
+
+/// What is written of a malformed line.
+fn malformed(alloc: Global, number: u8) -> Result<String, Fail> {
+    Ok(format!(in alloc; "line {number}: malformed\n")?)
+}
+
+/// Whether a command says of an input that this line is malformed, with status 2.
+fn names_line<T: Files + AllocGlobal>(
+    rt: &T,
+    command: &str,
+    input: &[u8],
+    number: u8,
+) -> Result<bool, Fail> {
+    let text = malformed(rt.alloc(), number)?;
+    writes(rt, &[command], input, 2, text.as_bytes())
+}
+
+/// Checks that a command says of inputs which line is malformed.
+fn expect_malformed<T: Files + AllocGlobal + Abort>(
+    rt: &T,
+    command: &str,
+    rows: &[(&[u8], u8)],
+) -> Result<(), Fail> {
+    for (input, number) in rows {
+        assert!(rt;
+            names_line(rt, command, input, *number)?,
+            "line {number} of {input:?}"
+        );
     }
-    for input in AFFECTED_REFUSED {
-        expect(&rt, "affected", input, 2, b"refused: bad parameter\n")?;
+    Ok(())
+}
+
+/// Checks that a command refuses the lists of inputs, with status 2.
+fn expect_refused<T: Files + AllocGlobal + Abort>(
+    rt: &T,
+    command: &str,
+    inputs: &[&[u8]],
+) -> Result<(), Fail> {
+    for input in inputs {
+        let holds = writes(rt, &[command], input, 2, b"refused: bad parameter\n")?;
+        assert!(rt; holds, "for {input:?}");
     }
     Ok(())
 }
 
 #[test]
+fn sampled_affected(rt: HostRuntime) -> Result<(), Fail> {
+    expect_answers(&rt, "affected", &AFFECTED)?;
+    expect_malformed(&rt, "affected", &AFFECTED_MALFORMED)?;
+    expect_refused(&rt, "affected", &AFFECTED_REFUSED)
+}
+
+#[test]
 fn sampled_ranges(rt: HostRuntime) -> Result<(), Fail> {
-    for (input, text) in RANGES {
-        expect(&rt, "ranges", input, 0, text)?;
-    }
-    for (input, number) in RANGES_MALFORMED {
-        let text = format!(in rt.alloc(); "line {number}: malformed\n")?;
-        expect(&rt, "ranges", input, 2, text.as_bytes())?;
-    }
-    for input in RANGES_REFUSED {
-        expect(&rt, "ranges", input, 2, b"refused: bad parameter\n")?;
-    }
-    Ok(())
+    expect_answers(&rt, "ranges", &RANGES)?;
+    expect_malformed(&rt, "ranges", &RANGES_MALFORMED)?;
+    expect_refused(&rt, "ranges", &RANGES_REFUSED)
 }

@@ -3,7 +3,7 @@
 use std::alloc::Global;
 use std::test::Fail;
 
-/// An advisory without faults.
+/// A valid advisory, without lint errors.
 pub const VALID: &str = "```toml
 [advisory]
 id = \"RUSTSEC-2001-2101\"
@@ -29,7 +29,7 @@ functions = { \"base::belongs::All\" = [\"< 1.2.3\"] }
 You have no chance to survive. Make your time.
 ";
 
-/// An advisory with seven faults.
+/// An advisory with seven lint errors.
 pub const INVALID: &str = "```toml
 [advisory]
 id = \"LULZSEC-2001-2101\"
@@ -59,8 +59,8 @@ functions = { \"notyourbase::belongs::All\" = [\"< 1.2.3\"] }
 You have no chance to survive. Make your time.
 ";
 
-/// Its faults where its file is no draft's.
-pub const INVALID_FAULTS: &[&str] = &[
+/// Its lint errors where its file is no draft's.
+pub const INVALID_ERRORS: &[&str] = &[
     "invalid value `invalid-category` for key `category` in [advisory]: unknown category",
     "malformed content in [advisory]: collection shouldn't be explicit; inferred by location",
     "invalid value `\"LULZSEC-2001-2101\"` for key `id` in [advisory]: unknown advisory ID type",

@@ -1,0 +1,230 @@
+// The intervals of requirements: their bounds, how they print, and which overlap.
+
+use crate::fixtures::{interval, kind_of, version};
+use rustsec_versions::{Bound, ErrorKind, UnaffectedRange, requirement_text};
+use semver::{Comparator, Op, Prerelease, VersionReq};
+use std::alloc::Global;
+use std::process::Abort;
+use std::test::Fail;
+
+/// Whether the interval of a requirement prints as a text.
+fn prints(alloc: Global, text: &str, printed: &str) -> Result<bool, Fail> {
+    let interval = interval(alloc, text)??;
+    let found = interval.to_string(alloc)?;
+    Ok(found.as_str() == printed)
+}
+
+/// Checks how the intervals of requirements print.
+fn expect_intervals<T: AllocGlobal + Abort>(rt: &T, rows: &[(&str, &str)]) -> Result<(), Fail> {
+    for (text, printed) in rows {
+        assert!(rt; prints(rt.alloc(), text, printed)?, "of {text}");
+    }
+    Ok(())
+}
+
+/// Whether a requirement is refused, as it is no interval.
+fn is_refused(alloc: Global, text: &str) -> Result<bool, Fail> {
+    let answer = interval(alloc, text)?;
+    Ok(kind_of(answer) == Some(ErrorKind::BadParam))
+}
+
+/// Checks that requirements are refused.
+fn expect_refused<T: AllocGlobal + Abort>(rt: &T, texts: &[&str]) -> Result<(), Fail> {
+    for text in texts {
+        assert!(rt; is_refused(rt.alloc(), text)?, "of {text}");
+    }
+    Ok(())
+}
+
+/// Whether two requirements overlap, each with the other.
+fn overlap(alloc: Global, first: &str, second: &str) -> Result<(bool, bool), Fail> {
+    let first = interval(alloc, first)??;
+    let second = interval(alloc, second)??;
+    Ok((first.overlaps(&second), second.overlaps(&first)))
+}
+
+/// Checks whether requirements overlap, both ways round.
+fn expect_overlaps<T: AllocGlobal + Abort>(
+    rt: &T,
+    rows: &[(&str, &str, bool)],
+) -> Result<(), Fail> {
+    for (first, second, expected) in rows {
+        let found = overlap(rt.alloc(), first, second)?;
+        assert!(rt; found == (*expected, *expected), "{first} with {second}");
+    }
+    Ok(())
+}
+
+#[test]
+fn interval_display(rt: HostRuntime) -> Result<(), Fail> {
+    expect_intervals(
+        &rt,
+        &[
+            ("^1.2.3", "[1.2.3, 2.0.0-0)"),
+            ("*", "[0, ∞)"),
+            ("> 1", "(1.0.0, ∞)"),
+            ("<= 2", "[0, 2.0.0]"),
+        ],
+    )
+}
+
+#[test]
+fn requirement_intervals(rt: HostRuntime) -> Result<(), Fail> {
+    expect_refused(&rt, &["1.*", "^1, <2", "> 1, > 2"])?;
+    expect_intervals(
+        &rt,
+        &[
+            ("^0.0.3", "[0.0.3, 0.0.4-0)"),
+            ("^0.0", "[0.0.0, 0.1.0-0)"),
+            ("~1.2", "[1.2.0, 1.3.0-0)"),
+            ("=1.0", "[1.0.0, 1.0.0]"),
+            ("> 1", "(1.0.0, ∞)"),
+        ],
+    )
+}
+
+#[test]
+fn overlap_cases(rt: HostRuntime) -> Result<(), Fail> {
+    expect_overlaps(
+        &rt,
+        &[
+            ("*", "*", true),
+            (">= 1.2.3", "<= 1.2.3", true),
+            (">= 0.1.0, <= 1.1.0", ">= 0.2.0, <= 1.3.0", true),
+            (">= 1.2.3", "< 1.2.3", false),
+            (">= 0.1.0, <= 0.3.0", ">= 1.1.0, <= 1.3.0", false),
+        ],
+    )
+}
+
+#[test]
+fn overlap_cases_of_operators(rt: HostRuntime) -> Result<(), Fail> {
+    expect_intervals(
+        &rt,
+        &[
+            ("=1.0", "[1.0.0, 1.0.0]"),
+            ("^1.2.3", "[1.2.3, 2.0.0-0)"),
+            ("^1.2", "[1.2.0, 2.0.0-0)"),
+            ("^1", "[1.0.0, 2.0.0-0)"),
+            ("~1", "[1.0.0, 2.0.0-0)"),
+            ("^0.2.3", "[0.2.3, 0.3.0-0)"),
+            ("^0.2", "[0.2.0, 0.3.0-0)"),
+            ("^0.0.3", "[0.0.3, 0.0.4-0)"),
+            ("^0.0", "[0.0.0, 0.1.0-0)"),
+            ("^0", "[0.0.0, 1.0.0-0)"),
+            ("~1.2.3", "[1.2.3, 1.3.0-0)"),
+            ("~1.2", "[1.2.0, 1.3.0-0)"),
+        ],
+    )
+}
+
+// Wildcards with an operator in front have that operator, missing numbers zero; a bare one is refused.
+#[test]
+fn wildcards_behind_operators(rt: HostRuntime) -> Result<(), Fail> {
+    expect_refused(&rt, &["1.X"])?;
+    expect_intervals(
+        &rt,
+        &[
+            ("=1.*", "[1.0.0, 1.0.0]"),
+            (">=1.*", "[1.0.0, ∞)"),
+            ("^1.x", "[1.0.0, 2.0.0-0)"),
+            ("x", "[0, ∞)"),
+        ],
+    )
+}
+
+// Bounds at the greatest number print as they stand.
+#[test]
+fn bounds_at_the_greatest_number(rt: HostRuntime) -> Result<(), Fail> {
+    expect_intervals(
+        &rt,
+        &[
+            (
+                "< 1.2.18446744073709551615",
+                "[0, 1.2.18446744073709551615)",
+            ),
+            (
+                "> 1.2.18446744073709551615-a",
+                "(1.2.18446744073709551615-a, ∞)",
+            ),
+            ("> 18446744073709551615", "(18446744073709551615.0.0, ∞)"),
+            (
+                "=1.2.18446744073709551615-0",
+                "[1.2.18446744073709551615-0, 1.2.18446744073709551615-0]",
+            ),
+        ],
+    )
+}
+
+/// The kind of the refusal of the interval up to a version; none where it is taken.
+fn refusal_up_to(alloc: Global, text: &str) -> Result<Option<ErrorKind>, Fail> {
+    let end = Bound::Inclusive(version(alloc, text)?);
+    Ok(kind_of(UnaffectedRange::new(alloc, Bound::Unbounded, end)))
+}
+
+/// The kind of the refusal of the interval between two versions; none where it is taken.
+fn refusal_between(alloc: Global, start: &str, end: &str) -> Result<Option<ErrorKind>, Fail> {
+    let start = Bound::Inclusive(version(alloc, start)?);
+    let end = Bound::Inclusive(version(alloc, end)?);
+    Ok(kind_of(UnaffectedRange::new(alloc, start, end)))
+}
+
+// Bounds made by hand are compared as they stand, build metadata and greatest numbers included.
+#[test]
+fn bounds_by_hand(rt: HostRuntime) -> Result<(), Fail> {
+    assert!(rt; refusal_up_to(rt.alloc(), "1.2.18446744073709551615")?.is_none());
+    let refusal = refusal_between(rt.alloc(), "1.0.0+b", "1.0.0+a")?;
+    assert!(rt; refusal == Some(ErrorKind::BadParam));
+    Ok(())
+}
+
+/// The kind of the refusal of a requirement of one comparator with a patch number but no minor one.
+fn refusal_by_hand(alloc: Global, op: Op) -> Result<Option<ErrorKind>, Fail> {
+    let comparator = Comparator {
+        op,
+        major: 1,
+        minor: None,
+        patch: Some(2),
+        pre: Prerelease::empty(),
+    };
+    let req = VersionReq {
+        comparators: vec![in alloc; comparator]?,
+    };
+    Ok(kind_of(UnaffectedRange::from_req(alloc, &req)))
+}
+
+#[test]
+fn requirements_by_hand(rt: HostRuntime) -> Result<(), Fail> {
+    assert!(rt; refusal_by_hand(rt.alloc(), Op::Caret)? == Some(ErrorKind::BadParam));
+    assert!(rt; refusal_by_hand(rt.alloc(), Op::Tilde)? == Some(ErrorKind::BadParam));
+    Ok(())
+}
+
+/// Whether a requirement is written again as a text.
+fn is_written(alloc: Global, text: &str, written: &str) -> Result<bool, Fail> {
+    let req = VersionReq::parse(alloc, text)?;
+    let found = requirement_text(alloc, &req)?;
+    Ok(found.as_str() == written)
+}
+
+/// Checks how requirements are written again.
+fn expect_written<T: AllocGlobal + Abort>(rt: &T, rows: &[(&str, &str)]) -> Result<(), Fail> {
+    for (text, written) in rows {
+        assert!(rt; is_written(rt.alloc(), text, written)?, "of {text}");
+    }
+    Ok(())
+}
+
+#[test]
+fn requirement_texts(rt: HostRuntime) -> Result<(), Fail> {
+    expect_written(
+        &rt,
+        &[
+            (">= 1.2.3", ">=1.2.3"),
+            ("1.2", "^1.2"),
+            ("1.*", "1.*"),
+            ("> 1.2.3-a, <2", ">1.2.3-a, <2"),
+            ("*", "*"),
+        ],
+    )
+}

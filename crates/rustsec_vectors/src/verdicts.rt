@@ -1,0 +1,464 @@
+// Lists of requirements by the library's calls: which are accepted, which versions they leave affected,
+// and their ranges.
+
+use crate::fixtures::{interval, kind_of, lists, some_affects, version};
+use rustsec_versions::{
+    Bound, ErrorKind, OsvRange, UnaffectedRange, Versions, ranges_for_advisory,
+};
+use semver::Version;
+use std::alloc::Global;
+use std::process::Abort;
+use std::test::Fail;
+
+/// Lists of requirements, the sides of their ranges, and whether they leave some versions affected.
+struct Row<'a> {
+    patched: &'a [&'a str],
+    unaffected: &'a [&'a str],
+    ranges: &'a [(&'a str, &'a str)],
+    affected: &'a [(&'a str, bool)],
+}
+
+/// Whether a side of a range prints as a text, a dash where it is missing.
+fn prints(alloc: Global, side: &Option<Version>, text: &str) -> Result<bool, Fail> {
+    match side {
+        Some(version) => {
+            let printed = version.to_string(alloc)?;
+            Ok(printed.as_str() == text)
+        }
+        None => Ok(text == "-"),
+    }
+}
+
+/// Whether the sides of ranges print as these texts.
+fn are(alloc: Global, ranges: &[OsvRange], sides: &[(&str, &str)]) -> Result<bool, Fail> {
+    for (range, (introduced, fixed)) in ranges.iter().zip(sides) {
+        if !prints(alloc, &range.introduced, introduced)? || !prints(alloc, &range.fixed, fixed)? {
+            return Ok(false);
+        }
+    }
+    Ok(ranges.len() == sides.len())
+}
+
+/// Whether lists have these ranges.
+fn has_ranges(alloc: Global, lists: &Versions, sides: &[(&str, &str)]) -> Result<bool, Fail> {
+    let ranges = ranges_for_advisory(alloc, lists)?;
+    are(alloc, &ranges, sides)
+}
+
+/// Whether a version is affected by lists and in their ranges, if both say the same.
+fn verdict(
+    alloc: Global,
+    lists: &Versions,
+    ranges: &[OsvRange],
+    text: &str,
+) -> Result<Option<bool>, Fail> {
+    let asked = version(alloc, text)?;
+    let affected = lists.is_vulnerable(&asked);
+    Ok((some_affects(ranges, &asked) == affected).then_some(affected))
+}
+
+/// Whether lists and their ranges leave these versions affected.
+fn leave(
+    alloc: Global,
+    lists: &Versions,
+    ranges: &[OsvRange],
+    affected: &[(&str, bool)],
+) -> Result<bool, Fail> {
+    for (text, affected) in affected {
+        if verdict(alloc, lists, ranges, text)? != Some(*affected) {
+            return Ok(false);
+        }
+    }
+    Ok(true)
+}
+
+/// Whether lists leave these versions affected, by themselves and by their ranges.
+fn has_verdicts(alloc: Global, lists: &Versions, affected: &[(&str, bool)]) -> Result<bool, Fail> {
+    let ranges = ranges_for_advisory(alloc, lists)?;
+    leave(alloc, lists, &ranges, affected)
+}
+
+/// Whether a row's lists have the ranges and the verdicts of the row.
+fn holds(alloc: Global, row: &Row<'_>) -> Result<bool, Fail> {
+    let lists = lists(alloc, row.patched, row.unaffected)??;
+    Ok(has_ranges(alloc, &lists, row.ranges)? && has_verdicts(alloc, &lists, row.affected)?)
+}
+
+/// Checks rows.
+fn expect<T: AllocGlobal + Abort>(rt: &T, rows: &[Row<'_>]) -> Result<(), Fail> {
+    for row in rows {
+        assert!(rt;
+            holds(rt.alloc(), row)?,
+            "of {:?} and {:?}",
+            row.patched,
+            row.unaffected
+        );
+    }
+    Ok(())
+}
+
+/// Whether lists are refused for what they hold.
+fn are_refused(alloc: Global, patched: &[&str], unaffected: &[&str]) -> Result<bool, Fail> {
+    let answer = lists(alloc, patched, unaffected)?;
+    Ok(kind_of(answer) == Some(ErrorKind::BadParam))
+}
+
+/// Checks that lists of patched and of unaffected versions are refused.
+fn expect_refused<T: AllocGlobal + Abort>(rt: &T, rows: &[(&[&str], &[&str])]) -> Result<(), Fail> {
+    for (patched, unaffected) in rows {
+        let refused = are_refused(rt.alloc(), patched, unaffected)?;
+        assert!(rt; refused, "of {patched:?} and {unaffected:?}");
+    }
+    Ok(())
+}
+
+#[test]
+fn acceptance(rt: HostRuntime) -> Result<(), Fail> {
+    expect_refused(
+        &rt,
+        &[
+            (&["^1"], &["^1.2"]),
+            (&[], &["< 1.0.0", "< 1.0.0"]),
+            (&["1.*"], &[]),
+        ],
+    )?;
+    expect(
+        &rt,
+        &[
+            Row {
+                patched: &["> 1.0.0"],
+                unaffected: &["< 1.0.0"],
+                ranges: &[("1.0.0", "1.0.1-0")],
+                affected: &[],
+            },
+            Row {
+                patched: &["< 1.2.3", ">= 1.2.3"],
+                unaffected: &[],
+                ranges: &[("1.2.3", "1.2.3")],
+                affected: &[],
+            },
+        ],
+    )
+}
+
+#[test]
+fn patched_lower_bound(rt: HostRuntime) -> Result<(), Fail> {
+    expect(
+        &rt,
+        &[Row {
+            patched: &[">= 1.2.3"],
+            unaffected: &[],
+            ranges: &[("-", "1.2.3")],
+            affected: &[
+                ("1.2.2", true),
+                ("1.2.3-alpha", true),
+                ("1.2.3", false),
+                ("1.2.3+b", false),
+                ("1.2.4-alpha", false),
+            ],
+        }],
+    )
+}
+
+#[test]
+fn no_requirement(rt: HostRuntime) -> Result<(), Fail> {
+    expect(
+        &rt,
+        &[Row {
+            patched: &[],
+            unaffected: &[],
+            ranges: &[("-", "-")],
+            affected: &[("0.0.0-0", true)],
+        }],
+    )
+}
+
+#[test]
+fn star_alone(rt: HostRuntime) -> Result<(), Fail> {
+    expect(
+        &rt,
+        &[Row {
+            patched: &["*"],
+            unaffected: &[],
+            ranges: &[],
+            affected: &[("1.0.0", false), ("0.0.0-0", false)],
+        }],
+    )
+}
+
+#[test]
+fn exact_then_greater(rt: HostRuntime) -> Result<(), Fail> {
+    expect(
+        &rt,
+        &[Row {
+            patched: &["=1.2.3", "> 1.2.3"],
+            unaffected: &[],
+            ranges: &[("-", "1.2.3"), ("1.2.4-0", "1.2.4-0")],
+            affected: &[],
+        }],
+    )
+}
+
+#[test]
+fn exclusive_bounds_around_a_point(rt: HostRuntime) -> Result<(), Fail> {
+    expect(
+        &rt,
+        &[
+            Row {
+                patched: &["> 1.0.0"],
+                unaffected: &["< 1.0.0"],
+                ranges: &[("1.0.0", "1.0.1-0")],
+                affected: &[("1.0.0", true), ("1.0.1-0", false)],
+            },
+            Row {
+                patched: &["< 1.0.0"],
+                unaffected: &["> 1.0.0"],
+                ranges: &[("1.0.0", "1.0.1-0")],
+                affected: &[("1.0.0", true), ("1.0.1-0", false)],
+            },
+        ],
+    )
+}
+
+#[test]
+fn bounds_overlap_without_a_version(rt: HostRuntime) -> Result<(), Fail> {
+    expect_refused(&rt, &[(&["< 1.2.4-0", "> 1.2.3"], &[])])
+}
+
+#[test]
+fn one_requirement_two_bounds(rt: HostRuntime) -> Result<(), Fail> {
+    expect(
+        &rt,
+        &[Row {
+            patched: &["> 1.2.3, < 1.2.4-0"],
+            unaffected: &[],
+            ranges: &[("-", "1.2.4-0"), ("1.2.4-0", "-")],
+            affected: &[("1.2.4-0", true), ("1.2.3", true)],
+        }],
+    )
+}
+
+#[test]
+fn touching_bounds(rt: HostRuntime) -> Result<(), Fail> {
+    expect(
+        &rt,
+        &[Row {
+            patched: &["< 1.2.3", ">= 1.2.3"],
+            unaffected: &[],
+            ranges: &[("1.2.3", "1.2.3")],
+            affected: &[("1.2.3", false), ("1.2.3-a", false), ("0.0.0-0", false)],
+        }],
+    )
+}
+
+#[test]
+fn range_between_successors(rt: HostRuntime) -> Result<(), Fail> {
+    expect(
+        &rt,
+        &[Row {
+            patched: &["<= 1.2.3", "> 2.0.0"],
+            unaffected: &[],
+            ranges: &[("1.2.4-0", "2.0.1-0")],
+            affected: &[],
+        }],
+    )
+}
+
+#[test]
+fn ranges_of_two_lists(rt: HostRuntime) -> Result<(), Fail> {
+    expect(
+        &rt,
+        &[Row {
+            patched: &["^1.2", ">= 2.1.0"],
+            unaffected: &["< 1.0.0"],
+            ranges: &[("1.0.0", "1.2.0"), ("2.0.0-0", "2.1.0")],
+            affected: &[
+                ("0.9.0", false),
+                ("1.0.0-rc.1", false),
+                ("1.1.0", true),
+                ("1.9.0", false),
+                ("2.0.0-alpha1", true),
+            ],
+        }],
+    )
+}
+
+#[test]
+fn range_after_an_inclusive_end(rt: HostRuntime) -> Result<(), Fail> {
+    expect(
+        &rt,
+        &[Row {
+            patched: &["<= 1.2.3", "> 1.2.3, < 1.2.4-0"],
+            unaffected: &[],
+            ranges: &[("1.2.4-0", "1.2.4-0"), ("1.2.4-0", "-")],
+            affected: &[("1.2.4-0", true), ("1.2.3", false)],
+        }],
+    )
+}
+
+#[test]
+fn numbers_at_the_limit(rt: HostRuntime) -> Result<(), Fail> {
+    expect_refused(
+        &rt,
+        &[
+            (&["> 1.2.18446744073709551615"], &[]),
+            (&["=1.2.18446744073709551615"], &[]),
+            (&["<= 1.2.18446744073709551615"], &[]),
+            (&["^18446744073709551615"], &[]),
+        ],
+    )?;
+    expect(
+        &rt,
+        &[Row {
+            patched: &[">= 1.2.18446744073709551615"],
+            unaffected: &[],
+            ranges: &[("-", "1.2.18446744073709551615")],
+            affected: &[],
+        }],
+    )
+}
+
+#[test]
+fn numbers_at_each_limit_are_refused(rt: HostRuntime) -> Result<(), Fail> {
+    expect_refused(
+        &rt,
+        &[
+            (&["~1.18446744073709551615"], &[]),
+            (&["~18446744073709551615"], &[]),
+            (&["^0.18446744073709551615"], &[]),
+            (&["^0.0.18446744073709551615"], &[]),
+            (&["<= 1.2.18446744073709551615"], &[]),
+        ],
+    )
+}
+
+/// Requirements with the greatest number, and their ranges.
+const AT_EACH_LIMIT: &[Row<'static>] = &[
+    Row {
+        patched: &["< 1.2.18446744073709551615"],
+        unaffected: &[],
+        ranges: &[("1.2.18446744073709551615", "-")],
+        affected: &[],
+    },
+    Row {
+        patched: &["> 1.2.18446744073709551615-a"],
+        unaffected: &[],
+        ranges: &[("-", "1.2.18446744073709551615-a.0")],
+        affected: &[],
+    },
+    Row {
+        patched: &["> 18446744073709551615"],
+        unaffected: &[],
+        ranges: &[("-", "18446744073709551615.0.1-0")],
+        affected: &[],
+    },
+    Row {
+        patched: &["=1.2.18446744073709551615-0"],
+        unaffected: &[],
+        ranges: &[
+            ("-", "1.2.18446744073709551615-0"),
+            ("1.2.18446744073709551615-0.0", "-"),
+        ],
+        affected: &[],
+    },
+];
+
+#[test]
+fn numbers_at_each_limit(rt: HostRuntime) -> Result<(), Fail> {
+    expect(&rt, AT_EACH_LIMIT)
+}
+
+/// Whether a range has the version of a text.
+fn affects(alloc: Global, range: &OsvRange, text: &str) -> Result<bool, Fail> {
+    let version = version(alloc, text)?;
+    Ok(range.affects(&version))
+}
+
+/// Checks whether a range has versions.
+fn expect_affected<T: AllocGlobal + Abort>(
+    rt: &T,
+    range: &OsvRange,
+    rows: &[(&str, bool)],
+) -> Result<(), Fail> {
+    for (text, affected) in rows {
+        assert!(rt; affects(rt.alloc(), range, text)? == *affected, "at {text}");
+    }
+    Ok(())
+}
+
+// A range answers by the order of `Version`, in which build metadata counts.
+#[test]
+fn affects_by_the_order_of_the_type(rt: HostRuntime) -> Result<(), Fail> {
+    let range = OsvRange {
+        introduced: Some(version(rt.alloc(), "1.0.0+b")?),
+        fixed: Some(version(rt.alloc(), "2.0.0+b")?),
+    };
+    expect_affected(
+        &rt,
+        &range,
+        &[
+            ("1.0.0", false),
+            ("1.0.0+b", true),
+            ("2.0.0", true),
+            ("2.0.0+b", false),
+        ],
+    )
+}
+
+/// The interval from a version on.
+fn from(alloc: Global, text: &str) -> Result<UnaffectedRange, Fail> {
+    let bound = Bound::Inclusive(version(alloc, text)?);
+    Ok(UnaffectedRange::new(alloc, bound, Bound::Unbounded)?)
+}
+
+/// The interval up to a version.
+fn up_to(alloc: Global, text: &str) -> Result<UnaffectedRange, Fail> {
+    let bound = Bound::Inclusive(version(alloc, text)?);
+    Ok(UnaffectedRange::new(alloc, Bound::Unbounded, bound)?)
+}
+
+/// Whether the interval from a version on overlaps that up to another one, and itself.
+fn overlaps(alloc: Global, low: &str, high: &str) -> Result<(bool, bool), Fail> {
+    let above = from(alloc, low)?;
+    let below = up_to(alloc, high)?;
+    Ok((above.overlaps(&below), above.overlaps(&above)))
+}
+
+// Bounds made by hand overlap by the order of `Version`, in which build metadata counts.
+#[test]
+fn overlap_by_the_order_of_the_type(rt: HostRuntime) -> Result<(), Fail> {
+    assert!(rt; overlaps(rt.alloc(), "1.0.0+b", "1.0.0+a")? == (false, true));
+    Ok(())
+}
+
+/// Whether an interval holds the version of a text.
+fn holds_version(alloc: Global, interval: &UnaffectedRange, text: &str) -> Result<bool, Fail> {
+    let version = version(alloc, text)?;
+    Ok(interval.holds(&version))
+}
+
+/// Checks whether an interval holds versions.
+fn expect_held<T: AllocGlobal + Abort>(
+    rt: &T,
+    interval: &UnaffectedRange,
+    rows: &[(&str, bool)],
+) -> Result<(), Fail> {
+    for (text, held) in rows {
+        assert!(rt;
+            holds_version(rt.alloc(), interval, text)? == *held,
+            "at {text}"
+        );
+    }
+    Ok(())
+}
+
+// An interval holds versions by precedence, in which build metadata plays no part.
+#[test]
+fn holds_by_precedence(rt: HostRuntime) -> Result<(), Fail> {
+    let till = interval(rt.alloc(), "<= 1.2.3")??;
+    expect_held(
+        &rt,
+        &till,
+        &[("1.2.3-a", true), ("1.2.3+b", true), ("1.2.4-0", false)],
+    )
+}
