@@ -1,0 +1,29 @@
+-- The affected functions of a vulnerability.
+use Rattle.std.specs.Prelude.{ℕ, Bool, List, [], ◌∷◌, Option, Some, None, map}
+use Rattle.std.specs.List.{filter, list_any}
+use Rattle.semver.specs.EvalViews.{matches_views}
+use Rattle.semver.specs.Parse.{Parts}
+use Rattle.rustsec_advisory.specs.Affected.{Function}
+use Rattle.rustsec_advisory.specs.declared.affected.Affected.{Affected}
+use Rattle.rustsec_query.specs.declared.vulnerability.Vulnerability.{Vulnerability}
+
+-- whether a version matches some requirement of a function, by Cargo's rule of matching
+abbrev pub is_function_of : Parts → Function → Bool
+is_function_of v f = list_any (λ r. matches_views r v) f.1
+
+-- the paths of the functions of which a version matches some requirement, in their order
+abbrev pub matching : Parts → List Function → List (List (List ℕ))
+matching v fs = map (λ (f : Function). f.0) (filter (is_function_of v) fs)
+
+-- the same of functions that may not be listed
+abbrev pub listed : Parts → List Function → Option (List (List (List ℕ)))
+listed v [] = None
+listed v (f ∷ fs) = Some (matching v (f ∷ fs))
+
+abbrev pub functions_at : Parts → Option Affected → Option (List (List (List ℕ)))
+functions_at v None = None
+functions_at v (Some a) = listed v a.functions
+
+-- the affected functions of a vulnerability: none where no function is listed
+abbrev pub functions_of : Vulnerability → Option (List (List (List ℕ)))
+functions_of v = functions_at v.«package».version v.affected

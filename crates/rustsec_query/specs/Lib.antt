@@ -1,0 +1,4 @@
+pub mod Functions
+pub mod Pairs
+pub mod Query
+pub mod Selects

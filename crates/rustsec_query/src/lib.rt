@@ -1,0 +1,9 @@
+//! Which advisories a query selects, and the vulnerabilities of packages.
+#![tactic(auto)]
+
+mod query;
+mod tests_of_fields;
+mod vulnerability;
+
+pub use crate::query::Query;
+pub use crate::vulnerability::Vulnerability;
