@@ -1,8 +1,9 @@
 // Addresses, which contracts see as they print.
 
-ghost use Rattle.std.specs.Prelude.{◌≡◌, IfErr, IfOk, None, Some, nat_eq};
+ghost use Rattle.std.specs.Prelude.{◌≡◌, IfErr, IfOk, None, Ok, Some, nat_eq};
 ghost use Rattle.std.specs.Cmp.{partial_equiv_from_equiv};
 ghost use Rattle.std.specs.Cmp.Lexicographic.{bytes_decides, nat_list_eq_equiv, pointwise};
+ghost use Rattle.url.specs.Parser.{parse_url};
 ghost use Rattle.url.specs.Parts.{serialize};
 ghost use Rattle.rustsec_advisory.specs.Addresses.{address_of, unless_no_room};
 ghost use Rattle.rustsec_versions.specs.Failure.{IsRefusal};
@@ -15,22 +16,26 @@ use std::fmt;
 use std::marker::Model;
 use url::{ParseError, ParseResult, Url};
 
-/// An address by the URL Standard. Every contract sees it as the text that it prints.
+/// An address by the URL Standard, which was read from a text. Every contract sees it as the text that
+/// it prints; that text is read as the same address.
 #[derive(Drop)]
 pub struct Address {
     url: Url,
 }
 
 impl Model for Address {
-    ghost use Rattle.std.specs.Prelude.{ℕ, List};
+    ghost use Rattle.std.specs.Prelude.{◌≡◌, ℕ, List, None, Ok};
+    ghost use Rattle.url.specs.Parser.{parse_url};
     ghost use Rattle.url.specs.Parts.{serialize};
 
     ghost Value = { List ℕ };
 
     ghost view = { λ a. serialize a.url };
+
+    ghost invariant = { λ a. parse_url None (serialize a.url) ≡ Ok a.url };
 }
 
-/// What the parser gives, none where it refuses its text. Want of memory stands for want of room alone.
+/// What the parser gives, none if it refuses its text. An error here is want of room alone.
 fn unless_no_room(parsed: ParseResult<Url>) -> std::result::Result<Option<Url>, AllocError>
     ensures { result ≡ unless_no_room parsed }
 {
@@ -41,20 +46,40 @@ fn unless_no_room(parsed: ParseResult<Url>) -> std::result::Result<Option<Url>, 
     }
 }
 
+/// Why the parser refuses a text.
+fn reason(alloc: Global, parsed: &ParseResult<Url>) -> std::result::Result<String, AllocError> {
+    match parsed {
+        Ok(_) => Ok(String::new(alloc)),
+        Err(why) => format!(in alloc; "not an address: {why}"),
+    }
+}
+
+/// The address of a text that the parser reads as this URL.
+fn read_from(url: Url, text: &str) -> Address
+    requires { parse_url None text.now ≡ Ok url }
+    ensures { result ≡ serialize url }
+{
+    // A `Url` says of itself, where it is asked for its text, that it is valid.
+    let _text = url.as_str();
+    Address { url }
+}
+
 impl Address {
     /// The address of a text.
     ///
     /// # Errors
     ///
-    /// `Parse` where the URL Standard's parser refuses the text; else `OutOfMemory`, for an address
-    /// beyond the 4 GB of the type `Url` too.
+    /// `Parse` if the URL Standard's parser refuses the text, with its reason; else `OutOfMemory`, for an
+    /// address beyond the 4 GB of the type `Url` too.
     pub fn from_str(alloc: Global, text: &str) -> Result<Address>
         ensures ok { IfOk result (λ a. address_of text.now ≡ Some a) }
         ensures err { IfErr result (IsRefusal ErrorKind.Parse (address_of text.now ≡ None)) }
     {
-        match unless_no_room(Url::parse(alloc, text))? {
-            Some(url) => Ok(Address { url }),
-            None => Err(Error::new(alloc, ErrorKind::Parse, "no address")),
+        let parsed = Url::parse(alloc, text);
+        let reason = reason(alloc, &parsed)?;
+        match unless_no_room(parsed)? {
+            Some(url) => Ok(read_from(url, text)),
+            None => Err(Error::new(alloc, ErrorKind::Parse, &reason)),
         }
     }
 
@@ -67,20 +92,12 @@ impl Address {
 
     /// The text that it prints.
     pub fn as_str(&self) -> &str
-        ensures { result.now ≡ self.now }
+        ensures value { result.now ≡ self.now }
+
+        // The text is read as this very address, whatever its scheme.
+        ensures read_again { address_of self.now ≡ Some self.now }
     {
         self.url.as_str()
-    }
-}
-
-impl From<Url> for Address {
-    ghost use Rattle.std.specs.Prelude.{◌≡◌};
-    ghost use Rattle.url.specs.Parts.{serialize};
-
-    ghost from_gives = { λ url address. address ≡ serialize url };
-
-    fn from(url: Url) -> Address {
-        Address { url }
     }
 }
 

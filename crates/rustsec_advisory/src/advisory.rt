@@ -240,6 +240,18 @@ impl Advisory {
         self.metadata.withdrawn.is_some()
     }
 
+    /// The parts, by value. This takes no memory.
+    pub fn into_parts(self) -> (Metadata, Option<Affected>, Versions)
+        ensures { result ≡ (self.metadata, self.affected, self.versions) }
+    {
+        let Advisory {
+            metadata,
+            affected,
+            versions,
+        } = self;
+        (metadata, affected, versions)
+    }
+
     /// Whether a path is a draft's: whether its file's name begins with `RUSTSEC-0000-0000.`.
     pub fn is_draft(path: &str) -> bool
         ensures { result ≡ is_draft path.now }

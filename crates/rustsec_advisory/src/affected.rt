@@ -43,6 +43,24 @@ impl Affected {
         }
     }
 
+    /// The architectures, the systems and the functions, by value. This takes no memory.
+    pub fn into_parts(
+        self,
+    ) -> (
+        Items<Arch>,
+        Items<OS>,
+        SortedMap<FunctionPath, Requirements>,
+    )
+        ensures { result ≡ (self.arch, self.os, self.functions) }
+    {
+        let Affected {
+            arch,
+            os,
+            functions,
+        } = self;
+        (arch, os, functions)
+    }
+
     /// An equal value.
     ///
     /// # Errors

@@ -7,7 +7,7 @@ mod affected;
 mod faults;
 mod fields;
 pub mod linter;
-mod metadata;
+pub mod metadata;
 mod path;
 mod requirements;
 mod tables;

@@ -54,40 +54,74 @@ pub struct Metadata {
     pub expect_deleted: bool,
 }
 
-/// What an advisory says of the fault: its names, its package and its day.
+/// What an advisory says of the vulnerability: its names, its package and its day.
 #[derive(Drop)]
-pub(crate) struct Subject {
+pub struct Subject {
+    /// The ID.
     pub id: Id,
+    /// The name of the package.
     pub name: Name,
+    /// The day on which it was made known.
     pub date: Date,
+    /// IDs of the same vulnerability.
     pub aliases: Items<Id>,
+    /// IDs of others that go with it.
     pub related: Items<Id>,
 }
 
-/// How an advisory sorts the fault.
+/// How an advisory sorts the vulnerability.
 #[derive(Drop)]
-pub(crate) struct Kinds {
+pub struct Kinds {
+    /// The collection that it stands in, if the file says so.
     pub collection: Option<Collection>,
+    /// The categories.
     pub categories: Items<Category>,
+    /// Words to look for it by.
     pub keywords: Items<Keyword>,
+    /// How severe it is.
     pub cvss: Option<Cvss>,
+    /// What the advisory informs of, if there is no vulnerability.
     pub informational: Option<Informational>,
 }
 
 /// What an advisory says of where more is found.
 #[derive(Drop)]
-pub(crate) struct Origin {
+pub struct Origin {
+    /// Addresses of more about it.
     pub references: Items<Address>,
+    /// The source of the package, if it is not the default registry.
     pub source: Option<SourceId>,
+    /// The address of an announcement.
     pub url: Option<Address>,
 }
 
 /// On which terms an advisory stands.
 #[derive(Drop)]
-pub(crate) struct Terms {
+pub struct Terms {
+    /// The day on which it was withdrawn, if it was.
     pub withdrawn: Option<Date>,
+    /// The license of the text.
     pub license: License,
+    /// Whether the package may be gone from its registry.
     pub expect_deleted: bool,
+}
+
+/// All parts of what an advisory says of itself, in groups. Unlike `Metadata` it can be taken apart
+/// field by field.
+#[derive(Drop)]
+pub struct MetadataParts {
+    /// The title.
+    pub title: Text,
+    /// The description.
+    pub description: Text,
+    /// The vulnerability: its names, its package and its day.
+    pub subject: Subject,
+    /// How it is sorted.
+    pub kinds: Kinds,
+    /// Where more is found.
+    pub origin: Origin,
+    /// The terms.
+    pub terms: Terms,
 }
 
 /// One place drops the fields, so that the end of an owner's life is one step of its proof.
@@ -151,7 +185,68 @@ impl Metadata {
         }
     }
 
-    /// A copy of what is said of the fault.
+    /// The parts, by value. This takes no memory.
+    pub fn into_parts(self) -> MetadataParts
+        ensures { result ≡ record {
+          title = self.title;
+          description = self.description;
+          subject = subject_of self;
+          kinds = kinds_of self;
+          origin = origin_of self;
+          terms = terms_of self;
+        } }
+    {
+        let Metadata {
+            id,
+            package,
+            title,
+            description,
+            date,
+            aliases,
+            related,
+            collection,
+            categories,
+            keywords,
+            cvss,
+            informational,
+            references,
+            source,
+            url,
+            withdrawn,
+            license,
+            expect_deleted,
+        } = self;
+        MetadataParts {
+            title,
+            description,
+            subject: Subject {
+                id,
+                name: package,
+                date,
+                aliases,
+                related,
+            },
+            kinds: Kinds {
+                collection,
+                categories,
+                keywords,
+                cvss,
+                informational,
+            },
+            origin: Origin {
+                references,
+                source,
+                url,
+            },
+            terms: Terms {
+                withdrawn,
+                license,
+                expect_deleted,
+            },
+        }
+    }
+
+    /// A copy of what is said of the vulnerability.
     fn subject(&self) -> std::result::Result<Subject, AllocError>
         ensures { IfOk result (λ s. s ≡ subject_of self.now) }
     {
