@@ -86,9 +86,3 @@ unfolding base_of
 base_of_parts minor text ps e =
     ap (λ qs. only_if (length qs == 8) (metrics_of minor qs)) (sym e)
     ∙ ap (λ n. only_if (n == 8) (metrics_of minor (map (λ p. p.now) ps))) (length-map ps (λ p. p.now))
-
--- a refusal, or want of memory for its message
-pub refusal : {P : Type 0} {m : List ℕ} (e : Failure) → P → (e ≡ record { kind = kind.Parse; message = m; cause = None }) ⊎ (e ≡ out_of_memory)
-    → IsRefusal kind.Parse P e
-refusal e p (inl h) = inl (ap (λ (x : Failure). x.kind) h, p)
-refusal e p (inr h) = inr h

@@ -1,10 +1,9 @@
 pub mod Arrays
-pub mod Cuts
 pub mod CvssAgain
 pub mod CvssParts
 pub mod ScoreSteps
 pub mod ScoreTable
 pub mod Sources
-pub mod Tables
+pub mod TwoMarks
 pub mod ValidVersions
 pub mod Vectors

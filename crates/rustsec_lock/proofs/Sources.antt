@@ -1,11 +1,11 @@
 -- The text of a source is read back as that source.
-use Rattle.std.proofs.Common.{◌≡◌, ◌∙◌, ◌+◌, ◌<◌, ◌++◌, ℕ, Bool, true, List, ◌∷◌, Some, ap, arith, drop, length, nat_lt, refl, take}
+use Rattle.std.proofs.Common.{◌≡◌, ◌∙◌, ◌+◌, ◌<◌, ◌++◌, ℕ, Bool, true, false, List, ◌∷◌, None, Some, ap, arith, drop, length, nat_lt, refl, take}
 use Rattle.std.proofs.Math.Seq.{drop-append-add, take-append_seam}
 use Rattle.std.proofs.lemmas.Bool.Decides.{nat_tests}
 use Rattle.std.proofs.lemmas.List.{length-append}
-use Rattle.std.specs.List.{position_or_len}
+use Rattle.std.specs.List.{after_first, before_first, position_or_len}
 use Rattle.rustsec_values.specs.Reading.{◌>>=◌, only_if}
-use Rattle.rustsec_lock.specs.Source.{Source, at_plus, is_plus, kind_word, located, location_of, source_id_of, source_of_cut, source_text}
+use Rattle.rustsec_lock.specs.Source.{Source, at_plus, is_plus, kind_of, kind_word, located, location_of, source_id_of, source_of_cut, source_text}
 use Rattle.rustsec_lock.specs.declared.source.SourceKind.{SourceKind}
 use Rattle.rustsec_lock.specs.declared.source.SourceKind.TheVariants as kind
 
@@ -48,3 +48,11 @@ located-back s h = rw (some (length (location_of s.kind s.address)) h) refl
 pub source-back : (s : Source) → 0 < length (location_of s.kind s.address) → source_id_of (source_text s) ≡ Some s
 source-back s h =
     ap (λ cut. cut >>= source_of_cut) (at_plus-back (kind_word s.kind) s.address (word-end s.kind s.address)) ∙ word-back s.kind s.address ∙ located-back s h
+
+no_kind : (b : Bool) (cut : List ℕ × List ℕ) → kind_of cut.0 ≡ None → (only_if b (Some cut) >>= source_of_cut) ≡ None
+no_kind true cut h = rw h refl
+no_kind false cut h = refl
+
+-- a text whose word names no kind is no source
+pub source_id_of-no_kind : (text word : List ℕ) → word ≡ before_first is_plus text → kind_of word ≡ None → source_id_of text ≡ None
+source_id_of-no_kind text word is h = no_kind _ (before_first is_plus text, after_first is_plus text) (rw is at h)

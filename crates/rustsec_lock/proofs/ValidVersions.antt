@@ -68,5 +68,5 @@ module _ {A B : Type 0} (f : A → Option B) (P : B → Type 0) (each : (x : A) 
   read_all-all [] ys e = subst (λ (us : List B). All P us) (some-inj [] ys e) (All-nil P)
   read_all-all (x ∷ xs) ys e = before-all (f x) (read_all f xs) ys (λ y. each x y) (read_all-all xs) e
 
-pub values-valid : (ds : List Data) (ps : List PackageValue) → read_all package_of ds ≡ Some ps → AreValid ps
-values-valid = read_all-all package_of (λ (p : PackageValue). IsVersion p.version) package_of-valid
+pub values_valid : (ds : List Data) (ps : List PackageValue) → read_all package_of ds ≡ Some ps → AreValid ps
+values_valid = read_all-all package_of (λ (p : PackageValue). IsVersion p.version) package_of-valid

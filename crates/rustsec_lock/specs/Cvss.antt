@@ -3,12 +3,13 @@
 use Rattle.std.specs.Prelude.{ℕ, ◌==◌, ◌++◌, List, [], ◌∷◌, drop, filter_map, length, nat_eq, Option, Some, None, option_map, if◌then◌else◌, codes}
 use Rattle.std.specs.Fmt.{decimal}
 use Rattle.std.specs.List.{slice_split, starts_with}
+use Rattle.rustsec_values.specs.ClosedTables.{value_named}
 use Rattle.rustsec_values.specs.Reading.{◌>>=◌, only_if}
 use Rattle.rustsec_lock.specs.declared.cvss.Cvss.{Cvss}
 use Rattle.rustsec_lock.specs.declared.cvss.Cvss.TheVariants as cvss
 use Rattle.rustsec_lock.specs.declared.metrics.Base.{Base}
 use Rattle.rustsec_lock.specs.declared.severity.Severity.{Severity}
-use Rattle.rustsec_lock.specs.Metrics.{attack_complexity_letter, attack_complexity_of, attack_vector_letter, attack_vector_of, availability_letter, availability_of, confidentiality_letter, confidentiality_of, integrity_letter, integrity_of, privileges_required_letter, privileges_required_of, scope_letter, scope_of, user_interaction_letter, user_interaction_of}
+use Rattle.rustsec_lock.specs.Metrics.{attack_complexity_letter, attack_complexity_values, attack_vector_letter, attack_vector_values, availability_letter, availability_values, confidentiality_letter, confidentiality_values, integrity_letter, integrity_values, privileges_required_letter, privileges_required_values, scope_letter, scope_values, user_interaction_letter, user_interaction_values}
 use Rattle.rustsec_lock.specs.Score.{score_tenths_of, severity_of}
 
 -- what stands behind a beginning, in a text that begins with it
@@ -29,18 +30,22 @@ given name parts = lone (filter_map (behind name) parts)
 abbrev pub parts_of : List ℕ → List (List ℕ)
 parts_of text = slice_split (λ b. b == 47) text
 
+-- the value whose letter stands behind a metric's name in the one part that begins with it
+abbrev pub metric : {A : Type 0} → (A → List ℕ) → List A → List ℕ → List (List ℕ) → Option A
+metric letter values name parts = given name parts >>= value_named letter values
+
 -- the base metrics that eight parts give: for each metric exactly one part begins with its name and a colon, and one
 -- of its letters follows
 abbrev pub metrics_of : ℕ → List (List ℕ) → Option Base
 metrics_of minor parts =
-    given (codes "AV:") parts >>= attack_vector_of >>= λ av.
-    given (codes "AC:") parts >>= attack_complexity_of >>= λ ac.
-    given (codes "PR:") parts >>= privileges_required_of >>= λ pr.
-    given (codes "UI:") parts >>= user_interaction_of >>= λ ui.
-    given (codes "S:") parts >>= scope_of >>= λ s.
-    given (codes "C:") parts >>= confidentiality_of >>= λ c.
-    given (codes "I:") parts >>= integrity_of >>= λ i.
-    given (codes "A:") parts >>= availability_of >>= λ a.
+    metric attack_vector_letter attack_vector_values (codes "AV:") parts >>= λ av.
+    metric attack_complexity_letter attack_complexity_values (codes "AC:") parts >>= λ ac.
+    metric privileges_required_letter privileges_required_values (codes "PR:") parts >>= λ pr.
+    metric user_interaction_letter user_interaction_values (codes "UI:") parts >>= λ ui.
+    metric scope_letter scope_values (codes "S:") parts >>= λ s.
+    metric confidentiality_letter confidentiality_values (codes "C:") parts >>= λ c.
+    metric integrity_letter integrity_values (codes "I:") parts >>= λ i.
+    metric availability_letter availability_values (codes "A:") parts >>= λ a.
     Some (record { minor_version = minor; av = av; ac = ac; pr = pr; ui = ui; s = s; c = c; i = i; a = a })
 
 -- the base metrics of the text behind a vector's version

@@ -1,10 +1,11 @@
 -- The packages of a lockfile's table.
-use Rattle.std.specs.Prelude.{ℕ, List, [], ◌∷◌, Option, Some, None, codes}
+use Rattle.std.specs.Prelude.{◌≡◌, ◌⊎◌, ◌++◌, ℕ, List, [], ◌∷◌, Option, Some, None, codes}
 use Rattle.std.specs.List.{All}
 use Rattle.semver.specs.Parse.{Parts, version_parts}
 use Rattle.toml.specs.Data.{Data, Items, Members, as_array, as_str, as_table, get_member, item, no_items}
 use Rattle.toml.specs.Parse.{parse_document}
 use Rattle.rustsec_values.specs.Reading.{◌>>=◌, read_all, read_optional, value_of}
+use Rattle.rustsec_versions.specs.Failure.{Failure, out_of_memory}
 use Rattle.rustsec_versions.specs.Precedence.{IsVersion}
 use Rattle.rustsec_lock.specs.Names.{name_of}
 use Rattle.rustsec_lock.specs.Package.{PackageValue}
@@ -60,3 +61,7 @@ lockfile_of text = parse_document text >>= packages_of
 -- each package has a valid version
 abbrev pub AreValid : List PackageValue → Type 0
 AreValid ps = All (λ (p : PackageValue). IsVersion p.version) ps
+
+-- the message of a failure to load a lockfile names its path; out of memory has no message
+abbrev pub NamesLockfile : List ℕ → Failure → Type 0
+NamesLockfile path e = (e.message ≡ codes "error parsing " ++ path) ⊎ ((e.message ≡ codes "couldn't read " ++ path) ⊎ (e ≡ out_of_memory))

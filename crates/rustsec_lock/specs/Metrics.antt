@@ -1,6 +1,6 @@
 -- The letters that stand for the values of the base metrics: CVSS 3.1, section 6, table 15.
-use Rattle.std.specs.Prelude.{ℕ, List, [], ◌∷◌, Option, Some, None, nat_eq, if◌then◌else◌, codes}
-use Rattle.std.specs.Cmp.Lexicographic.{pointwise}
+use Rattle.std.specs.Prelude.{ℕ, List, [], ◌∷◌, Option, codes}
+use Rattle.rustsec_values.specs.ClosedTables.{value_named}
 use Rattle.rustsec_lock.specs.declared.metrics.AttackComplexity.{AttackComplexity}
 use Rattle.rustsec_lock.specs.declared.metrics.AttackComplexity.TheVariants as attack_complexity
 use Rattle.rustsec_lock.specs.declared.metrics.AttackVector.{AttackVector}
@@ -17,11 +17,6 @@ use Rattle.rustsec_lock.specs.declared.metrics.Scope.{Scope}
 use Rattle.rustsec_lock.specs.declared.metrics.Scope.TheVariants as scope
 use Rattle.rustsec_lock.specs.declared.metrics.UserInteraction.{UserInteraction}
 use Rattle.rustsec_lock.specs.declared.metrics.UserInteraction.TheVariants as user_interaction
-
--- the value beside a text in a table, where there is one
-abbrev pub beside : {A : Type 0} → List ℕ → List (List ℕ × A) → Option A
-beside text [] = None
-beside text (row ∷ rows) = if pointwise nat_eq text row.0 then Some row.1 else beside text rows
 
 -- ---- the letter of a value: its name's first
 
@@ -63,28 +58,54 @@ availability_letter availability.None = codes "N"
 availability_letter availability.Low = codes "L"
 availability_letter availability.High = codes "H"
 
+-- ---- the values of a metric
+
+abbrev pub attack_vector_values : List AttackVector
+attack_vector_values = attack_vector.Network ∷ attack_vector.Adjacent ∷ attack_vector.Local ∷ attack_vector.Physical ∷ []
+
+abbrev pub attack_complexity_values : List AttackComplexity
+attack_complexity_values = attack_complexity.Low ∷ attack_complexity.High ∷ []
+
+abbrev pub privileges_required_values : List PrivilegesRequired
+privileges_required_values = privileges_required.None ∷ privileges_required.Low ∷ privileges_required.High ∷ []
+
+abbrev pub user_interaction_values : List UserInteraction
+user_interaction_values = user_interaction.None ∷ user_interaction.Required ∷ []
+
+abbrev pub scope_values : List Scope
+scope_values = scope.Unchanged ∷ scope.Changed ∷ []
+
+abbrev pub confidentiality_values : List Confidentiality
+confidentiality_values = confidentiality.None ∷ confidentiality.Low ∷ confidentiality.High ∷ []
+
+abbrev pub integrity_values : List Integrity
+integrity_values = integrity.None ∷ integrity.Low ∷ integrity.High ∷ []
+
+abbrev pub availability_values : List Availability
+availability_values = availability.None ∷ availability.Low ∷ availability.High ∷ []
+
 -- ---- the value of a letter, where there is one
 
 abbrev pub attack_vector_of : List ℕ → Option AttackVector
-attack_vector_of text = beside text ((codes "N", attack_vector.Network) ∷ (codes "A", attack_vector.Adjacent) ∷ (codes "L", attack_vector.Local) ∷ (codes "P", attack_vector.Physical) ∷ [])
+attack_vector_of = value_named attack_vector_letter attack_vector_values
 
 abbrev pub attack_complexity_of : List ℕ → Option AttackComplexity
-attack_complexity_of text = beside text ((codes "L", attack_complexity.Low) ∷ (codes "H", attack_complexity.High) ∷ [])
+attack_complexity_of = value_named attack_complexity_letter attack_complexity_values
 
 abbrev pub privileges_required_of : List ℕ → Option PrivilegesRequired
-privileges_required_of text = beside text ((codes "N", privileges_required.None) ∷ (codes "L", privileges_required.Low) ∷ (codes "H", privileges_required.High) ∷ [])
+privileges_required_of = value_named privileges_required_letter privileges_required_values
 
 abbrev pub user_interaction_of : List ℕ → Option UserInteraction
-user_interaction_of text = beside text ((codes "N", user_interaction.None) ∷ (codes "R", user_interaction.Required) ∷ [])
+user_interaction_of = value_named user_interaction_letter user_interaction_values
 
 abbrev pub scope_of : List ℕ → Option Scope
-scope_of text = beside text ((codes "U", scope.Unchanged) ∷ (codes "C", scope.Changed) ∷ [])
+scope_of = value_named scope_letter scope_values
 
 abbrev pub confidentiality_of : List ℕ → Option Confidentiality
-confidentiality_of text = beside text ((codes "N", confidentiality.None) ∷ (codes "L", confidentiality.Low) ∷ (codes "H", confidentiality.High) ∷ [])
+confidentiality_of = value_named confidentiality_letter confidentiality_values
 
 abbrev pub integrity_of : List ℕ → Option Integrity
-integrity_of text = beside text ((codes "N", integrity.None) ∷ (codes "L", integrity.Low) ∷ (codes "H", integrity.High) ∷ [])
+integrity_of = value_named integrity_letter integrity_values
 
 abbrev pub availability_of : List ℕ → Option Availability
-availability_of text = beside text ((codes "N", availability.None) ∷ (codes "L", availability.Low) ∷ (codes "H", availability.High) ∷ [])
+availability_of = value_named availability_letter availability_values

@@ -1,9 +1,10 @@
 -- Where a package comes from: `KIND+ADDRESS`, as lockfiles write it.
 use Rattle.std.specs.Prelude.{◌==◌, ◌||◌, ◌++◌, ℕ, Bool, List, [], ◌∷◌, Option, Some, codes, length, nat_eq, nat_lt}
 use Rattle.std.specs.Cmp.Lexicographic.{pointwise}
-use Rattle.std.specs.List.{after_first, before_first, find, position_or_len}
+use Rattle.std.specs.List.{after_first, before_first, position_or_len}
 use Rattle.rustsec_lock.specs.declared.source.SourceKind.{SourceKind}
 use Rattle.rustsec_lock.specs.declared.source.SourceKind.TheVariants as kind
+use Rattle.rustsec_values.specs.ClosedTables.{value_named}
 use Rattle.rustsec_values.specs.Reading.{◌>>=◌, only_if}
 
 -- a source: its kind, and all that follows the first `+` of its text
@@ -26,7 +27,7 @@ kinds = kind.Registry ∷ kind.SparseRegistry ∷ kind.Git ∷ kind.Path ∷ kin
 
 -- the kind of a word
 abbrev pub kind_of : List ℕ → Option SourceKind
-kind_of word = find (λ k. pointwise nat_eq (kind_word k) word) kinds
+kind_of = value_named kind_word kinds
 
 -- whether a byte is a plus sign
 abbrev pub is_plus : ℕ → Bool

@@ -3,15 +3,12 @@
 ghost use Rattle.std.specs.Prelude.{◌≡◌, ◌==◌, Some, None, IfErr, IfOk, IfSome, length, map, option_map};
 ghost use Rattle.std.specs.Fmt.{DisplaysOnOk};
 ghost use Rattle.rustsec_versions.specs.Failure.{IsMemory, IsRefusal};
-ghost use Rattle.rustsec_lock.specs.Cvss.{base_of, base_text, behind, cvss_of, cvss_severity, cvss_text, given, metrics_of};
+ghost use Rattle.rustsec_lock.specs.Cvss.{base_of, base_text, behind, cvss_of, cvss_severity, cvss_text, given, metric, metrics_of};
 
-use crate::metrics::{
-    AttackComplexity, AttackVector, Availability, Base, Confidentiality, Integrity,
-    PrivilegesRequired, Scope, UserInteraction,
-};
+use crate::metrics::Base;
 use crate::severity::Severity;
-use rustsec_values::{ExactClone, ExactEq, Text};
-use rustsec_versions::{Error, ErrorKind, FromText, Result};
+use rustsec_values::{ExactClone, ExactEq, Named, Text, value_named};
+use rustsec_versions::{ErrorKind, FromText, Result, refused_text};
 use std::alloc::{AllocError, Global};
 use std::fmt;
 
@@ -49,29 +46,28 @@ fn given<'a>(name: &str, parts: &[&'a str]) -> Option<&'a str>
     found
 }
 
+/// The value whose letter stands behind a metric's name in the one part that begins with it.
+fn metric<T: Named>(name: &str, parts: &[&str]) -> Option<T>
+    ensures { result ≡ metric T.name_of T.values name.now (map (λ p. p.now) parts.now) }
+{
+    value_named(given(name, parts)?)
+}
+
 /// The metrics that the parts of a vector give.
 fn metrics(minor_version: usize, parts: &[&str]) -> Option<Base>
     ensures value { result ≡ metrics_of minor_version (map (λ p. p.now) parts.now) }
     ensures minor { IfSome result (λ b. b.minor_version ≡ minor_version) }
 {
-    let av = AttackVector::from_letter(given("AV:", parts)?)?;
-    let ac = AttackComplexity::from_letter(given("AC:", parts)?)?;
-    let pr = PrivilegesRequired::from_letter(given("PR:", parts)?)?;
-    let ui = UserInteraction::from_letter(given("UI:", parts)?)?;
-    let s = Scope::from_letter(given("S:", parts)?)?;
-    let c = Confidentiality::from_letter(given("C:", parts)?)?;
-    let i = Integrity::from_letter(given("I:", parts)?)?;
-    let a = Availability::from_letter(given("A:", parts)?)?;
     Some(Base {
         minor_version,
-        av,
-        ac,
-        pr,
-        ui,
-        s,
-        c,
-        i,
-        a,
+        av: metric("AV:", parts)?,
+        ac: metric("AC:", parts)?,
+        pr: metric("PR:", parts)?,
+        ui: metric("UI:", parts)?,
+        s: metric("S:", parts)?,
+        c: metric("C:", parts)?,
+        i: metric("I:", parts)?,
+        a: metric("A:", parts)?,
     })
 }
 
@@ -94,10 +90,11 @@ fn base(alloc: Global, minor_version: usize, text: &str) -> Result<Base>
             return Ok(base);
         }
     }
-    Err(Error::new(
+    Err(refused_text(
         alloc,
-        ErrorKind::Parse,
-        "a vector names each metric once, with one of its letters",
+        "malformed CVSS vector",
+        text,
+        "each of AV, AC, PR, UI, S, C, I and A once, with one of its letters",
     ))
 }
 
@@ -125,10 +122,11 @@ impl Cvss {
             let text = Text::from_str(alloc, text)?;
             return Ok(Cvss::CvssV40(text));
         }
-        Err(Error::new(
+        Err(refused_text(
             alloc,
-            ErrorKind::Parse,
-            "a vector begins with CVSS:3.0, CVSS:3.1 or CVSS:4.0",
+            "malformed CVSS vector",
+            text,
+            "`CVSS:3.0/`, `CVSS:3.1/` or `CVSS:4.0/` at its beginning",
         ))
     }
 
@@ -200,14 +198,14 @@ impl fmt::Display for Base {
 
     fn fmt<W: fmt::Write>(&self, f: &mut fmt::Formatter<W>) -> fmt::Result {
         let minor_version = self.minor_version;
-        let av = self.av.letter();
-        let ac = self.ac.letter();
-        let pr = self.pr.letter();
-        let ui = self.ui.letter();
-        let s = self.s.letter();
-        let c = self.c.letter();
-        let i = self.i.letter();
-        let a = self.a.letter();
+        let av = self.av.name();
+        let ac = self.ac.name();
+        let pr = self.pr.name();
+        let ui = self.ui.name();
+        let s = self.s.name();
+        let c = self.c.name();
+        let i = self.i.name();
+        let a = self.a.name();
         write!(
             f,
             "CVSS:3.{minor_version}/AV:{av}/AC:{ac}/PR:{pr}/UI:{ui}/S:{s}/C:{c}/I:{i}/A:{a}"

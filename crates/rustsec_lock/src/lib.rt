@@ -7,12 +7,11 @@ mod metrics;
 mod names;
 mod packages;
 pub mod platforms;
-mod refusal;
 mod score;
 mod severity;
 mod source;
 mod source_order;
-mod table;
+mod toml_table;
 
 /// Packages and their names.
 pub mod package {

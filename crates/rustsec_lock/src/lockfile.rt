@@ -5,22 +5,32 @@ ghost use Rattle.semver.specs.Identifiers.{parts_of};
 ghost use Rattle.toml.specs.View.{array_view, table_view, view};
 ghost use Rattle.rustsec_values.specs.Reading.{read_all, read_optional};
 ghost use Rattle.rustsec_versions.specs.Failure.{IsMemory, IsOfKind, IsRefusal};
-ghost use Rattle.rustsec_lock.specs.Lockfile.{AreValid, list_of, lockfile_of, package_in, package_of, packages_of, version_of};
+ghost use Rattle.rustsec_lock.specs.Lockfile.{AreValid, NamesLockfile, list_of, lockfile_of, package_in, package_of, packages_of, version_of};
 ghost use Rattle.rustsec_lock.specs.Source.{source_id_of};
 
 use crate::names::Name;
 use crate::packages::Package;
-use crate::refusal::refused;
 use crate::source::SourceId;
-use crate::table::{member, optional_text_at, text_at};
-use rustsec_values::{ExactClone, Items, Text};
-use rustsec_versions::{Error, ErrorKind, Result};
+use crate::toml_table::{member, of_another_type, optional_text_at, text_at};
+use rustsec_files::reading::text_of_file;
+use rustsec_values::{ExactClone, Items, Text, beginning_of};
+use rustsec_versions::{Error, ErrorKind, Result, refused_at, refused_file, refused_text};
 use semver::Version;
 use std::alloc::{AllocError, Global};
 use std::rt::Files;
-use std::{fs, io};
 use toml::value::Array;
 use toml::{Table, Value};
+
+/// The refusal of a text that is no version, whose cause is what `semver` says of it.
+fn malformed_version(alloc: Global, text: &str, error: &semver::Error) -> Error
+    ensures { IsOfKind ErrorKind.Parse result }
+{
+    let refusal = refused_text(alloc, "malformed version", text, "one such as `1.2.3`");
+    match format!(in alloc; "{error}") {
+        Ok(cause) => Error::with_source(alloc, ErrorKind::Parse, refusal.message(), &cause),
+        Err(refused) => Error::from(refused),
+    }
+}
 
 /// The version of a text.
 fn version_of(alloc: Global, text: &str) -> Result<Version>
@@ -33,7 +43,7 @@ fn version_of(alloc: Global, text: &str) -> Result<Version>
             if e == semver::Error::from(AllocError) {
                 return Err(Error::from(AllocError));
             }
-            Err(refused(alloc, "a version is malformed"))
+            Err(malformed_version(alloc, text, &e))
         }
     }
 }
@@ -90,7 +100,30 @@ fn package_of(alloc: Global, value: &Value) -> Result<Package>
 {
     match value.as_table() {
         Some(table) => package_in(alloc, table),
-        None => Err(refused(alloc, "a package is no table")),
+        None => Err(of_another_type(alloc, "package", value, "a table for each package")),
+    }
+}
+
+/// Where a package stands: its place among the packages, from 1 on, and its name if it has one.
+fn place_of(alloc: Global, index: usize, value: &Value) -> std::result::Result<String, AllocError> {
+    let place = index.saturating_add(1);
+    match value.get("name").and_then(Value::as_str) {
+        Some(name) => {
+            let name = beginning_of(name, 60);
+            format!(in alloc; "package {place}, `{name}`")
+        }
+        None => format!(in alloc; "package {place}"),
+    }
+}
+
+/// The refusal of a package that names its place.
+fn in_package(alloc: Global, index: usize, value: &Value, error: &Error) -> Error
+    ensures kind { IsOfKind error.now.kind result }
+    ensures memory { IsMemory error.now → IsMemory result }
+{
+    match place_of(alloc, index, value) {
+        Ok(place) => refused_at(alloc, &place, error),
+        Err(refused) => Error::from(refused),
     }
 }
 
@@ -99,9 +132,13 @@ fn add_package(alloc: Global, packages: &mut Items<Package>, value: &Value) -> R
     ensures ok { OnOk result (option_map (λ p. packages.old ++ p ∷ []) (package_of (view value.now)) ≡ Some packages.new) }
     ensures err { IfErr result (IsRefusal ErrorKind.Parse (package_of (view value.now) ≡ None)) }
 {
-    let package = package_of(alloc, value)?;
-    packages.push(package)?;
-    Ok(())
+    match package_of(alloc, value) {
+        Ok(package) => {
+            packages.push(package)?;
+            Ok(())
+        }
+        Err(e) => Err(in_package(alloc, packages.len(), value, &e)),
+    }
 }
 
 /// The packages of an array, in order.
@@ -116,10 +153,17 @@ fn packages_in(alloc: Global, array: &Array) -> Result<Items<Package>>
     Ok(packages)
 }
 
-/// The text of a file.
-fn text_of<R: Files>(rt: &R, alloc: Global, path: &str) -> io::Result<String> {
-    let file = fs::File::open(rt, path)?;
-    io::read_to_string(alloc, file)
+/// The refusal of a text that is no TOML document, whose cause is what `toml` says of it.
+fn no_document(alloc: Global, error: &toml::de::Error) -> Error
+    ensures { IsOfKind ErrorKind.Parse result }
+{
+    match format!(in alloc; "{error}") {
+        Ok(cause) => {
+            let message = "the lockfile is no TOML document";
+            Error::with_source(alloc, ErrorKind::Parse, message, &cause)
+        }
+        Err(refused) => Error::from(refused),
+    }
 }
 
 /// A lockfile: its packages, in order.
@@ -136,8 +180,9 @@ impl Lockfile {
     ///
     /// # Errors
     ///
-    /// `Parse` where a value is of another type, a name or a version is missing, or a text is refused;
-    /// else `OutOfMemory`.
+    /// `Parse` if a value is of another type, a name or a version is missing, or a text is refused; else
+    /// `OutOfMemory`. The message names the package, by its place from 1 on and its name.
+    #[tactic(auto, using(crate::proofs::ValidVersions::values_valid))]
     pub fn from_table(alloc: Global, table: &Table) -> Result<Lockfile>
         ensures ok { IfOk result (λ l. packages_of (table_view table.now) ≡ Some l.packages) }
         ensures valid { IfOk result (λ l. AreValid l.packages) }
@@ -149,7 +194,7 @@ impl Lockfile {
             });
         };
         let Some(array) = value.as_array() else {
-            return Err(refused(alloc, "the packages are no array"));
+            return Err(of_another_type(alloc, "package", value, "an array of tables"));
         };
         let packages = packages_in(alloc, array)?;
         Ok(Lockfile { packages })
@@ -159,7 +204,7 @@ impl Lockfile {
     ///
     /// # Errors
     ///
-    /// `Parse` where the text is no document, or where `from_table` refuses its table; else
+    /// `Parse` if the text is no document, or `from_table` refuses its table; else
     /// `OutOfMemory`.
     pub fn from_str(alloc: Global, text: &str) -> Result<Lockfile>
         ensures ok { IfOk result (λ l. lockfile_of text.now ≡ Some l.packages) }
@@ -172,7 +217,7 @@ impl Lockfile {
                 if e.is_memory() {
                     return Err(Error::from(AllocError));
                 }
-                Err(refused(alloc, "a lockfile is no TOML document"))
+                Err(no_document(alloc, &e))
             }
         }
     }
@@ -181,23 +226,20 @@ impl Lockfile {
     ///
     /// # Errors
     ///
-    /// `Io` where the file cannot be read or is no UTF-8; else as `from_str`.
+    /// `Io` if the file cannot be read or is no UTF-8; else as `from_str`. The message names the path, and
+    /// the message of `from_str` is the cause.
     pub fn load<R: Files>(rt: &R, alloc: Global, path: &str) -> Result<Lockfile>
         ensures ok { IfOk result (λ l. (text : List ℕ) × (lockfile_of text ≡ Some l.packages)) }
         ensures valid { IfOk result (λ l. AreValid l.packages) }
         ensures err { IfErr result (λ e. (IsOfKind ErrorKind.Io e)
             ⊎ ((text : List ℕ) × IsRefusal ErrorKind.Parse (lockfile_of text ≡ None) e)) }
+        ensures names { IfErr result (NamesLockfile path.now) }
     {
-        let text = match text_of(rt, alloc, path) {
-            Ok(text) => text,
-            Err(e) => {
-                if e.kind() == io::ErrorKind::OutOfMemory {
-                    return Err(Error::from(AllocError));
-                }
-                return Err(Error::new(alloc, ErrorKind::Io, "a lockfile cannot be read"));
-            }
-        };
-        Lockfile::from_str(alloc, text.as_str())
+        let text = text_of_file(rt, alloc, path)?;
+        match Lockfile::from_str(alloc, text.as_str()) {
+            Ok(lockfile) => Ok(lockfile),
+            Err(e) => Err(refused_file(alloc, path, &e)),
+        }
     }
 
     /// An equal lockfile.

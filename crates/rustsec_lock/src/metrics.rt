@@ -1,9 +1,6 @@
 //! The base metrics of CVSS 3, and the letters that stand for their values.
 
-ghost use Rattle.std.specs.Prelude.{◌≡◌};
-ghost use Rattle.rustsec_lock.specs.Metrics.{attack_complexity_letter, attack_complexity_of, attack_vector_letter, attack_vector_of, availability_letter, availability_of, confidentiality_letter, confidentiality_of, integrity_letter, integrity_of, privileges_required_letter, privileges_required_of, scope_letter, scope_of, user_interaction_letter, user_interaction_of};
-
-use rustsec_values::{ExactClone, ExactEq};
+use rustsec_values::{ExactClone, ExactEq, Named};
 
 /// How close an attacker has to be: section 2.1.1 of CVSS 3.1.
 #[derive(Clone, Copy, Debug, PartialEq, Eq)]
@@ -18,29 +15,29 @@ pub enum AttackVector {
     Physical,
 }
 
-impl AttackVector {
+impl Named for AttackVector {
+    ghost use Rattle.rustsec_lock.specs.Metrics.{attack_vector_letter, attack_vector_values};
+
+    ghost name_of = { attack_vector_letter };
+
+    ghost values = { attack_vector_values };
+
+    fn all() -> &'static [AttackVector] {
+        &[
+            AttackVector::Network,
+            AttackVector::Adjacent,
+            AttackVector::Local,
+            AttackVector::Physical,
+        ]
+    }
+
     /// The letter of the value.
-    pub(crate) fn letter(self) -> &'static str
-        ensures { result.now ≡ attack_vector_letter self }
-    {
+    fn name(&self) -> &'static str {
         match self {
             AttackVector::Network => "N",
             AttackVector::Adjacent => "A",
             AttackVector::Local => "L",
             AttackVector::Physical => "P",
-        }
-    }
-
-    /// The value of a letter, where there is one.
-    pub(crate) fn from_letter(letter: &str) -> Option<AttackVector>
-        ensures { result ≡ attack_vector_of letter.now }
-    {
-        match letter {
-            "N" => Some(AttackVector::Network),
-            "A" => Some(AttackVector::Adjacent),
-            "L" => Some(AttackVector::Local),
-            "P" => Some(AttackVector::Physical),
-            _ => None,
         }
     }
 }
@@ -65,25 +62,22 @@ pub enum AttackComplexity {
     High,
 }
 
-impl AttackComplexity {
+impl Named for AttackComplexity {
+    ghost use Rattle.rustsec_lock.specs.Metrics.{attack_complexity_letter, attack_complexity_values};
+
+    ghost name_of = { attack_complexity_letter };
+
+    ghost values = { attack_complexity_values };
+
+    fn all() -> &'static [AttackComplexity] {
+        &[AttackComplexity::Low, AttackComplexity::High]
+    }
+
     /// The letter of the value.
-    pub(crate) fn letter(self) -> &'static str
-        ensures { result.now ≡ attack_complexity_letter self }
-    {
+    fn name(&self) -> &'static str {
         match self {
             AttackComplexity::Low => "L",
             AttackComplexity::High => "H",
-        }
-    }
-
-    /// The value of a letter, where there is one.
-    pub(crate) fn from_letter(letter: &str) -> Option<AttackComplexity>
-        ensures { result ≡ attack_complexity_of letter.now }
-    {
-        match letter {
-            "L" => Some(AttackComplexity::Low),
-            "H" => Some(AttackComplexity::High),
-            _ => None,
         }
     }
 }
@@ -110,27 +104,27 @@ pub enum PrivilegesRequired {
     High,
 }
 
-impl PrivilegesRequired {
+impl Named for PrivilegesRequired {
+    ghost use Rattle.rustsec_lock.specs.Metrics.{privileges_required_letter, privileges_required_values};
+
+    ghost name_of = { privileges_required_letter };
+
+    ghost values = { privileges_required_values };
+
+    fn all() -> &'static [PrivilegesRequired] {
+        &[
+            PrivilegesRequired::None,
+            PrivilegesRequired::Low,
+            PrivilegesRequired::High,
+        ]
+    }
+
     /// The letter of the value.
-    pub(crate) fn letter(self) -> &'static str
-        ensures { result.now ≡ privileges_required_letter self }
-    {
+    fn name(&self) -> &'static str {
         match self {
             PrivilegesRequired::None => "N",
             PrivilegesRequired::Low => "L",
             PrivilegesRequired::High => "H",
-        }
-    }
-
-    /// The value of a letter, where there is one.
-    pub(crate) fn from_letter(letter: &str) -> Option<PrivilegesRequired>
-        ensures { result ≡ privileges_required_of letter.now }
-    {
-        match letter {
-            "N" => Some(PrivilegesRequired::None),
-            "L" => Some(PrivilegesRequired::Low),
-            "H" => Some(PrivilegesRequired::High),
-            _ => None,
         }
     }
 }
@@ -155,25 +149,22 @@ pub enum UserInteraction {
     Required,
 }
 
-impl UserInteraction {
+impl Named for UserInteraction {
+    ghost use Rattle.rustsec_lock.specs.Metrics.{user_interaction_letter, user_interaction_values};
+
+    ghost name_of = { user_interaction_letter };
+
+    ghost values = { user_interaction_values };
+
+    fn all() -> &'static [UserInteraction] {
+        &[UserInteraction::None, UserInteraction::Required]
+    }
+
     /// The letter of the value.
-    pub(crate) fn letter(self) -> &'static str
-        ensures { result.now ≡ user_interaction_letter self }
-    {
+    fn name(&self) -> &'static str {
         match self {
             UserInteraction::None => "N",
             UserInteraction::Required => "R",
-        }
-    }
-
-    /// The value of a letter, where there is one.
-    pub(crate) fn from_letter(letter: &str) -> Option<UserInteraction>
-        ensures { result ≡ user_interaction_of letter.now }
-    {
-        match letter {
-            "N" => Some(UserInteraction::None),
-            "R" => Some(UserInteraction::Required),
-            _ => None,
         }
     }
 }
@@ -198,25 +189,22 @@ pub enum Scope {
     Changed,
 }
 
-impl Scope {
+impl Named for Scope {
+    ghost use Rattle.rustsec_lock.specs.Metrics.{scope_letter, scope_values};
+
+    ghost name_of = { scope_letter };
+
+    ghost values = { scope_values };
+
+    fn all() -> &'static [Scope] {
+        &[Scope::Unchanged, Scope::Changed]
+    }
+
     /// The letter of the value.
-    pub(crate) fn letter(self) -> &'static str
-        ensures { result.now ≡ scope_letter self }
-    {
+    fn name(&self) -> &'static str {
         match self {
             Scope::Unchanged => "U",
             Scope::Changed => "C",
-        }
-    }
-
-    /// The value of a letter, where there is one.
-    pub(crate) fn from_letter(letter: &str) -> Option<Scope>
-        ensures { result ≡ scope_of letter.now }
-    {
-        match letter {
-            "U" => Some(Scope::Unchanged),
-            "C" => Some(Scope::Changed),
-            _ => None,
         }
     }
 }
@@ -243,27 +231,27 @@ pub enum Confidentiality {
     High,
 }
 
-impl Confidentiality {
+impl Named for Confidentiality {
+    ghost use Rattle.rustsec_lock.specs.Metrics.{confidentiality_letter, confidentiality_values};
+
+    ghost name_of = { confidentiality_letter };
+
+    ghost values = { confidentiality_values };
+
+    fn all() -> &'static [Confidentiality] {
+        &[
+            Confidentiality::None,
+            Confidentiality::Low,
+            Confidentiality::High,
+        ]
+    }
+
     /// The letter of the value.
-    pub(crate) fn letter(self) -> &'static str
-        ensures { result.now ≡ confidentiality_letter self }
-    {
+    fn name(&self) -> &'static str {
         match self {
             Confidentiality::None => "N",
             Confidentiality::Low => "L",
             Confidentiality::High => "H",
-        }
-    }
-
-    /// The value of a letter, where there is one.
-    pub(crate) fn from_letter(letter: &str) -> Option<Confidentiality>
-        ensures { result ≡ confidentiality_of letter.now }
-    {
-        match letter {
-            "N" => Some(Confidentiality::None),
-            "L" => Some(Confidentiality::Low),
-            "H" => Some(Confidentiality::High),
-            _ => None,
         }
     }
 }
@@ -290,27 +278,23 @@ pub enum Integrity {
     High,
 }
 
-impl Integrity {
+impl Named for Integrity {
+    ghost use Rattle.rustsec_lock.specs.Metrics.{integrity_letter, integrity_values};
+
+    ghost name_of = { integrity_letter };
+
+    ghost values = { integrity_values };
+
+    fn all() -> &'static [Integrity] {
+        &[Integrity::None, Integrity::Low, Integrity::High]
+    }
+
     /// The letter of the value.
-    pub(crate) fn letter(self) -> &'static str
-        ensures { result.now ≡ integrity_letter self }
-    {
+    fn name(&self) -> &'static str {
         match self {
             Integrity::None => "N",
             Integrity::Low => "L",
             Integrity::High => "H",
-        }
-    }
-
-    /// The value of a letter, where there is one.
-    pub(crate) fn from_letter(letter: &str) -> Option<Integrity>
-        ensures { result ≡ integrity_of letter.now }
-    {
-        match letter {
-            "N" => Some(Integrity::None),
-            "L" => Some(Integrity::Low),
-            "H" => Some(Integrity::High),
-            _ => None,
         }
     }
 }
@@ -337,27 +321,23 @@ pub enum Availability {
     High,
 }
 
-impl Availability {
+impl Named for Availability {
+    ghost use Rattle.rustsec_lock.specs.Metrics.{availability_letter, availability_values};
+
+    ghost name_of = { availability_letter };
+
+    ghost values = { availability_values };
+
+    fn all() -> &'static [Availability] {
+        &[Availability::None, Availability::Low, Availability::High]
+    }
+
     /// The letter of the value.
-    pub(crate) fn letter(self) -> &'static str
-        ensures { result.now ≡ availability_letter self }
-    {
+    fn name(&self) -> &'static str {
         match self {
             Availability::None => "N",
             Availability::Low => "L",
             Availability::High => "H",
-        }
-    }
-
-    /// The value of a letter, where there is one.
-    pub(crate) fn from_letter(letter: &str) -> Option<Availability>
-        ensures { result ≡ availability_of letter.now }
-    {
-        match letter {
-            "N" => Some(Availability::None),
-            "L" => Some(Availability::Low),
-            "H" => Some(Availability::High),
-            _ => None,
         }
     }
 }

@@ -4,9 +4,8 @@ ghost use Rattle.std.specs.Prelude.{◌≡◌, ◌<◌, IfErr, IfOk, None, Some,
 ghost use Rattle.rustsec_versions.specs.Failure.{IsMemory, IsRefusal};
 ghost use Rattle.rustsec_lock.specs.Names.{name_cmp, name_of};
 
-use crate::refusal::refused;
 use rustsec_values::{ExactClone, ExactEq, StatedOrder, Text};
-use rustsec_versions::{ErrorKind, FromText, Result};
+use rustsec_versions::{ErrorKind, FromText, Result, refused_text};
 use std::alloc::{AllocError, Global};
 use std::convert::AsStr;
 use std::fmt;
@@ -35,14 +34,14 @@ impl Name {
     ///
     /// # Errors
     ///
-    /// `Parse` where the text is empty; else `OutOfMemory`.
+    /// `Parse` if the text is empty; else `OutOfMemory`.
     pub fn from_str(alloc: Global, text: &str) -> Result<Name>
         ensures ok { IfOk result (λ n. name_of text.now ≡ Some n) }
         ensures text { IfOk result (λ n. n ≡ text.now) }
         ensures err { IfErr result (IsRefusal ErrorKind.Parse (name_of text.now ≡ None)) }
     {
         if text.is_empty() {
-            return Err(refused(alloc, "a name is empty"));
+            return Err(refused_text(alloc, "malformed name", text, "a text that is not empty"));
         }
         let text = Text::from_str(alloc, text)?;
         Ok(Name { text })

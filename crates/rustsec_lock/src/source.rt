@@ -1,18 +1,13 @@
 // Where packages come from.
 
-ghost use Rattle.std.specs.Prelude.{◌≡◌, ◌==◌, ◌<◌, ◌≢◌, IfErr, IfNone, IfOk, IfSome, None, Some, length, nat_eq, refl, true};
-ghost use Rattle.std.specs.Cmp.{on_equiv, on_po, on_total, partial_equiv_from_equiv};
-ghost use Rattle.std.specs.Cmp.Lexicographic.{nat_list_cmp_total, nat_list_eq_equiv, pointwise, slice_cmp, texts_po, texts_ties};
+ghost use Rattle.std.specs.Prelude.{◌≡◌, ◌==◌, ◌<◌, IfErr, IfOk, None, Some, length};
 ghost use Rattle.std.specs.List.{before_first};
-ghost use Rattle.std.specs.Ordering.{nat_cmp};
 ghost use Rattle.rustsec_versions.specs.Failure.{IsMemory, IsRefusal};
-ghost use Rattle.rustsec_lock.specs.Source.{default_source, is_default, kind_of, kind_word, location_of, source_id_of, source_text, url_of};
+ghost use Rattle.rustsec_lock.specs.Source.{default_source, is_default, kind_word, location_of, source_id_of, source_text, url_of};
 
-use crate::refusal::refused;
-use rustsec_values::{ExactClone, ExactEq, Text};
-use rustsec_versions::{ErrorKind, FromText, Result};
+use rustsec_values::{ExactClone, ExactEq, Named, Text, value_named};
+use rustsec_versions::{ErrorKind, FromText, Result, refused_text};
 use std::alloc::{AllocError, Global};
-use std::cmp::Ordering;
 use std::fmt;
 use std::marker::Model;
 
@@ -47,21 +42,28 @@ impl SourceKind {
             SourceKind::Directory => "directory",
         }
     }
+}
 
-    /// The kind of a word.
-    fn of_word(word: &str) -> Option<SourceKind>
-        ensures some { IfSome result (λ k. kind_word k ≡ word.now) }
-        ensures none { IfNone result ((k : SourceKind) → kind_word k ≢ word.now) }
-    {
-        match word {
-            "registry" => Some(SourceKind::Registry),
-            "sparse" => Some(SourceKind::SparseRegistry),
-            "git" => Some(SourceKind::Git),
-            "path" => Some(SourceKind::Path),
-            "local-registry" => Some(SourceKind::LocalRegistry),
-            "directory" => Some(SourceKind::Directory),
-            _ => None,
-        }
+impl Named for SourceKind {
+    ghost use Rattle.rustsec_lock.specs.Source.{kind_word, kinds};
+
+    ghost name_of = { kind_word };
+
+    ghost values = { kinds };
+
+    fn all() -> &'static [SourceKind] {
+        &[
+            SourceKind::Registry,
+            SourceKind::SparseRegistry,
+            SourceKind::Git,
+            SourceKind::Path,
+            SourceKind::LocalRegistry,
+            SourceKind::Directory,
+        ]
+    }
+
+    fn name(&self) -> &'static str {
+        self.word()
     }
 }
 
@@ -75,6 +77,9 @@ impl ExactEq for SourceKind {
 
     ghost decides = { λ x y. (same_true the_type tt x y, true_same the_type x y) };
 }
+
+/// The words of the kinds, for a message.
+const KINDS: &str = "`registry`, `sparse`, `git`, `path`, `local-registry` or `directory`";
 
 /// What stands before the first place of a mark, or all where there is none.
 fn up_to(text: &str, mark: char) -> &str
@@ -129,7 +134,7 @@ impl SourceId {
     ///
     /// # Errors
     ///
-    /// `Parse` where there is no `+`, the kind is none of these, or `url` would be empty; else
+    /// `Parse` if there is no `+`, the kind is none of these, or `url` would be empty; else
     /// `OutOfMemory`.
     pub fn from_url(alloc: Global, text: &str) -> Result<SourceId>
         ensures ok { IfOk result (λ s. source_id_of text.now ≡ Some s) }
@@ -137,13 +142,18 @@ impl SourceId {
         ensures err { IfErr result (IsRefusal ErrorKind.Parse (source_id_of text.now ≡ None)) }
     {
         let Some((word, address)) = text.split_once('+') else {
-            return Err(refused(alloc, "a source has no kind"));
+            return Err(refused_text(alloc, "malformed source", text, "KIND+ADDRESS"));
         };
-        let Some(kind) = SourceKind::of_word(word) else {
-            return Err(refused(alloc, "a source is of no known kind"));
+        let Some(kind) = value_named(word) else {
+            return Err(refused_text(alloc, "unknown kind of source", word, KINDS));
         };
         if location(kind, address).is_empty() {
-            return Err(refused(alloc, "a source has no address"));
+            return Err(refused_text(
+                alloc,
+                "no address in the source",
+                text,
+                "one behind the first `+`",
+            ));
         }
         let address = Text::from_str(alloc, address)?;
         Ok(SourceId { kind, address })

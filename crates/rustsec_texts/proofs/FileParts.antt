@@ -2,7 +2,7 @@
 use Rattle.std.proofs.Common.{◌≡◌, ◌↔◌, ℕ, List, Option, Some, None, refl, sym, ap, ◌∙◌}
 use Rattle.std.specs.Str.{trim, trim_end, trim_start}
 use Rattle.rustsec_values.specs.Reading.{◌>>=◌}
-use Rattle.rustsec_texts.specs.Cuts.{behind, cut_at}
+use Rattle.rustsec_texts.specs.PatternCuts.{behind, cut_at}
 use Rattle.rustsec_texts.specs.Parts.{AreParts, FileParts, closing, heading, line_feed, opening, parts_of, titled}
 use Rattle.rustsec_texts.proofs.Cutting.{behind-from, behind-is, cut_at-from, cut_at-is}
 

@@ -1,8 +1,8 @@
+pub mod Beginning
 pub mod Colons
 pub mod Cutting
 pub mod Dashes
 pub mod FileParts
-pub mod Named
 pub mod Numerals
+pub mod OtherNames
 pub mod Slices
-pub mod WrongStart

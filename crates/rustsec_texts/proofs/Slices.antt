@@ -2,7 +2,7 @@
 use Rattle.std.proofs.Common.{◌≡◌, ℕ, List, [], ◌++◌, take, drop, Some, sym, append_assoc}
 use Rattle.std.proofs.lemmas.List.{append-nil, take-append-drop}
 use Rattle.std.specs.Str.{IsTrim, IsTrimEnd, IsTrimStart}
-use Rattle.rustsec_texts.specs.Cuts.{IsSliceOf, behind, cut_at}
+use Rattle.rustsec_texts.specs.PatternCuts.{IsSliceOf, behind, cut_at}
 use Rattle.rustsec_texts.proofs.Cutting.{behind-is, cut_at-is}
 
 pub within : (a b c : List ℕ) → IsSliceOf a b → IsSliceOf b c → IsSliceOf a c

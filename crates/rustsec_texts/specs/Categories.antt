@@ -5,7 +5,7 @@ use Rattle.std.specs.Ordering.{nat_cmp, on, then_cmp}
 use Rattle.std.specs.declared.cmp.Ordering.{Ordering}
 use Rattle.rustsec_texts.specs.declared.category.Category.{Category}
 use Rattle.rustsec_texts.specs.declared.category.Category.TheVariants as category
-use Rattle.rustsec_texts.specs.Tables.{value_named}
+use Rattle.rustsec_values.specs.ClosedTables.{value_named}
 
 -- the name of a category
 abbrev pub category_name : Category → List ℕ

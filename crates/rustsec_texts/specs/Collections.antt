@@ -4,7 +4,7 @@ use Rattle.std.specs.Ordering.{nat_cmp, on}
 use Rattle.std.specs.declared.cmp.Ordering.{Ordering}
 use Rattle.rustsec_texts.specs.declared.collection.Collection.{Collection}
 use Rattle.rustsec_texts.specs.declared.collection.Collection.TheVariants as collection
-use Rattle.rustsec_texts.specs.Tables.{value_named}
+use Rattle.rustsec_values.specs.ClosedTables.{value_named}
 
 -- the name of a collection
 abbrev pub collection_name : Collection → List ℕ

@@ -7,7 +7,7 @@ use Rattle.rustsec_texts.specs.declared.informational.Informational.{Information
 use Rattle.rustsec_texts.specs.declared.informational.Informational.TheVariants as informational
 use Rattle.rustsec_texts.specs.declared.warning_kind.WarningKind.{WarningKind}
 use Rattle.rustsec_texts.specs.declared.warning_kind.WarningKind.TheVariants as warning
-use Rattle.rustsec_texts.specs.Tables.{value_named}
+use Rattle.rustsec_values.specs.ClosedTables.{value_named}
 
 -- the text of an informational kind
 abbrev pub informational_name : Informational → List ℕ

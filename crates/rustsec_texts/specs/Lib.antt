@@ -1,6 +1,5 @@
 pub mod Categories
 pub mod Collections
-pub mod Cuts
 pub mod Dates
 pub mod IdOrder
 pub mod Ids
@@ -9,5 +8,5 @@ pub mod Licenses
 pub mod Numbers
 pub mod Parts
 pub mod Paths
-pub mod Tables
+pub mod PatternCuts
 pub mod WarningKinds

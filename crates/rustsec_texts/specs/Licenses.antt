@@ -2,7 +2,7 @@
 use Rattle.std.specs.Prelude.{ℕ, List, [], ◌∷◌, codes, unwrap_or}
 use Rattle.rustsec_texts.specs.declared.license.License.{License}
 use Rattle.rustsec_texts.specs.declared.license.License.TheVariants as license
-use Rattle.rustsec_texts.specs.Tables.{value_named}
+use Rattle.rustsec_values.specs.ClosedTables.{value_named}
 
 -- the identifier of a license
 abbrev pub license_name : License → List ℕ

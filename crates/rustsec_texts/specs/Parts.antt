@@ -3,7 +3,8 @@ use Rattle.std.specs.Prelude.{◌≡◌, ℕ, List, ◌++◌, codes, Option, Som
 use Rattle.std.specs.Str.{trim, trim_end, trim_start}
 use Rattle.rustsec_values.specs.Reading.{◌>>=◌}
 use Rattle.rustsec_versions.specs.Failure.{Failure}
-use Rattle.rustsec_texts.specs.Cuts.{IsBeginning, IsFirstCut, behind, cut_at}
+use Rattle.rustsec_values.specs.Beginnings.{IsBeginning}
+use Rattle.rustsec_texts.specs.PatternCuts.{IsFirstCut, behind, cut_at}
 
 -- the parts: each is a slice of the text
 pub record FileParts : Type 0 where

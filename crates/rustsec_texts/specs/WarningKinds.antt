@@ -4,7 +4,7 @@ use Rattle.std.specs.Ordering.{nat_cmp, on}
 use Rattle.std.specs.declared.cmp.Ordering.{Ordering}
 use Rattle.rustsec_texts.specs.declared.warning_kind.WarningKind.{WarningKind}
 use Rattle.rustsec_texts.specs.declared.warning_kind.WarningKind.TheVariants as warning
-use Rattle.rustsec_texts.specs.Tables.{value_named}
+use Rattle.rustsec_values.specs.ClosedTables.{value_named}
 
 -- the text of a kind
 abbrev pub warning_kind_name : WarningKind → List ℕ

@@ -1,8 +1,9 @@
 // Categories of advisories.
 
-ghost use Rattle.std.specs.Prelude.{◌≡◌, ◌⊎◌, IfErr, IfOk, List, ℕ};
+ghost use Rattle.std.specs.Prelude.{◌≡◌, ◌⊎◌, IfErr, IfOk, List, ℕ, None};
+ghost use Rattle.rustsec_values.specs.ClosedTables.{value_named};
 ghost use Rattle.rustsec_versions.specs.Failure.{IsMemory};
-ghost use Rattle.rustsec_texts.specs.Categories.{category_cmp, category_name, category_of};
+ghost use Rattle.rustsec_texts.specs.Categories.{categories, category_cmp, category_name, category_of};
 
 use rustsec_values::{ExactClone, ExactEq, StatedOrder, Text};
 use rustsec_versions::{FromText, Result};
@@ -45,6 +46,9 @@ impl Category {
     pub fn from_str(alloc: Global, text: &str) -> Result<Category>
         ensures ok { IfOk result (λ c. c ≡ category_of text.now) }
         ensures err { IfErr result IsMemory }
+
+        // A text that names a value of its own takes no memory.
+        ensures other { IfErr result (λ e. value_named category_name categories text.now ≡ None) }
         ensures printed { IfOk result (λ c. category_name c ≡ text.now) }
         ensures read_again { IfOk result (λ c. category_of (category_name c) ≡ c) }
     {

@@ -4,8 +4,8 @@ ghost use Rattle.std.specs.Prelude.{◌≡◌, IfErr, IfOk, Some, None};
 ghost use Rattle.rustsec_versions.specs.Failure.{IsRefusal};
 ghost use Rattle.rustsec_texts.specs.Collections.{collection_cmp, collection_name, collection_of, collections};
 
-use rustsec_values::{ExactClone, ExactEq, StatedOrder};
-use rustsec_versions::{Error, ErrorKind, FromText, Result};
+use rustsec_values::{ExactClone, ExactEq, Named, StatedOrder, value_named};
+use rustsec_versions::{ErrorKind, FromText, Result, refused_text};
 use std::alloc::Global;
 use std::fmt;
 
@@ -50,11 +50,31 @@ impl Collection {
         ensures none { IfErr result (λ e. collection_of text.now ≡ None) }
         ensures printed { IfOk result (λ c. collection_name c ≡ text.now) }
     {
-        match text {
-            "crates" => Ok(Collection::Crates),
-            "rust" => Ok(Collection::Rust),
-            _ => Err(Error::new(alloc, ErrorKind::Parse, "not a collection")),
+        match value_named(text) {
+            Some(value) => Ok(value),
+            None => Err(refused_text(
+                alloc,
+                "no collection has the name",
+                text,
+                "`crates` or `rust`",
+            )),
         }
+    }
+}
+
+impl Named for Collection {
+    ghost use Rattle.rustsec_texts.specs.Collections.{collection_name, collections};
+
+    ghost name_of = { collection_name };
+
+    ghost values = { collections };
+
+    fn all() -> &'static [Collection] {
+        Collection::all()
+    }
+
+    fn name(&self) -> &'static str {
+        self.as_str()
     }
 }
 

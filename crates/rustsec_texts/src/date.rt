@@ -12,7 +12,7 @@ ghost use Rattle.rustsec_texts.specs.Dates.{Day, date_of, day_numbers, day_of, i
 
 use crate::numbers::{digits, three_parts};
 use rustsec_values::{ExactClone, ExactEq, Text};
-use rustsec_versions::{Error, ErrorKind, FromText, Result};
+use rustsec_versions::{ErrorKind, FromText, Result, refused_text};
 use std::alloc::{AllocError, Global};
 use std::cmp::Ordering;
 use std::convert::AsStr;
@@ -86,7 +86,12 @@ impl Date {
         ensures err { IfErr result (IsRefusal ErrorKind.Parse (date_of text.now ≡ None)) }
     {
         let Some((year, month, day)) = day_of(text) else {
-            return Err(Error::new(alloc, ErrorKind::Parse, "malformed date"));
+            return Err(refused_text(
+                alloc,
+                "malformed date",
+                text,
+                "YYYY-MM-DD, a day of the years 2000 to 2100",
+            ));
         };
         let text = Text::from_str(alloc, text)?;
         Ok(Date {

@@ -11,7 +11,7 @@ ghost use Rattle.rustsec_texts.specs.Paths.{IsPathOf, between_colons, is_identif
 
 use crate::identifier::Identifier;
 use rustsec_values::{ExactClone, ExactEq, Items};
-use rustsec_versions::{Error, ErrorKind, FromText, Result};
+use rustsec_versions::{ErrorKind, FromText, Result, refused_text};
 use std::alloc::{AllocError, Global};
 use std::cmp::Ordering;
 use std::hash::{Hash, Hasher};
@@ -69,10 +69,11 @@ impl FunctionPath {
     {
         let segments = segments_of(alloc, text)?;
         if segments.len() < 2 {
-            return Err(Error::new(
+            return Err(refused_text(
                 alloc,
-                ErrorKind::Parse,
-                "a path has two or more identifiers",
+                "malformed function path",
+                text,
+                "two or more identifiers joined by `::`",
             ));
         }
         Ok(FunctionPath { segments })

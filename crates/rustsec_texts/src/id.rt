@@ -3,7 +3,7 @@
 ghost use Rattle.std.specs.Prelude.{◌≡◌, IfErr, IfOk, None, Some, option_map, refl, string_bytes};
 ghost use Rattle.std.specs.Cmp.{partial_equiv_from_equiv, po};
 ghost use Rattle.std.specs.Hash as fed;
-ghost use Rattle.rustsec_versions.specs.Failure.{IsMemory, IsRefusal};
+ghost use Rattle.rustsec_versions.specs.Failure.{IsMemory, IsOfKind, IsRefusal};
 ghost use Rattle.rustsec_texts.specs.IdOrder.{id_decides, id_eq, id_equiv, id_fed, id_order, id_ties, id_total, kind_eq};
 ghost use Rattle.rustsec_texts.specs.Ids.{IdValue, id_of, id_with, id_year, is_placeholder, numerical_part, page_of, page_of_kind, placeholder};
 ghost use Rattle.rustsec_texts.specs.declared.id_kind.IdKind.TheVariants as variant;
@@ -11,7 +11,7 @@ ghost use Rattle.rustsec_texts.specs.declared.id_kind.IdKind.TheVariants as vari
 use crate::id_kind::IdKind;
 use crate::numbers::{number, three_parts};
 use rustsec_values::{ExactClone, ExactEq, Text};
-use rustsec_versions::{Error, ErrorKind, FromText, Result};
+use rustsec_versions::{Error, ErrorKind, FromText, Result, refused_text};
 use std::alloc::{AllocError, Global};
 use std::cmp::Ordering;
 use std::convert::AsStr;
@@ -65,6 +65,18 @@ fn page_of_kind(kind: IdKind) -> Option<&'static str>
     }
 }
 
+/// The refusal of a text that is no ID.
+fn malformed(alloc: Global, text: &str) -> Error
+    ensures { IsOfKind ErrorKind.Parse result }
+{
+    refused_text(
+        alloc,
+        "malformed advisory ID",
+        text,
+        "three parts at `-`: a prefix, a year from 2000 to 2100 and a number",
+    )
+}
+
 impl Id {
     /// The text of the ID that stands for one that is not assigned yet.
     pub const PLACEHOLDER: &'static str = "RUSTSEC-0000-0000";
@@ -87,7 +99,7 @@ impl Id {
         let year = match kind {
             IdKind::RustSec | IdKind::Cve | IdKind::Talos => match year_of(text) {
                 Some(year) => Some(year),
-                None => return Err(Error::new(alloc, ErrorKind::Parse, "malformed advisory ID")),
+                None => return Err(malformed(alloc, text)),
             },
             IdKind::Ghsa | IdKind::Other => None,
         };

@@ -6,7 +6,7 @@ ghost use Rattle.rustsec_versions.specs.Failure.{IsMemory, IsRefusal};
 ghost use Rattle.rustsec_texts.specs.Paths.{identifier_of, is_first, is_identifier, is_later};
 
 use rustsec_values::{ExactClone, ExactEq, StatedOrder, Text};
-use rustsec_versions::{Error, ErrorKind, FromText, Result};
+use rustsec_versions::{ErrorKind, FromText, Result, refused_text};
 use std::alloc::{AllocError, Global};
 use std::convert::AsStr;
 use std::fmt;
@@ -75,7 +75,12 @@ impl Identifier {
         ensures err { IfErr result (IsRefusal ErrorKind.Parse (identifier_of text.now ≡ None)) }
     {
         if !is_identifier(text) {
-            return Err(Error::new(alloc, ErrorKind::Parse, "invalid identifier in a path"));
+            return Err(refused_text(
+                alloc,
+                "malformed identifier",
+                text,
+                "a letter, `_` or `<`, then letters, digits, `_`, `<`, `>` or `,`",
+            ));
         }
         let text = Text::from_str(alloc, text)?;
         Ok(Identifier { text })

@@ -1,8 +1,9 @@
 // Kinds of informational advisories.
 
-ghost use Rattle.std.specs.Prelude.{◌≡◌, ◌⊎◌, ◌↔◌, IsTrue, IfErr, IfOk, List, ℕ};
+ghost use Rattle.std.specs.Prelude.{◌≡◌, ◌⊎◌, ◌↔◌, IsTrue, IfErr, IfOk, List, ℕ, None};
+ghost use Rattle.rustsec_values.specs.ClosedTables.{value_named};
 ghost use Rattle.rustsec_versions.specs.Failure.{IsMemory};
-ghost use Rattle.rustsec_texts.specs.Informational.{informational_cmp, informational_name, informational_of, is_other_kind, kind_of_warnings};
+ghost use Rattle.rustsec_texts.specs.Informational.{informational_cmp, informational_kinds, informational_name, informational_of, is_other_kind, kind_of_warnings};
 
 use crate::warning_kind::WarningKind;
 use rustsec_values::{ExactClone, ExactEq, StatedOrder, Text};
@@ -32,6 +33,9 @@ impl Informational {
     pub fn from_str(alloc: Global, text: &str) -> Result<Informational>
         ensures ok { IfOk result (λ k. k ≡ informational_of text.now) }
         ensures err { IfErr result IsMemory }
+
+        // A text that names a value of its own takes no memory.
+        ensures other { IfErr result (λ e. value_named informational_name informational_kinds text.now ≡ None) }
         ensures printed { IfOk result (λ k. informational_name k ≡ text.now) }
         ensures read_again { IfOk result (λ k. informational_of (informational_name k) ≡ k) }
     {

@@ -1,8 +1,9 @@
 // Licenses of advisories.
 
-ghost use Rattle.std.specs.Prelude.{◌≡◌, ◌⊎◌, IfErr, IfOk, List, ℕ};
+ghost use Rattle.std.specs.Prelude.{◌≡◌, ◌⊎◌, IfErr, IfOk, List, ℕ, None};
+ghost use Rattle.rustsec_values.specs.ClosedTables.{value_named};
 ghost use Rattle.rustsec_versions.specs.Failure.{IsMemory};
-ghost use Rattle.rustsec_texts.specs.Licenses.{default_license, license_name, license_of};
+ghost use Rattle.rustsec_texts.specs.Licenses.{default_license, license_name, license_of, licenses};
 
 use rustsec_values::{ExactClone, ExactEq, Text};
 use rustsec_versions::{FromText, Result};
@@ -29,6 +30,9 @@ impl License {
     pub fn from_str(alloc: Global, text: &str) -> Result<License>
         ensures ok { IfOk result (λ l. l ≡ license_of text.now) }
         ensures err { IfErr result IsMemory }
+
+        // A text that names a value of its own takes no memory.
+        ensures other { IfErr result (λ e. value_named license_name licenses text.now ≡ None) }
         ensures printed { IfOk result (λ l. license_name l ≡ text.now) }
         ensures read_again { IfOk result (λ l. license_of (license_name l) ≡ l) }
     {

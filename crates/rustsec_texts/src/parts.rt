@@ -2,10 +2,11 @@
 
 ghost use Rattle.std.specs.Prelude.{◌≡◌, ◌↔◌, IfErr, IfOk, MatchOption, Some, None};
 ghost use Rattle.rustsec_versions.specs.Failure.{IsRefusal};
-ghost use Rattle.rustsec_texts.specs.Cuts.{IsSliceOf, behind, cut_at};
+ghost use Rattle.rustsec_texts.specs.PatternCuts.{IsSliceOf, behind, cut_at};
 ghost use Rattle.rustsec_texts.specs.Parts.{AreParts, FileParts, ShowsBeginning, opening, parts_of};
 
-use rustsec_versions::{Error, ErrorKind, Result};
+use rustsec_values::beginning_of;
+use rustsec_versions::{Error, ErrorKind, Result, refused_text};
 use std::alloc::Global;
 
 /// The parts of an advisory file, each a slice of its text.
@@ -50,14 +51,29 @@ impl<'a> Parts<'a> {
             return Err(wrong_start(alloc, text));
         };
         let Some((front, rest)) = cut_at(body, "\n```") else {
-            return Err(Error::new(alloc, ErrorKind::Parse, "the front matter has no end"));
+            return Err(refused_text(
+                alloc,
+                "the front matter has no end",
+                body,
+                "a line that begins with three backquotes",
+            ));
         };
         let markdown = rest.trim_start();
         let Some(lines) = behind(markdown, "# ") else {
-            return Err(Error::new(alloc, ErrorKind::Parse, "no title below the front matter"));
+            return Err(refused_text(
+                alloc,
+                "no title below the front matter",
+                markdown,
+                "`# ` and the title",
+            ));
         };
         let Some((title, description)) = cut_at(lines, "\n") else {
-            return Err(Error::new(alloc, ErrorKind::Parse, "no line below the title"));
+            return Err(refused_text(
+                alloc,
+                "no line below the title",
+                lines,
+                "a line feed behind it",
+            ));
         };
         Ok(Parts {
             front_matter: front.trim(),
@@ -86,8 +102,7 @@ fn cut_at<'a>(text: &'a str, pattern: &'static str) -> Option<(&'a str, &'a str)
 fn wrong_start(alloc: Global, text: &str) -> Error
     ensures { IsRefusal ErrorKind.Parse (ShowsBeginning text.now result) result }
 {
-    let end = text.floor_char_boundary(SHOWN);
-    let (beginning, _) = text.split_at(end);
+    let beginning = beginning_of(text, SHOWN);
     match format!(in alloc; "not the start of an advisory: {beginning}") {
         Ok(message) => Error::new(alloc, ErrorKind::Parse, &message),
         Err(refused) => Error::from(refused),

@@ -4,8 +4,8 @@ ghost use Rattle.std.specs.Prelude.{◌≡◌, IfErr, IfOk, Some, None};
 ghost use Rattle.rustsec_versions.specs.Failure.{IsRefusal};
 ghost use Rattle.rustsec_texts.specs.WarningKinds.{warning_kind_cmp, warning_kind_name, warning_kind_of};
 
-use rustsec_values::{ExactClone, ExactEq, StatedOrder};
-use rustsec_versions::{Error, ErrorKind, FromText, Result};
+use rustsec_values::{ExactClone, ExactEq, Named, StatedOrder, value_named};
+use rustsec_versions::{ErrorKind, FromText, Result, refused_text};
 use std::alloc::Global;
 use std::fmt;
 
@@ -49,13 +49,36 @@ impl WarningKind {
         ensures none { IfErr result (λ e. warning_kind_of text.now ≡ None) }
         ensures printed { IfOk result (λ k. warning_kind_name k ≡ text.now) }
     {
-        match text {
-            "notice" => Ok(WarningKind::Notice),
-            "unmaintained" => Ok(WarningKind::Unmaintained),
-            "unsound" => Ok(WarningKind::Unsound),
-            "yanked" => Ok(WarningKind::Yanked),
-            _ => Err(Error::new(alloc, ErrorKind::Parse, "not a kind of warning")),
+        match value_named(text) {
+            Some(value) => Ok(value),
+            None => Err(refused_text(
+                alloc,
+                "no kind of warnings has the name",
+                text,
+                "`notice`, `unmaintained`, `unsound` or `yanked`",
+            )),
         }
+    }
+}
+
+impl Named for WarningKind {
+    ghost use Rattle.rustsec_texts.specs.WarningKinds.{warning_kind_name, warning_kinds};
+
+    ghost name_of = { warning_kind_name };
+
+    ghost values = { warning_kinds };
+
+    fn all() -> &'static [WarningKind] {
+        &[
+            WarningKind::Notice,
+            WarningKind::Unmaintained,
+            WarningKind::Unsound,
+            WarningKind::Yanked,
+        ]
+    }
+
+    fn name(&self) -> &'static str {
+        self.as_str()
     }
 }
 

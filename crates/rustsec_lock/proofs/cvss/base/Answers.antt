@@ -3,7 +3,8 @@ use Rattle.std.proofs.lemmas.Iterator.{items_from_drains}
 use Rattle.std.proofs.lemmas.Iterator.Splits.{YieldsList-from_str_split}
 use denote.Ref.{Bor}
 use Rattle.rustsec_lock.specs.Cvss.{base_of, metrics_of, parts_of}
-use Rattle.rustsec_lock.proofs.CvssParts.{base_of_parts, refusal}
+use Rattle.rustsec_versions.proofs.Refusals.{refusal}
+use Rattle.rustsec_lock.proofs.CvssParts.{base_of_parts}
 use Rattle.rustsec_lock.proofs.cvss.base.Goals as goal
 use Rattle.rustsec_lock.proofs.cvss.base.Goals.{else-are_eight, then-are_eight+in_default}
 
@@ -37,4 +38,4 @@ returns-clause-err c =
           let other : (length c.in_ok-parts.parts.items == 8) ≡ false = rw c.deref.ensures.value at (sym c.are_eight.ensures ∙ w.if-are_eight.false) in
           rw other at read
     ] in
-    refusal c.new.result none c.new.ensures
+    refusal _ c.refused_text.result none c.refused_text.ensures.kind

@@ -1,5 +1,5 @@
 use Rattle.std.proofs.Common.{◌==◌}
-use Rattle.rustsec_lock.proofs.Cuts.{before-twice}
+use Rattle.rustsec_lock.proofs.TwoMarks.{before-twice}
 use Rattle.rustsec_lock.proofs.source.without_reference.Goals as goal
 
 pub returns : goal.returns

@@ -1,7 +1,7 @@
 use Rattle.std.proofs.Common.{◌≡◌, ◌∙◌, ap, sym, unwrap_or}
 use Rattle.rustsec_texts.specs.declared.category.Category.TheVariants as category
 use Rattle.rustsec_texts.specs.Categories.{categories, category_name, category_of}
-use Rattle.rustsec_texts.proofs.Named.{value_named-none}
+use Rattle.rustsec_texts.proofs.OtherNames.{value_named-none, whatever_error}
 use Rattle.rustsec_texts.proofs.category.Category.from_str.Goals as goal
 
 other : (c : goal.In_ok-name-in_default) → category.Other c.in_ok-name-in_default.name ≡ category_of c.args.text.now
@@ -30,3 +30,23 @@ returns-in_ok-name-in_default-clause-ok c = other c
 pub returns-in_ok-name-in_default-clause-read_again :
     goal.returns-in_ok-name-in_default-clause-read_again
 returns-in_ok-name-in_default-clause-read_again c = sym (other c ∙ ap category_of (sym c.in_ok-name-in_default.ensures))
+
+pub returns-in_err-name-in_default-clause-other : goal.returns-in_err-name-in_default-clause-other
+returns-in_err-name-in_default-clause-other c =
+    let none = value_named-none category_name categories c.args.text.now (
+      c.in_default.not-text,
+      (
+        c.in_default.not-text-2,
+        (
+          c.in_default.not-text-3,
+          (
+            c.in_default.not-text-4,
+            (
+              c.in_default.not-text-5,
+              (c.in_default.not-malicious, (c.in_default.not-text-6, (c.in_default.not-text-7, (c.in_default.not-text-8, (c.in_default.not-text-9, tt))))),
+            ),
+          ),
+        ),
+      ),
+    ) in
+    whatever_error c.from_residual.result none

@@ -1,7 +1,6 @@
-use Rattle.std.proofs.Common.{◌<◌, ap, arith, inl, inr, length}
+use Rattle.std.proofs.Common.{◌<◌, ap, arith, length}
 use Rattle.std.proofs.lemmas.Result.{err_from_is_err_and}
-use Rattle.rustsec_versions.proofs.Refusals.{refused_by}
-use Rattle.rustsec_versions.specs.Failure.{Failure}
+use Rattle.rustsec_versions.proofs.Refusals.{refusal, refused_by}
 use Rattle.rustsec_texts.specs.Paths.{between_colons}
 use Rattle.rustsec_texts.proofs.Colons.{bad-no-path, path-joined, short-no-path}
 use Rattle.rustsec_texts.proofs.function_path.FunctionPath.from_str.Goals as goal
@@ -17,7 +16,4 @@ returns-clause-joined c = path-joined c.args.text.now c.in_ok-segments.segments 
 pub returns-then-len-lt2-clause-none : goal.returns-then-len-lt2-clause-none
 returns-then-len-lt2-clause-none c =
     let few : length (between_colons c.args.text.now) < 2 = omega (arith, c.if-len-lt2.true, c.len.ensures, ap length c.in_ok-segments.ensures.ok) in
-    elim (c.new.ensures) [
-      | inl made ↦ inl (ap (λ (e : Failure). e.kind) made, short-no-path c.args.text.now few)
-      | inr memory ↦ inr memory
-    ]
+    refusal _ c.refused_text.result (short-no-path c.args.text.now few) c.refused_text.ensures.kind
