@@ -36,6 +36,8 @@ mod packages;
 #[cfg(test)]
 mod platforms;
 #[cfg(test)]
+mod refusal_messages;
+#[cfg(test)]
 mod sampled_commands;
 #[cfg(test)]
 mod sources;
