@@ -12,7 +12,7 @@ use rustsec_versions::{ErrorKind, FromText, Result, refused_text};
 use std::alloc::{AllocError, Global};
 use std::fmt;
 
-/// A vector of CVSS. Where it is read from a text, `CvssV30` has the minor version 0 and `CvssV31` has 1.
+/// A vector of CVSS. If it is read from a text, `CvssV30` has the minor version 0 and `CvssV31` has 1.
 #[derive(Debug, PartialEq, Eq, Drop)]
 pub enum Cvss {
     /// A vector of version 3.0.
@@ -104,7 +104,7 @@ impl Cvss {
     ///
     /// # Errors
     ///
-    /// `Parse` where the text is no such vector, and `OutOfMemory`.
+    /// `Parse` if the text is no such vector, and `OutOfMemory`.
     pub fn from_str(alloc: Global, text: &str) -> Result<Cvss>
         ensures ok { IfOk result (λ v. cvss_of text.now ≡ Some v) }
         ensures again { IfOk result (λ v. cvss_of (cvss_text v) ≡ Some v) }

@@ -175,7 +175,7 @@ pub struct Lockfile {
 
 impl Lockfile {
     /// The lockfile of a TOML table. The array `package` holds a table for each package, with the texts
-    /// `name`, `version` and, where they are there, `source` and `checksum`. Without that key there are
+    /// `name`, `version` and, if they are there, `source` and `checksum`. Without that key there are
     /// no packages. Other keys say nothing.
     ///
     /// # Errors

@@ -180,7 +180,7 @@ impl ExactEq for UserInteraction {
     ghost decides = { λ x y. (same_true the_type tt x y, true_same the_type x y) };
 }
 
-/// Whether the attack reaches beyond the component that has the fault: section 2.2 of CVSS 3.1.
+/// Whether the attack reaches beyond the component that is vulnerable: section 2.2 of CVSS 3.1.
 #[derive(Clone, Copy, Debug, PartialEq, Eq)]
 pub enum Scope {
     /// It stays with that component's authority.

@@ -21,9 +21,9 @@ pub struct Package {
     pub name: Name,
     /// The version.
     pub version: Version,
-    /// Where the package comes from, where that is said.
+    /// Where the package comes from, if that is said.
     pub source: Option<SourceId>,
-    /// The checksum, as it is written, where there is one.
+    /// The checksum, as it is written, if there is one.
     pub checksum: Option<Text>,
 }
 

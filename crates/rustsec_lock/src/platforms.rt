@@ -92,7 +92,7 @@ impl Arch {
     ///
     /// # Errors
     ///
-    /// `Parse` where no architecture has that name; else `OutOfMemory`, for the message.
+    /// `Parse` if no architecture has that name; else `OutOfMemory`, for the message.
     pub fn from_str(alloc: Global, text: &str) -> Result<Arch>
         ensures ok { IfOk result (λ x. arch_of text.now ≡ Some x) }
         ensures text { IfOk result (λ x. arch_text x ≡ text.now) }
@@ -311,7 +311,7 @@ impl OS {
     ///
     /// # Errors
     ///
-    /// `Parse` where no system has that name; else `OutOfMemory`, for the message.
+    /// `Parse` if no system has that name; else `OutOfMemory`, for the message.
     pub fn from_str(alloc: Global, text: &str) -> Result<OS>
         ensures ok { IfOk result (λ x. os_of text.now ≡ Some x) }
         ensures text { IfOk result (λ x. os_text x ≡ text.now) }

@@ -103,7 +103,7 @@ fn availability_weight(value: Availability) -> u64
     }
 }
 
-/// The impact sub-score, which is 0 where nothing is lost.
+/// The impact sub-score, which is 0 if nothing is lost.
 fn sub_score(base: &Base) -> u64
     ensures value { result ≡ iss_of base.now.c base.now.i base.now.a }
     ensures bound { result ≤ one }
@@ -147,7 +147,7 @@ fn impact(scope: Scope, iss: u64) -> u64
     }
 }
 
-/// How easily the fault is exploited.
+/// How easily the vulnerability is exploited.
 fn exploitability(base: &Base) -> u64
     ensures value { result ≡ exploitability_of base.now }
     ensures bound { result ≤ thousandths 8220 }

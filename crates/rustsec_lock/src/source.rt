@@ -81,7 +81,7 @@ impl ExactEq for SourceKind {
 /// The words of the kinds, for a message.
 const KINDS: &str = "`registry`, `sparse`, `git`, `path`, `local-registry` or `directory`";
 
-/// What stands before the first place of a mark, or all where there is none.
+/// What stands before the first place of a mark, or all if there is none.
 fn up_to(text: &str, mark: char) -> &str
     requires { mark < 128 }
     ensures { result.now ≡ before_first (λ b. b == mark) text.now }

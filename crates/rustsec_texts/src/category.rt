@@ -10,7 +10,7 @@ use rustsec_versions::{FromText, Result};
 use std::alloc::{AllocError, Global};
 use std::fmt;
 
-/// What a fault makes possible. The names are those of the RustSec database; any other name is kept.
+/// What a vulnerability makes possible. The names are those of the RustSec database; any other name is kept.
 #[derive(PartialEq, Eq, PartialOrd, Ord, Hash, Debug, Drop)]
 pub enum Category {
     /// Execution of code that an attacker chooses.
@@ -31,7 +31,7 @@ pub enum Category {
     MemoryExposure,
     /// Rights that an attacker gains.
     PrivilegeEscalation,
-    /// A fault between threads.
+    /// A vulnerability between threads.
     ThreadSafety,
     /// Any other category, by its name.
     Other(Text),

@@ -78,7 +78,7 @@ impl Date {
     ///
     /// # Errors
     ///
-    /// `Parse` where the text is not `YYYY-MM-DD` with a year from 2000 to 2100, or the calendar has no
+    /// `Parse` if the text is not `YYYY-MM-DD` with a year from 2000 to 2100, or the calendar has no
     /// such day; else `OutOfMemory`.
     pub fn from_str(alloc: Global, text: &str) -> Result<Date>
         ensures ok { IfOk result (λ d. date_of text.now ≡ Some d) }

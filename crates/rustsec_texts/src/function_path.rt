@@ -56,7 +56,7 @@ impl FunctionPath {
     ///
     /// # Errors
     ///
-    /// `Parse` where the text is not two or more identifiers joined by `::`; else `OutOfMemory`.
+    /// `Parse` if the text is not two or more identifiers joined by `::`; else `OutOfMemory`.
     pub fn from_str(alloc: Global, text: &str) -> Result<FunctionPath>
         ensures ok { IfOk result (λ p. path_of text.now ≡ Some p) }
         ensures err { IfErr result (IsRefusal ErrorKind.Parse (path_of text.now ≡ None)) }

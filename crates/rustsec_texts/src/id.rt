@@ -20,7 +20,7 @@ use std::hash::{Hash, Hasher};
 use std::marker::Model;
 
 /// The ID of an advisory: `RUSTSEC-YEAR-NUMBER`, `CVE-YEAR-NUMBER`, `TALOS-YEAR-NUMBER`, or any other
-/// text, which is kept as it stands. Two IDs are equal exactly where their texts are.
+/// text, which is kept as it stands. Two IDs are equal exactly if their texts are.
 #[derive(Debug, Drop)]
 pub struct Id {
     kind: IdKind,
@@ -85,7 +85,7 @@ impl Id {
     ///
     /// # Errors
     ///
-    /// `Parse` where the text has the prefix `RUSTSEC-`, `CVE-` or `TALOS-`, is not the placeholder, and
+    /// `Parse` if the text has the prefix `RUSTSEC-`, `CVE-` or `TALOS-`, is not the placeholder, and
     /// is not three parts at `-` with a year from 2000 to 2100 and a number; else `OutOfMemory`.
     pub fn from_str(alloc: Global, text: &str) -> Result<Id>
         ensures ok { IfOk result (λ i. id_of text.now ≡ Some i) }
@@ -194,7 +194,7 @@ impl Id {
         self.year
     }
 
-    /// The number at the end: the last part at `-`, where it is a number and the ID no placeholder.
+    /// The number at the end: the last part at `-`, if it is a number and the ID no placeholder.
     pub fn numerical_part(&self) -> Option<u32>
         ensures { result ≡ numerical_part self.now.text }
     {

@@ -68,7 +68,7 @@ impl Identifier {
     ///
     /// # Errors
     ///
-    /// `Parse` where the text is none; else `OutOfMemory`.
+    /// `Parse` if the text is none; else `OutOfMemory`.
     pub fn from_str(alloc: Global, text: &str) -> Result<Identifier>
         ensures ok { IfOk result (λ i. identifier_of text.now ≡ Some i) }
         ensures text { IfOk result (λ i. i ≡ text.now) }

@@ -11,7 +11,7 @@ use rustsec_versions::{FromText, Result};
 use std::alloc::{AllocError, Global};
 use std::fmt;
 
-/// What an advisory tells of a package that has no fault to be mended.
+/// What an advisory tells of a package that has no vulnerability to be mended.
 #[derive(PartialEq, Eq, PartialOrd, Ord, Hash, Debug, Drop)]
 pub enum Informational {
     /// A notice.

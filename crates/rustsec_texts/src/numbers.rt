@@ -30,7 +30,7 @@ pub(crate) fn digits(text: &str, count: usize) -> Option<u32>
     number(text)
 }
 
-/// The parts of a text between its dashes, where these are three.
+/// The parts of a text between its dashes, if these are three.
 pub(crate) fn three_parts(text: &str) -> Option<(&str, &str, &str)>
     ensures { option_map (λ p. (p.0.now, p.1.now, p.2.now)) result ≡ three_parts text.now }
 {

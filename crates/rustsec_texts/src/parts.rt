@@ -84,7 +84,7 @@ impl<'a> Parts<'a> {
     }
 }
 
-/// What follows a pattern, where the text begins with it.
+/// What follows a pattern, if the text begins with it.
 fn behind<'a>(text: &'a str, pattern: &'static str) -> Option<&'a str>
     ensures { MatchOption result (behind pattern.now text.now ≡ None) (λ rest. behind pattern.now text.now ≡ Some rest.now) }
 {
