@@ -5,7 +5,7 @@ use Rattle.rustsec_versions.specs.declared.error.ErrorKind.TheVariants as kind
 
 -- the message that names the path of a file that cannot be read
 abbrev pub read_message : List ℕ → List ℕ
-read_message path = codes "couldn't read " ++ path
+read_message path = codes "couldn't open " ++ path
 
 -- the failure of a file that cannot be read, or out of memory; its cause says why
 abbrev pub IsReadFailure : List ℕ → Failure → Type 0

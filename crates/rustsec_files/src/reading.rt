@@ -4,7 +4,7 @@ ghost use Rattle.std.specs.Prelude.{◌≡◌, ◌↔◌, IfErr, IfOk, IfSome, I
 ghost use Rattle.std.specs.IoError.{error_kind};
 ghost use Rattle.std.specs.Io.KnownBytes.{Consumes, IsAtEnd, Keeps};
 ghost use Rattle.rustsec_files.specs.ReadFailures.{IsReadFailure};
-ghost use Rattle.rustsec_versions.specs.Failure.{IsRefusal};
+ghost use Rattle.rustsec_versions.specs.Failure.{IsOfKind, IsRefusal};
 
 use rustsec_versions::{Error, ErrorKind, Result};
 use std::alloc::{AllocError, Global};
@@ -49,9 +49,10 @@ pub fn is_out_of_memory(error: &io::Error) -> bool
 
 /// The failure of a file that cannot be read, for this reason.
 fn failure(alloc: Global, path: &str, why: &str) -> Error
-    ensures { IsReadFailure path.now result }
+    ensures kind { IsOfKind ErrorKind.Io result }
+    ensures names { IsReadFailure path.now result }
 {
-    match format!(in alloc; "couldn't read {path}") {
+    match format!(in alloc; "couldn't open {path}") {
         Ok(message) => Error::with_source(alloc, ErrorKind::Io, &message, why),
         Err(refused) => Error::from(refused),
     }
@@ -59,7 +60,8 @@ fn failure(alloc: Global, path: &str, why: &str) -> Error
 
 /// The failure of a file that cannot be read, for this error.
 fn failed(alloc: Global, path: &str, error: io::Error) -> Error
-    ensures { IsReadFailure path.now result }
+    ensures kind { IsOfKind ErrorKind.Io result }
+    ensures names { IsReadFailure path.now result }
 {
     if is_out_of_memory(&error) {
         return Error::from(AllocError);
@@ -78,6 +80,7 @@ fn failed(alloc: Global, path: &str, error: io::Error) -> Error
 pub fn text_of_bytes(alloc: Global, bytes: Vec<u8>, path: &str) -> Result<String>
     ensures ok { IfOk result (λ s. string_bytes s ≡ bytes.items) }
     ensures err { IfErr result (IsRefusal ErrorKind.Io (¬ IsUtf8 bytes.items)) }
+    ensures kind { IfErr result (IsOfKind ErrorKind.Io) }
     ensures names { IfErr result (IsReadFailure path.now) }
 {
     match String::from_utf8(bytes) {
@@ -94,7 +97,8 @@ pub fn text_of_bytes(alloc: Global, bytes: Vec<u8>, path: &str) -> Result<String
 /// `OutOfMemory`. The message names the path, the cause says why.
 pub fn text_of<R: Read>(alloc: Global, reader: &mut R, path: &str) -> Result<String>
     ensures text { IfOk result (λ s. IfSome (R.remaining reader.old) (λ bytes. string_bytes s ≡ bytes)) }
-    ensures err { IfErr result (IsReadFailure path.now) }
+    ensures kind { IfErr result (IsOfKind ErrorKind.Io) }
+    ensures names { IfErr result (IsReadFailure path.now) }
 {
     match bytes_of(alloc, reader) {
         Ok(bytes) => text_of_bytes(alloc, bytes, path),
@@ -108,7 +112,8 @@ pub fn text_of<R: Read>(alloc: Global, reader: &mut R, path: &str) -> Result<Str
 ///
 /// `Io` if the file cannot be opened; then as `text_of`.
 pub fn text_of_file<R: Files>(rt: &R, alloc: Global, path: &str) -> Result<String>
-    ensures { IfErr result (IsReadFailure path.now) }
+    ensures kind { IfErr result (IsOfKind ErrorKind.Io) }
+    ensures names { IfErr result (IsReadFailure path.now) }
 {
     match fs::File::open(rt, path) {
         Ok(mut file) => text_of(alloc, &mut file, path),

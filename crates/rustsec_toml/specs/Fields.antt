@@ -1,0 +1,34 @@
+-- What a table of a TOML document holds at its keys.
+use Rattle.std.specs.Prelude.{ℕ, List, [], ◌∷◌, Option, Some, None}
+use Rattle.toml.specs.Data.{Data, Items, no_items, item, Members, get_member, as_array, as_str}
+use Rattle.rustsec_values.specs.Reading.{◌>>=◌, read_all, read_optional}
+
+-- the items of an array as a list
+abbrev pub list_of : Items → List Data
+list_of no_items = []
+list_of (item d ds) = d ∷ list_of ds
+
+-- a string that a reader takes
+abbrev pub text : {A : Type 0} → (List ℕ → Option A) → Data → Option A
+text f d = as_str d >>= f
+
+-- an array of which a reader takes each value
+abbrev pub every : {A : Type 0} → (Data → Option A) → Data → Option (List A)
+every f d = as_array d >>= λ ds. read_all f (list_of ds)
+
+-- the value at a key that must be there
+abbrev pub required : {A : Type 0} → (Data → Option A) → List ℕ → Members → Option A
+required f key t = get_member key t >>= f
+
+-- the value at a key that may be missing
+abbrev pub optional : {A : Type 0} → (Data → Option A) → List ℕ → Members → Option (Option A)
+optional f key t = read_optional f (get_member key t)
+
+-- a value that may be missing, or what stands for it
+abbrev pub value_or : {A : Type 0} → A → (Data → Option A) → Option Data → Option A
+value_or default f None = Some default
+value_or default f (Some d) = f d
+
+-- the value at a key, or its default
+abbrev pub defaulted : {A : Type 0} → A → (Data → Option A) → List ℕ → Members → Option A
+defaulted default f key t = value_or default f (get_member key t)

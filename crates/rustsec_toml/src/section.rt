@@ -1,0 +1,344 @@
+// A table of a document, and what it holds at its keys.
+
+ghost use Rattle.std.specs.Prelude.{◌≡◌, [], IfErr, IfOk, None, Some, false, option_map};
+ghost use Rattle.toml.specs.Data.{as_array, as_bool, as_str, as_table, get_member};
+ghost use Rattle.toml.specs.View.{array_view, table_view, view};
+ghost use Rattle.rustsec_toml.specs.Fields.{defaulted, every, list_of, optional, required, text};
+ghost use Rattle.rustsec_values.specs.Reading.{read_all};
+ghost use Rattle.rustsec_versions.specs.Failure.{IsMemory, IsOfKind, IsRefusal};
+
+use rustsec_values::Items;
+use rustsec_versions::{Error, ErrorKind, FromText, Result, refused_at, refused_text};
+use std::alloc::{AllocError, Global};
+use std::fmt;
+use std::fmt::Formatter;
+use toml::value::Array;
+use toml::{Table, Value};
+
+/// A table of a document, and the name that refusals give it, such as `[advisory]`.
+#[derive(Clone, Copy)]
+pub struct Section<'a> {
+    /// The table.
+    pub table: &'a Table,
+    /// The name that refusals give it.
+    pub name: &'a str,
+}
+
+/// The value at a key of a table.
+fn member<'a>(table: &'a Table, key: &str) -> Option<&'a Value>
+    ensures { option_map (λ v. view v.now) result ≡ get_member key.now (table_view table.now) }
+{
+    table.get(key)
+}
+
+/// A refusal with this message, which may have found no memory.
+fn refused(alloc: Global, message: std::result::Result<String, AllocError>) -> Error
+    ensures { IsOfKind ErrorKind.Parse result }
+{
+    match message {
+        Ok(message) => Error::new(alloc, ErrorKind::Parse, &message),
+        Err(refused) => Error::from(refused),
+    }
+}
+
+/// How a value reads in a message: a string as it is, another value as TOML prints it.
+fn printed(alloc: Global, value: &Value) -> std::result::Result<String, AllocError> {
+    if let Some(text) = value.as_str() {
+        return String::from_str(alloc, text);
+    }
+    let mut f = Formatter::new(String::new(alloc));
+    match fmt::Display::fmt(value, &mut f) {
+        Ok(()) => Ok(f.into_inner()),
+        Err(_) => Err(AllocError),
+    }
+}
+
+/// What the strings of an array give, in order.
+fn texts<T: FromText>(
+    alloc: Global,
+    section: Section<'_>,
+    key: &str,
+    array: &Array,
+) -> Result<Items<T>>
+    ensures ok { IfOk result (λ xs. read_all (text T.reads) (list_of (array_view array.now)) ≡ Some xs) }
+    ensures err { IfErr result (IsRefusal ErrorKind.Parse (read_all (text T.reads) (list_of (array_view array.now)) ≡ None)) }
+{
+    let mut read = Items::new(alloc);
+    for value in array {
+        match section.text_of(alloc, key, value) {
+            Ok(item) => read.push(item)?,
+            Err(e) => return Err(e),
+        }
+    }
+    Ok(read)
+}
+
+impl<'a> Section<'a> {
+    /// The value at a key.
+    pub fn get(self, key: &str) -> Option<&'a Value>
+        ensures { option_map (λ v. view v.now) result ≡ get_member key.now (table_view self.entry.table.now) }
+    {
+        member(self.table, key)
+    }
+
+    /// The refusal of a table without a key that must be there.
+    pub fn missing(self, alloc: Global, key: &str) -> Error
+        ensures { IsOfKind ErrorKind.Parse result }
+    {
+        let name = self.name;
+        refused(alloc, format!(in alloc; "key `{key}` is missing in {name}"))
+    }
+
+    /// The refusal of a value that is not of the expected kind. Its message names the key, the table and
+    /// the value.
+    pub fn unexpected(self, alloc: Global, key: &str, found: &Value, expected: &str) -> Error
+        ensures { IsOfKind ErrorKind.Parse result }
+    {
+        let (name, kind) = (self.name, found.type_str());
+        match (
+            format!(in alloc; "key `{key}` in {name}: found {kind}"),
+            printed(alloc, found),
+        ) {
+            (Ok(wrong), Ok(value)) => refused_text(alloc, &wrong, &value, expected),
+            _ => Error::from(AllocError),
+        }
+    }
+
+    /// A refusal of a value as that of its key: the key and the table stand before its message.
+    pub fn refused_at(self, alloc: Global, key: &str, error: &Error) -> Error
+        ensures kind { IsOfKind error.now.kind result }
+        ensures memory { IsMemory error.now → IsMemory result }
+    {
+        let name = self.name;
+        match format!(in alloc; "key `{key}` in {name}") {
+            Ok(place) => refused_at(alloc, &place, error),
+            Err(refused) => Error::from(refused),
+        }
+    }
+
+    /// The table that a value at a key must be.
+    ///
+    /// # Errors
+    ///
+    /// `Parse` if the value is no table; else `OutOfMemory`, for the message.
+    pub fn table_of(self, alloc: Global, key: &str, value: &'a Value) -> Result<&'a Table>
+        ensures ok { IfOk result (λ t. as_table (view value.now) ≡ Some (table_view t.now)) }
+        ensures err { IfErr result (IsRefusal ErrorKind.Parse (as_table (view value.now) ≡ None)) }
+    {
+        match value.as_table() {
+            Some(table) => Ok(table),
+            None => Err(self.unexpected(alloc, key, value, "a table")),
+        }
+    }
+
+    /// The array that a value at a key must be.
+    ///
+    /// # Errors
+    ///
+    /// `Parse` if the value is no array; else `OutOfMemory`, for the message. `expected` is for the
+    /// message alone.
+    pub fn array_of(
+        self,
+        alloc: Global,
+        key: &str,
+        value: &'a Value,
+        expected: &str,
+    ) -> Result<&'a Array>
+        ensures ok { IfOk result (λ a. as_array (view value.now) ≡ Some (array_view a.now)) }
+        ensures err { IfErr result (IsRefusal ErrorKind.Parse (as_array (view value.now) ≡ None)) }
+    {
+        match value.as_array() {
+            Some(array) => Ok(array),
+            None => Err(self.unexpected(alloc, key, value, expected)),
+        }
+    }
+
+    /// The string that a value at a key must be.
+    ///
+    /// # Errors
+    ///
+    /// `Parse` if the value is no string; else `OutOfMemory`, for the message.
+    pub fn string_of(self, alloc: Global, key: &str, value: &'a Value) -> Result<&'a str>
+        ensures ok { IfOk result (λ s. as_str (view value.now) ≡ Some s.now) }
+        ensures err { IfErr result (IsRefusal ErrorKind.Parse (as_str (view value.now) ≡ None)) }
+    {
+        match value.as_str() {
+            Some(text) => Ok(text),
+            None => Err(self.unexpected(alloc, key, value, "a string")),
+        }
+    }
+
+    /// What a type reads of a text that stands at a key.
+    ///
+    /// # Errors
+    ///
+    /// `Parse` if the type takes no such text; else `OutOfMemory`.
+    pub fn read<T: FromText>(self, alloc: Global, key: &str, text: &str) -> Result<T>
+        ensures ok { IfOk result (λ x. T.reads text.now ≡ Some x) }
+        ensures err { IfErr result (IsRefusal ErrorKind.Parse (T.reads text.now ≡ None)) }
+    {
+        match T::from_text(alloc, text) {
+            Ok(value) => Ok(value),
+            Err(e) => Err(self.refused_at(alloc, key, &e)),
+        }
+    }
+
+    /// What a type reads of a value at a key, which must be a string.
+    ///
+    /// # Errors
+    ///
+    /// `Parse` if the value is no string, or the type takes no such text; else `OutOfMemory`.
+    pub fn text_of<T: FromText>(self, alloc: Global, key: &str, value: &Value) -> Result<T>
+        ensures ok { IfOk result (λ x. text T.reads (view value.now) ≡ Some x) }
+        ensures err { IfErr result (IsRefusal ErrorKind.Parse (text T.reads (view value.now) ≡ None)) }
+    {
+        match value.as_str() {
+            Some(text) => self.read(alloc, key, text),
+            None => Err(self.unexpected(alloc, key, value, "a string")),
+        }
+    }
+
+    /// The table at a key that must hold one.
+    ///
+    /// # Errors
+    ///
+    /// `Parse` if the key is missing, or its value is no table; else `OutOfMemory`, for the message.
+    pub fn table_at(self, alloc: Global, key: &str) -> Result<&'a Table>
+        ensures ok { IfOk result (λ t. required as_table key.now (table_view self.entry.table.now) ≡ Some (table_view t.now)) }
+        ensures err { IfErr result (IsRefusal ErrorKind.Parse (required as_table key.now (table_view self.entry.table.now) ≡ None)) }
+    {
+        match self.get(key) {
+            Some(value) => self.table_of(alloc, key, value),
+            None => Err(self.missing(alloc, key)),
+        }
+    }
+
+    /// The string at a key that must hold one.
+    ///
+    /// # Errors
+    ///
+    /// `Parse` if the key is missing, or its value is no string; else `OutOfMemory`, for the message.
+    pub fn string_at(self, alloc: Global, key: &str) -> Result<&'a str>
+        ensures ok { IfOk result (λ s. required as_str key.now (table_view self.entry.table.now) ≡ Some s.now) }
+        ensures err { IfErr result (IsRefusal ErrorKind.Parse (required as_str key.now (table_view self.entry.table.now) ≡ None)) }
+    {
+        match self.get(key) {
+            Some(value) => self.string_of(alloc, key, value),
+            None => Err(self.missing(alloc, key)),
+        }
+    }
+
+    /// The string at a key that may be missing.
+    ///
+    /// # Errors
+    ///
+    /// `Parse` if its value is no string; else `OutOfMemory`, for the message.
+    pub fn optional_string_at(self, alloc: Global, key: &str) -> Result<Option<&'a str>>
+        ensures ok { IfOk result (λ s. optional as_str key.now (table_view self.entry.table.now) ≡ Some (option_map (λ t. t.now) s)) }
+        ensures err { IfErr result (IsRefusal ErrorKind.Parse (optional as_str key.now (table_view self.entry.table.now) ≡ None)) }
+    {
+        let Some(value) = self.get(key) else {
+            return Ok(None);
+        };
+        let text = self.string_of(alloc, key, value)?;
+        Ok(Some(text))
+    }
+
+    /// The string at a key, empty if the key is missing.
+    ///
+    /// # Errors
+    ///
+    /// `Parse` if its value is no string; else `OutOfMemory`, for the message.
+    pub fn string_or_empty(self, alloc: Global, key: &str) -> Result<&'a str>
+        ensures ok { IfOk result (λ s. defaulted [] as_str key.now (table_view self.entry.table.now) ≡ Some s.now) }
+        ensures err { IfErr result (IsRefusal ErrorKind.Parse (defaulted [] as_str key.now (table_view self.entry.table.now) ≡ None)) }
+    {
+        match self.get(key) {
+            Some(value) => self.string_of(alloc, key, value),
+            None => Ok(""),
+        }
+    }
+
+    /// The boolean at a key, false if the key is missing.
+    ///
+    /// # Errors
+    ///
+    /// `Parse` if its value is no boolean; else `OutOfMemory`, for the message.
+    pub fn bool_or_false(self, alloc: Global, key: &str) -> Result<bool>
+        ensures ok { IfOk result (λ b. defaulted false as_bool key.now (table_view self.entry.table.now) ≡ Some b) }
+        ensures err { IfErr result (IsRefusal ErrorKind.Parse (defaulted false as_bool key.now (table_view self.entry.table.now) ≡ None)) }
+    {
+        let Some(value) = self.get(key) else {
+            return Ok(false);
+        };
+        match value.as_bool() {
+            Some(flag) => Ok(flag),
+            None => Err(self.unexpected(alloc, key, value, "a boolean")),
+        }
+    }
+
+    /// What a type reads of the string at a key that must hold one.
+    ///
+    /// # Errors
+    ///
+    /// `Parse` if the key is missing, its value is no string, or the type takes no such text; else
+    /// `OutOfMemory`.
+    pub fn text_at<T: FromText>(self, alloc: Global, key: &str) -> Result<T>
+        ensures ok { IfOk result (λ x. required (text T.reads) key.now (table_view self.entry.table.now) ≡ Some x) }
+        ensures err { IfErr result (IsRefusal ErrorKind.Parse (required (text T.reads) key.now (table_view self.entry.table.now) ≡ None)) }
+    {
+        match self.get(key) {
+            Some(value) => self.text_of(alloc, key, value),
+            None => Err(self.missing(alloc, key)),
+        }
+    }
+
+    /// What a type reads of the string at a key that may be missing.
+    ///
+    /// # Errors
+    ///
+    /// `Parse` if its value is no string, or the type takes no such text; else `OutOfMemory`.
+    pub fn optional_text_at<T: FromText>(self, alloc: Global, key: &str) -> Result<Option<T>>
+        ensures ok { IfOk result (λ x. optional (text T.reads) key.now (table_view self.entry.table.now) ≡ Some x) }
+        ensures err { IfErr result (IsRefusal ErrorKind.Parse (optional (text T.reads) key.now (table_view self.entry.table.now) ≡ None)) }
+    {
+        let Some(value) = self.get(key) else {
+            return Ok(None);
+        };
+        let read = self.text_of(alloc, key, value)?;
+        Ok(Some(read))
+    }
+
+    /// What a type reads of the string at a key, or what stands for it if the key is missing.
+    ///
+    /// # Errors
+    ///
+    /// `Parse` if its value is no string, or the type takes no such text; else `OutOfMemory`.
+    pub fn text_or<T: FromText>(self, alloc: Global, key: &str, default: T) -> Result<T>
+        ensures ok { IfOk result (λ x. defaulted default (text T.reads) key.now (table_view self.entry.table.now) ≡ Some x) }
+        ensures err { IfErr result (IsRefusal ErrorKind.Parse (defaulted default (text T.reads) key.now (table_view self.entry.table.now) ≡ None)) }
+    {
+        match self.get(key) {
+            Some(value) => self.text_of(alloc, key, value),
+            None => Ok(default),
+        }
+    }
+
+    /// What a type reads of the strings of the array at a key, in order; none if the key is missing.
+    ///
+    /// # Errors
+    ///
+    /// `Parse` if its value is no array of strings, or the type takes no such text; else `OutOfMemory`.
+    pub fn texts_at<T: FromText>(self, alloc: Global, key: &str) -> Result<Items<T>>
+        ensures ok { IfOk result (λ xs. defaulted [] (every (text T.reads)) key.now (table_view self.entry.table.now) ≡ Some xs) }
+        ensures err { IfErr result (IsRefusal ErrorKind.Parse (defaulted [] (every (text T.reads)) key.now (table_view self.entry.table.now) ≡ None)) }
+    {
+        let Some(value) = self.get(key) else {
+            return Ok(Items::new(alloc));
+        };
+        match value.as_array() {
+            Some(array) => texts(alloc, self, key, array),
+            None => Err(self.unexpected(alloc, key, value, "an array of strings")),
+        }
+    }
+}
