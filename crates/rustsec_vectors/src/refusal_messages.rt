@@ -68,11 +68,18 @@ const LOCKFILES: &[(&str, &str, bool)] = &[
     ),
 ];
 
+/// Whether a text is refused as a lockfile with this message, with a cause or without one.
+fn lockfile_refused(alloc: Global, text: &str, message: &str, caused: bool) -> bool {
+    refuses(Lockfile::from_str(alloc, text), message, caused)
+}
+
 /// Goes through the lockfiles.
 fn expect_lockfiles<T: AllocGlobal + Abort>(rt: &T) {
     for (text, message, caused) in LOCKFILES {
-        let answer = Lockfile::from_str(rt.alloc(), text);
-        assert!(rt; refuses(answer, message, *caused), "of {text}");
+        assert!(rt;
+            lockfile_refused(rt.alloc(), text, message, *caused),
+            "of {text}"
+        );
     }
 }
 
@@ -82,7 +89,7 @@ fn messages_of_lockfiles(rt: HostRuntime) {
     expect_lockfiles(&rt);
 }
 
-/// The refusal of a text by the reader of this name.
+/// Whether the reader of this name refuses a text with this message.
 fn refused(alloc: Global, reader: &str, text: &str, message: &str) -> bool {
     match reader {
         "id" => refuses(Id::from_str(alloc, text), message, false),
@@ -94,7 +101,7 @@ fn refused(alloc: Global, reader: &str, text: &str, message: &str) -> bool {
     }
 }
 
-/// The refusal of a text of a lockfile's crate by the reader of this name.
+/// Whether the reader of this name, of a lockfile's texts, refuses a text with this message.
 fn refused_in_lock(alloc: Global, reader: &str, text: &str, message: &str) -> bool {
     match reader {
         "name" => refuses(Name::from_str(alloc, text), message, false),
