@@ -7,7 +7,7 @@ ghost use Rattle.rustsec_commands.specs.Answer.{AnswersRanges};
 ghost use Rattle.rustsec_commands.specs.Output.{affected_output};
 
 use crate::fault::Fault;
-use crate::output;
+use crate::{affected, ranges};
 use std::alloc::Global;
 use std::io::{Read, Write};
 
@@ -46,7 +46,7 @@ pub fn answer<R: Read, W: Write>(alloc: Global, input: &mut R, output: &mut W) -
     ensures kept { IfErr result (λ e. e ≢ fault.Write → Keeps (W.contents output.old) (W.contents output.new)) }
 {
     let bytes = read_all(alloc, input)?;
-    output::affected_output(alloc, &bytes)?.write(output)
+    affected::affected_output(alloc, &bytes)?.write(output)
 }
 
 /// Carries out `ranges`: reads all there is, and writes a line for each range that the requirements
@@ -67,5 +67,5 @@ pub fn answer_ranges<R: Read, W: Write>(
     ensures kept { IfErr result (λ e. e ≢ fault.Write → Keeps (W.contents output.old) (W.contents output.new)) }
 {
     let bytes = read_all(alloc, input)?;
-    output::ranges_output(alloc, &bytes)?.write(output)
+    ranges::ranges_output(alloc, &bytes)?.write(output)
 }

@@ -17,7 +17,7 @@ use std::rt::Files;
 ///
 /// - `affected`: as `answer`;
 /// - `ranges`: as `answer_ranges`;
-/// - `lint` and a path: writes a line for each fault of the advisory in that file; status 1 where there
+/// - `lint` and a path: writes a line for each lint error of the advisory in that file; status 1 where there
 ///   is one, else 0. A refusal of the file gives `refused: KIND`, status 2. The input is not read;
 /// - any other words: writes the usage line, status 2.
 ///

@@ -1,6 +1,7 @@
 //! The commands of the program `rustsec_audit`, over any reader and writer.
 #![tactic(auto)]
 
+mod affected;
 mod answers;
 mod asked;
 mod commands;
@@ -8,6 +9,7 @@ mod fault;
 mod line;
 mod lint;
 mod output;
+mod ranges;
 
 pub use crate::answers::{answer, answer_ranges};
 pub use crate::commands::run;

@@ -38,7 +38,7 @@ fn without_return(line: &[u8]) -> &[u8]
     }
 }
 
-/// Whether an error of `semver` is want of memory.
+/// Whether an error of `semver` says that memory ran out.
 fn is_memory(e: semver::Error) -> bool
     ensures { e ≡ memory_error → result ≡ true }
 {

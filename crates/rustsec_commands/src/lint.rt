@@ -1,4 +1,4 @@
-//! The command `lint`: the faults of an advisory's file.
+//! The command `lint`: the errors that a linter finds in an advisory's file.
 
 ghost use Rattle.std.specs.Prelude.{◌≡◌, ◌≢◌, IfOk, flat_map, string_bytes};
 ghost use Rattle.rustsec_commands.specs.Lint.{IsLintOutput, fault_line, faults_output, refused_as};
@@ -11,13 +11,13 @@ use std::alloc::{AllocError, Global};
 use std::fmt::Write as _;
 use std::rt::Files;
 
-/// A line for each fault.
-fn fault_lines(alloc: Global, faults: &[linter::Error]) -> Result<String, AllocError>
-    ensures { IfOk result (λ t. string_bytes t ≡ flat_map fault_line faults.now) }
+/// A line for each lint error.
+fn error_lines(alloc: Global, errors: &[linter::Error]) -> Result<String, AllocError>
+    ensures { IfOk result (λ t. string_bytes t ≡ flat_map fault_line errors.now) }
 {
     let mut text = String::new(alloc);
-    for fault in faults {
-        writeln!(text, "{fault}")?;
+    for error in errors {
+        writeln!(text, "{error}")?;
     }
     Ok(text)
 }
@@ -30,17 +30,17 @@ fn refused(alloc: Global, kind: ErrorKind) -> Result<Output, AllocError>
     Ok(Output::new(text, 2))
 }
 
-/// The answer to an advisory: its faults.
-fn faults(alloc: Global, linter: &Linter) -> Result<Output, AllocError>
+/// The answer to an advisory: its lint errors.
+fn errors_output(alloc: Global, linter: &Linter) -> Result<Output, AllocError>
     ensures { IfOk result (λ o. o ≡ faults_output linter.now.errors) }
 {
-    let faults = linter.errors();
-    let text = fault_lines(alloc, faults)?;
-    let status = if faults.is_empty() { 0 } else { 1 };
+    let errors = linter.errors();
+    let text = error_lines(alloc, errors)?;
+    let status = if errors.is_empty() { 0 } else { 1 };
     Ok(Output::new(text, status))
 }
 
-/// The answer to the refusal of a file, which is no want of memory.
+/// The answer to the refusal of a file, which is not that memory ran out.
 fn refusal(alloc: Global, error: Error) -> Result<Output, AllocError>
     ensures { IfOk result (λ o. (error.kind ≢ failure.OutOfMemory) × (o ≡ refused_as error.kind)) }
 {
@@ -56,7 +56,7 @@ pub fn lint_output<T: Files + AllocGlobal>(rt: &T, path: &str) -> Result<Output,
     ensures { IfOk result (IsLintOutput path.now) }
 {
     match Linter::lint_file(rt, rt.alloc(), path) {
-        Ok(linter) => faults(rt.alloc(), &linter),
+        Ok(linter) => errors_output(rt.alloc(), &linter),
         Err(error) => refusal(rt.alloc(), error),
     }
 }

@@ -2,7 +2,7 @@ use Rattle.std.proofs.lemmas.Result.{IfOk-weaker}
 use Rattle.rustsec_commands.specs.declared.asked.Question.TheVariants as question
 use Rattle.rustsec_commands.proofs.OneOutput.{one-output}
 use Rattle.rustsec_commands.proofs.Turns.{ranges-given, ranges-malformed, said-input}
-use Rattle.rustsec_commands.proofs.output.ranges_output.Goals as goal
+use Rattle.rustsec_commands.proofs.ranges.ranges_output.Goals as goal
 
 pub returns-in-Ok-clause-output : goal.returns-in-Ok-clause-output
 returns-in-Ok-clause-output c =

@@ -1,6 +1,6 @@
 use Rattle.rustsec_commands.specs.declared.asked.Question.TheVariants as question
 use Rattle.rustsec_commands.proofs.Turns.{affected-given, affected-malformed, said-input}
-use Rattle.rustsec_commands.proofs.output.affected_output.Goals as goal
+use Rattle.rustsec_commands.proofs.affected.affected_output.Goals as goal
 
 pub returns-in-Ok : goal.returns-in-Ok
 returns-in-Ok c =

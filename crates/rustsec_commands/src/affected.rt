@@ -1,0 +1,59 @@
+//! The command `affected`: which versions the requirements leave affected.
+
+ghost use Rattle.std.specs.Prelude.{◌≡◌, IfOk, flat_map, map, string_bytes};
+ghost use Rattle.semver.specs.Identifiers.{parts_of};
+ghost use Rattle.rustsec_commands.specs.Output.{affected_output, verdict, verdicts};
+
+use crate::asked::{self, Asked, Question};
+use crate::line;
+use crate::output::{self, Output};
+use rustsec_versions::{ErrorKind, Versions};
+use semver::Version;
+use std::alloc::{AllocError, Global};
+use std::fmt::Write as _;
+
+/// A line for each version.
+fn verdict_lines(
+    alloc: Global,
+    lists: &Versions,
+    versions: &[Version],
+) -> Result<String, AllocError>
+    ensures { IfOk result (λ t. string_bytes t ≡ flat_map (verdict lists.now) (map parts_of versions.now)) }
+{
+    let mut text = String::new(alloc);
+    for version in versions {
+        if lists.is_vulnerable(version) {
+            writeln!(text, "{version} affected")?;
+        } else {
+            writeln!(text, "{version} not affected")?;
+        }
+    }
+    Ok(text)
+}
+
+/// The verdicts, where no line is malformed.
+fn verdicts(alloc: Global, asked: Asked) -> Result<Output, AllocError>
+    ensures { IfOk result (λ o. o ≡ verdicts asked) }
+{
+    let Asked {
+        patched,
+        unaffected,
+        versions,
+    } = asked;
+    match Versions::new(alloc, patched, unaffected) {
+        Ok(lists) => Ok(Output::new(verdict_lines(alloc, &lists, &versions)?, 0)),
+        Err(e) if e.kind() == ErrorKind::OutOfMemory => Err(AllocError),
+        Err(_) => output::refused(alloc),
+    }
+}
+
+/// What `affected` writes for an input.
+pub fn affected_output(alloc: Global, input: &[u8]) -> Result<Output, AllocError>
+    ensures { IfOk result (λ o. o ≡ affected_output input.now) }
+{
+    let lines = line::lines_of(alloc, input)?;
+    match asked::read(alloc, Question::Verdicts, &lines)? {
+        Ok(asked) => verdicts(alloc, asked),
+        Err(place) => output::malformed(alloc, place),
+    }
+}
