@@ -7,7 +7,7 @@ use Rattle.std.specs.Option.{option_eq}
 use Rattle.std.proofs.Common.{ap, subst}
 use denote.Enum.Bare.{same_true, true_same}
 use Rattle.rustsec_values.specs.Equality.{both_true, option_decides, pair_decides}
-use Rattle.rustsec_versions.specs.Decided.{lists_decides, requirements_decides}
+use Rattle.rustsec_versions.specs.EqualityLaws.{lists_decides, requirements_decides}
 use Rattle.rustsec_versions.specs.Equality.{requirements_eq}
 use Rattle.rustsec_lock.specs.CvssEquality.{cvss_decides}
 use Rattle.rustsec_lock.specs.SourceOrder.{source_decides, source_eq}

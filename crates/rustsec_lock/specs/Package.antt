@@ -11,7 +11,7 @@ use Rattle.semver.specs.OrderLaws.{build-anti, build_total, order_ties, pre-anti
 use Rattle.semver.specs.Parse.{Parts}
 use Rattle.std.proofs.Common.{ap}
 use Rattle.rustsec_values.specs.Equality.{both_true, option_decides}
-use Rattle.rustsec_versions.specs.Decided.{version_decides}
+use Rattle.rustsec_versions.specs.EqualityLaws.{version_decides}
 use Rattle.rustsec_versions.specs.Equality.{version_eq, version_equiv}
 use Rattle.rustsec_versions.specs.Precedence.{version_order}
 use Rattle.rustsec_lock.specs.Source.{Source}

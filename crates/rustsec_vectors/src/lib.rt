@@ -38,9 +38,13 @@ mod platforms;
 #[cfg(test)]
 mod refusal_messages;
 #[cfg(test)]
+mod refused_requirements;
+#[cfg(test)]
 mod sampled_commands;
 #[cfg(test)]
 mod sources;
+#[cfg(test)]
+mod stored_ranges;
 #[cfg(test)]
 mod successors;
 #[cfg(test)]

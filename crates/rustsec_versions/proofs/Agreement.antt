@@ -6,6 +6,7 @@ use Rattle.std.specs.List.{cons_option, list_all, list_any}
 use Rattle.std.specs.List.Sorted.{IsSortedByKey}
 use Rattle.std.specs.Option.{option_map}
 use Rattle.std.proofs.lemmas.Bool.{cases_Bool}
+use Rattle.std.proofs.lemmas.List.Sorted.{IsPermutation-refl}
 use Rattle.semver.specs.Parse.{Held, Parts}
 use Rattle.semver.specs.declared.Op.{Op}
 use Rattle.semver.specs.declared.Op.TheVariants as op
@@ -13,15 +14,17 @@ use Rattle.rustsec_versions.specs.Gaps.{HasValidBounds, IsValidBound, cut, gaps_
 use Rattle.rustsec_versions.specs.Interval.{Endpoint, Interval, exclusive, inclusive, unbounded}
 use Rattle.rustsec_versions.specs.Lists.{Lists, accepted, affected, all_admissible, intervals}
 use Rattle.rustsec_versions.specs.Precedence.{IsVersion}
-use Rattle.rustsec_versions.specs.Ranges.{AreRanges, Range, SameRequirements, affects, has_bound, in_ranges, whole}
-use Rattle.rustsec_versions.specs.Requirement.{Side, caret_end, interval_of, is_admissible, lower, named, names_version, neither, of_comparators, of_one, of_sides, side_of, stated, tilde_end, up_to, upper}
+use Rattle.rustsec_versions.specs.Ranges.{AreRanges, HasCuts, Range, SameRequirements, affects, has_bound, in_ranges, lower_cut, upper_cut, whole}
+use Rattle.rustsec_versions.specs.Requirement.{Side, caret_end, interval_of, is_admissible, is_end, is_start, lower, named, names_version, neither, of_comparators, of_one, of_sides, side_of, stated, tilde_end, up_to, upper}
+use Rattle.rustsec_versions.specs.StoredRanges.{AreInTurn, AreRangesOf}
 use Rattle.rustsec_versions.proofs.AreRanges.{AreFit, apart_shuffled, gaps-AreRanges, gaps-affected, sound_shuffled}
 use Rattle.rustsec_versions.proofs.Chain.{AllAdmissible, starts-rise}
 use Rattle.rustsec_versions.proofs.Clashes.{AllSound, accepted-all, accepted-precedence, accepted-refused, intervals-sound}
+use Rattle.rustsec_versions.proofs.LeastAbove.{successor-there}
 use Rattle.rustsec_versions.proofs.OwnOrder.{all-affect, cuts-plain, gaps-plain}
 use Rattle.rustsec_versions.proofs.RangeEnds.{list_all-IsPermutation}
 use Rattle.rustsec_versions.proofs.Shuffled.{IsPermutation-filter_map, shuffled}
-use Rattle.rustsec_versions.proofs.Sound.{IsSoundEnd, admitted-is, and-first, and-second, interval_of-admissible, only_if-true, some-same}
+use Rattle.rustsec_versions.proofs.Sound.{IsSoundEnd, admissible-end, admissible-start, admitted-is, and-first, and-second, interval_of-admissible, only_if-true, some-same}
 use Rattle.rustsec_versions.proofs.Unique.{AreRanges-unique}
 use Rattle.rustsec_versions.proofs.Walk.{cuts_of}
 
@@ -171,25 +174,62 @@ whole-back rs e = rw e refl
 
 module _ (ls : Lists) (accepts : accepted ls ≡ true) (xs : List (Bor Interval)) (same : IsPermutation (intervals ls) (map (λ x. x.now) xs))
     (sorted : IsSortedByKey (λ x. x.now.start) start_order xs) where
-  pub walk-AreRanges : AreRanges (intervals ls) (gaps_from None (cuts_of xs))
+  walk-AreRanges : AreRanges (intervals ls) (gaps_from None (cuts_of xs))
   walk-AreRanges = rw (cuts-map xs) (gaps-AreRanges (intervals ls) _ same (fit-lists ls accepts) (starts-rise xs sorted))
 
-  pub walk-empty : (gaps_from None (cuts_of xs) ≡ []) ↔ (ls.patched ++ ls.unaffected ≡ [] ∷ [])
-  walk-empty = (
-    λ e. whole-lists (ls.patched ++ ls.unaffected) (accepted-all ls accepts) ((walk-AreRanges.empty).0 e),
-    λ e. (walk-AreRanges.empty).1 (whole-back (ls.patched ++ ls.unaffected) e),
-  )
-
-  pub walk-agree : (w : Parts) → IsVersion w → in_ranges (gaps_from None (cuts_of xs)) w ≡ affected ls w
+  walk-agree : (w : Parts) → IsVersion w → in_ranges (gaps_from None (cuts_of xs)) w ≡ affected ls w
   unfolding affected
   walk-agree w valid = rw (cuts-map xs) (gaps-affected (intervals ls) _ w same (fit-lists ls accepts) (starts-rise xs sorted) valid)
 
-  pub walk-affects : (w : Parts) → IsVersion w → list_any (λ r. affects r w) (gaps_from None (cuts_of xs)) ≡ affected ls w
+  walk-affects : (w : Parts) → IsVersion w → list_any (λ r. affects r w) (gaps_from None (cuts_of xs)) ≡ affected ls w
   walk-affects w valid =
       let sound = sound_shuffled (shuffled _ _ same) (intervals-sound (ls.patched ++ ls.unaffected)) in
       let plain = gaps-plain None (map cut (map (λ x. x.now) xs)) tt (cuts-plain (map (λ x. x.now) xs) sound) in
       all-affect (gaps_from None (cuts_of xs)) w (rw (cuts-map xs) plain) ∙ walk-agree w valid
 
-  pub walk-order : (ms : Lists) (rs : List Range) → SameRequirements ls ms → AreRanges (intervals ms) rs → rs ≡ gaps_from None (cuts_of xs)
-  walk-order ms rs p r =
-      AreRanges-unique (intervals ls) (intervals ms) _ rs (same-intervals ls ms p) (intervals-sound (ls.patched ++ ls.unaffected)) walk-AreRanges r
+  pub walk-AreRangesOf : AreRangesOf ls (gaps_from None (cuts_of xs))
+  walk-AreRangesOf = record { accepts = accepts; ranges = walk-AreRanges; agree = walk-agree; agree_affects = walk-affects }
+
+-- ---- what the ranges of accepted lists give
+
+module _ (ls : Lists) (rs : List Range) (kept : AreRangesOf ls rs) where
+  pub kept-empty : (rs ≡ []) ↔ (ls.patched ++ ls.unaffected ≡ [] ∷ [])
+  kept-empty = (
+    λ e. whole-lists (ls.patched ++ ls.unaffected) (accepted-all ls kept.accepts) ((kept.ranges.empty).0 e),
+    λ e. (kept.ranges.empty).1 (whole-back (ls.patched ++ ls.unaffected) e),
+  )
+
+  pub kept-order : (ms : Lists) (us : List Range) → SameRequirements ls ms → AreRanges (intervals ms) us → us ≡ rs
+  kept-order ms us p r =
+      AreRanges-unique (intervals ls) (intervals ms) rs us (same-intervals ls ms p) (intervals-sound (ls.patched ++ ls.unaffected)) kept.ranges r
+
+  -- any ranges of the same lists are as many
+  pub kept-length : (us : List Range) → AreRanges (intervals ls) us → length us ≡ length rs
+  kept-length us r = ap length (kept-order ls us (IsPermutation-refl (ls.patched ++ ls.unaffected)) r)
+
+  pub kept-in_turn : AreInTurn rs
+  kept-in_turn = record { in_order = kept.ranges.in_order; followed = kept.ranges.followed }
+
+-- ---- cuts
+
+start-has_cut : (s : Endpoint) → is_start s ≡ true → is_some (lower_cut s) ≡ has_bound s
+start-has_cut unbounded h = refl
+start-has_cut (inclusive v) h = refl
+start-has_cut (exclusive v) h = let t = successor-there v h in rw t.1 refl
+
+end-has_cut : (e : Endpoint) → is_end e ≡ true → is_some (upper_cut e) ≡ has_bound e
+end-has_cut unbounded h = refl
+end-has_cut (exclusive v) h = refl
+end-has_cut (inclusive v) h = let t = successor-there v h in rw t.1 refl
+
+admissible-cuts : (is : List Interval) → AllAdmissible is → (k : ℕ) (d : Interval) → k < length is → HasCuts (get_or is k d)
+admissible-cuts [] a k d h = absurd (omega arith)
+admissible-cuts (i ∷ is) a zero d h = record {
+  lower = start-has_cut i.start (admissible-start i a.0);
+  upper = end-has_cut i.end (admissible-end i a.0);
+}
+admissible-cuts (i ∷ is) a (suc k) d h = admissible-cuts is a.1 k d (omega arith)
+
+-- each interval of requirements has the cuts that its bounds want
+pub all-cuts : (ls : Lists) (k : ℕ) (d : Interval) → k < length (intervals ls) → HasCuts (get_or (intervals ls) k d)
+all-cuts ls k d h = admissible-cuts (intervals ls) (intervals-admissible (ls.patched ++ ls.unaffected)) k d h

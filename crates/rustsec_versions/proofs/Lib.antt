@@ -6,6 +6,7 @@ pub mod Clashes
 pub mod Compared
 pub mod Complement
 pub mod Cuts
+pub mod Halving
 pub mod LeastAbove
 pub mod MoreText
 pub mod Neighbours

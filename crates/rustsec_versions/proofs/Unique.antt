@@ -16,7 +16,7 @@ use Rattle.rustsec_versions.specs.Interval.{Endpoint, Interval, exclusive, inclu
 use Rattle.rustsec_versions.specs.Precedence.{is_at_most, precedence}
 use Rattle.rustsec_versions.specs.Ranges.{AreRanges, Range, has_bound, is_followed, lower_cut, lower_cuts, upper_cut, upper_cuts, whole}
 use Rattle.rustsec_versions.proofs.Clashes.{AllSound}
-use Rattle.rustsec_versions.specs.Decided.{version_decides}
+use Rattle.rustsec_versions.specs.EqualityLaws.{version_decides}
 use Rattle.rustsec_versions.specs.Equality.{version_eq}
 use Rattle.rustsec_versions.proofs.LeastAbove.{successor-valid}
 use Rattle.rustsec_versions.proofs.PrecedenceLaws.{at_most-not_below, at_most-trans, below-weak, not_at_most, total}

@@ -1,4 +1,5 @@
 -- Intervals that are apart: no one overlaps a later one of the list, and no one the next one.
+-- It only helps proofs: what a public contract says of overlaps stands in Lists (`clash`, `accepted`).
 use Rattle.std.specs.Prelude.{Bool, true, false, not, ◌&&◌, List, [], ◌∷◌}
 use Rattle.std.specs.List.{list_any}
 use Rattle.std.specs.declared.cmp.Ordering.{Ordering}

@@ -1,4 +1,5 @@
 -- When two versions, bounds, intervals or requirements are equal: where all their parts are, build included.
+-- It carries meaning: public contracts cite it.
 use Rattle.std.specs.Prelude.{ℕ, Bool, [], List, nat_eq}
 use Rattle.std.specs.Cmp.{IsEquivalence, and_equiv, nat_eq_equiv, on_equiv}
 use Rattle.std.specs.Cmp.Lexicographic.{lists_equiv as elements_equiv, nat_list_eq_equiv, options_equiv, pointwise}

@@ -1,4 +1,5 @@
 -- Intervals of versions: a start and an end, each missing, exclusive or inclusive at a version.
+-- It carries meaning: public contracts cite it.
 use Rattle.std.specs.Prelude.{Bool, true, ◌&&◌}
 use Rattle.std.specs.Ordering.{is_le, is_lt}
 use Rattle.std.specs.declared.cmp.Ordering.{Ordering}

@@ -1,4 +1,5 @@
 -- How an interval prints: `[0`, `(v` or `[v`, a comma and a space, then `∞)`, `v)` or `v]`.
+-- It carries meaning: public contracts cite it.
 use Rattle.std.specs.Prelude.{ℕ, List, ◌∷◌, ◌++◌, codes}
 use Rattle.semver.specs.Identifiers.{parts_text}
 use Rattle.rustsec_versions.specs.Interval.{Endpoint, Interval, exclusive, inclusive, unbounded}

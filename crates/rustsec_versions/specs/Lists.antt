@@ -1,4 +1,5 @@
 -- The lists of requirements of an advisory: which lists are accepted, and which versions they leave affected.
+-- It carries meaning: public contracts cite it.
 use Rattle.std.specs.Prelude.{◌&&◌, ◌==◌, ℕ, not, Bool, false, List, [], ◌++◌, Option, Some, None, filter_map, is_some, map}
 use Rattle.std.specs.List.{enumerate_from, list_all, list_any}
 use Rattle.semver.specs.Parse.{Held, Parts}

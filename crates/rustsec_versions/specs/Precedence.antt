@@ -1,5 +1,6 @@
 -- Which versions are valid, and their two orders: precedence (SemVer 2.0.0, section 11), and the order of
 -- the type `Version`, which looks at build metadata after everything else.
+-- It carries meaning: public contracts cite it.
 use Rattle.std.specs.Prelude.{◌≡◌, ◌<◌, ◌^◌, ℕ, Bool, true, List}
 use Rattle.std.specs.Ordering.{is_le, is_lt, nat_cmp, ordering_then}
 use Rattle.std.specs.declared.cmp.Ordering.{Ordering}

@@ -1,6 +1,7 @@
 -- Ranges of affected versions, `[introduced, fixed)`, either side possibly missing: what one means, what a list of
 -- them means, and which list the requirements of an advisory have.
-use Rattle.std.specs.Prelude.{◌≡◌, ◌&&◌, ◌+◌, ◌≤◌, ◌↔◌, Bool, true, false, List, [], ◌∷◌, ◌++◌, Option, Some, None, filter_map, is_none, length}
+-- It carries meaning: public contracts cite it.
+use Rattle.std.specs.Prelude.{◌≡◌, ◌&&◌, ◌+◌, ◌≤◌, ◌↔◌, Bool, true, false, List, [], ◌∷◌, ◌++◌, Option, Some, None, filter_map, is_none, is_some, length}
 use Rattle.std.specs.List.{AllAdjacentBelow, list_all, list_any}
 use Rattle.std.specs.List.Sorted.{IsPermutation, IsSorted}
 use Rattle.std.specs.Ordering.{is_le, is_lt}
@@ -72,6 +73,11 @@ abbrev pub has_bound : Endpoint → Bool
 has_bound unbounded = false
 has_bound (exclusive v) = true
 has_bound (inclusive v) = true
+
+-- an interval with a start has a lower cut, and one with an end an upper cut
+pub record HasCuts (i : Interval) : Type 0 where
+  pub lower : is_some (lower_cut i.start) ≡ has_bound i.start
+  pub upper : is_some (upper_cut i.end) ≡ has_bound i.end
 
 -- ---- the list of ranges
 

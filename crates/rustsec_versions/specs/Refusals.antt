@@ -1,4 +1,5 @@
 -- What messages of refusals say.
+-- It carries meaning: public contracts cite it.
 use Rattle.std.specs.Prelude.{◌≡◌, ◌++◌, ℕ, List, Option, Some, None, codes}
 use Rattle.rustsec_values.specs.Beginnings.{IsBeginning}
 use Rattle.rustsec_versions.specs.Failure.{Failure}

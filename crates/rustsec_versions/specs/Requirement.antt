@@ -1,4 +1,5 @@
 -- Which requirements are admissible, and the interval of one that is: the versions that it names as not affected.
+-- It carries meaning: public contracts cite it.
 use Rattle.std.specs.Prelude.{ℕ, suc, zero, ◌+◌, ◌^◌, ◌&&◌, ◌||◌, nat_lt, Bool, true, List, [], ◌∷◌, length, Option, Some, None, unwrap_or, option_map, codes}
 use Rattle.std.specs.List.{list_all}
 use Rattle.semver.specs.Grammar.{is_pre_release}

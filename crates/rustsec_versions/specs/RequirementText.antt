@@ -1,4 +1,5 @@
 -- The text of a requirement, as Cargo writes it: its comparators joined by a comma and a space, or `*` for none.
+-- It carries meaning: public contracts cite it.
 use Rattle.std.specs.Prelude.{ℕ, List, [], ◌∷◌, ◌++◌, Option, Some, None, codes}
 use Rattle.std.specs.Fmt.{decimal}
 use Rattle.semver.specs.Identifiers.{marked}

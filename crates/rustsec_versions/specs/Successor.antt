@@ -1,4 +1,5 @@
 -- The version least above another one, in precedence, among all valid versions.
+-- It carries meaning: public contracts cite it.
 use Rattle.std.specs.Prelude.{◌≡◌, ◌==◌, ◌+◌, true, [], ◌++◌, codes, length, Option, Some, if◌then◌else◌}
 use Rattle.semver.specs.Parse.{Parts}
 use Rattle.rustsec_values.specs.Reading.{only_if}

@@ -1,4 +1,5 @@
 -- What a contract sees of bounds and requirements: the parts of their versions, and no memory.
+-- It carries meaning: public contracts cite it.
 use Rattle.std.specs.Prelude.{List, map, Option, Some, None, option_map}
 use Rattle.semver.specs.Identifiers.{comparator_view, parts_of}
 use Rattle.semver.specs.Parse.{Held, Parts}

@@ -15,7 +15,7 @@ use semver::{BuildMetadata, Comparator, Op, Prerelease, Version, VersionReq};
 use std::alloc::{AllocError, Global};
 
 /// Whether an error of `semver` says that memory was refused.
-fn is_memory(e: semver::Error) -> bool
+pub fn is_out_of_memory(e: semver::Error) -> bool
     ensures { e ≡ memory_error → result ≡ true }
 {
     e == semver::Error::from(AllocError)
@@ -29,8 +29,8 @@ fn checked_pre(alloc: Global, pre: &Prerelease) -> Result<Prerelease>
 {
     match Prerelease::new(alloc, pre.as_str()) {
         Ok(pre) => Ok(pre),
-        Err(e) if is_memory(e) => Err(Error::from(AllocError)),
-        Err(_) => Err(Error::bad_param(alloc, "a pre-release is no SemVer text")),
+        Err(e) if is_out_of_memory(e) => Err(Error::from(AllocError)),
+        Err(_) => Err(Error::bad_param(alloc, "a pre-release is not of SemVer's grammar")),
     }
 }
 
@@ -55,7 +55,10 @@ pub(crate) fn least_of(alloc: Global, major: u64, minor: u64, patch: u64) -> Res
 fn too_large(alloc: Global) -> Error
     ensures { IsOfKind ErrorKind.BadParam result }
 {
-    Error::bad_param(alloc, "a number of a bound passes the greatest one")
+    Error::bad_param(
+        alloc,
+        "the upper bound needs a number above 18446744073709551615, the greatest one",
+    )
 }
 
 fn next_major(alloc: Global, major: u64) -> Result<Version>
@@ -117,7 +120,7 @@ fn tilde_end(alloc: Global, c: &Comparator) -> Result<Version>
 fn no_minor(alloc: Global) -> Error
     ensures { IsOfKind ErrorKind.BadParam result }
 {
-    Error::bad_param(alloc, "a comparator has a patch number and no minor one")
+    Error::bad_param(alloc, "a comparator has a patch number but no minor one")
 }
 
 /// The version of these parts, without build metadata.
@@ -170,7 +173,10 @@ fn bounds_by_op(alloc: Global, c: &Comparator, version: Version) -> Result<(Boun
             let end = tilde_end(alloc, c)?;
             Ok((Bound::Inclusive(version), Bound::Exclusive(end)))
         }
-        Op::Wildcard => Err(Error::bad_param(alloc, "a wildcard has no interval")),
+        Op::Wildcard => Err(Error::bad_param(
+            alloc,
+            "a wildcard behind a number is not taken without an operator",
+        )),
     }
 }
 
@@ -191,18 +197,36 @@ pub(crate) enum Side {
     Neither,
 }
 
+/// The side that a comparator gives by its operator, where it names this version.
+fn side_by_op(c: &Comparator, version: Version) -> Side
+    requires { parts_of version ≡ named (comparator_view c.now) }
+    ensures { side_view result ≡ side_of c.now.op (comparator_view c.now) }
+{
+    match c.op {
+        Op::Greater => Side::Lower(Bound::Exclusive(version)),
+        Op::GreaterEq => Side::Lower(Bound::Inclusive(version)),
+        Op::Less => Side::Upper(Bound::Exclusive(version)),
+        Op::LessEq => Side::Upper(Bound::Inclusive(version)),
+        Op::Exact | Op::Caret | Op::Tilde | Op::Wildcard => Side::Neither,
+    }
+}
+
+/// The side that a comparator gives.
 fn side_of(alloc: Global, c: &Comparator) -> Result<Side>
     ensures ok { IfOk result (λ s. only_if (names_version (comparator_view c.now)) (Some (side_of c.now.op (comparator_view c.now)))
         ≡ Some (side_view s)) }
     ensures err { IfErr result (IsRefusal ErrorKind.BadParam (only_if (names_version (comparator_view c.now)) (Some (side_of c.now.op (comparator_view c.now))) ≡ None)) }
 {
     let version = named(alloc, c)?;
-    match c.op {
-        Op::Greater => Ok(Side::Lower(Bound::Exclusive(version))),
-        Op::GreaterEq => Ok(Side::Lower(Bound::Inclusive(version))),
-        Op::Less => Ok(Side::Upper(Bound::Exclusive(version))),
-        Op::LessEq => Ok(Side::Upper(Bound::Inclusive(version))),
-        Op::Exact | Op::Caret | Op::Tilde | Op::Wildcard => Ok(Side::Neither),
+    Ok(side_by_op(c, version))
+}
+
+/// What is wrong with two comparators that are no lower and upper bound, by their operators.
+fn no_two_sides(first: Op, second: Op) -> &'static str {
+    match (first, second) {
+        (Op::Greater | Op::GreaterEq, Op::Greater | Op::GreaterEq) => "there are two lower bounds",
+        (Op::Less | Op::LessEq, Op::Less | Op::LessEq) => "there are two upper bounds",
+        _ => "`=`, `^`, `~` or a wildcard stands beside another comparator",
     }
 }
 
@@ -218,7 +242,7 @@ fn bounds_of_two(alloc: Global, c: &Comparator, d: &Comparator) -> Result<(Bound
     match (first, second) {
         (Side::Lower(start), Side::Upper(end)) => Ok((start, end)),
         (Side::Upper(end), Side::Lower(start)) => Ok((start, end)),
-        _ => Err(Error::bad_param(alloc, "two comparators that are no lower and upper bound")),
+        _ => Err(Error::bad_param(alloc, no_two_sides(c.op, d.op))),
     }
 }
 
@@ -232,6 +256,6 @@ pub(crate) fn bounds_of(alloc: Global, req: &VersionReq) -> Result<(Bound, Bound
         [] => Ok((Bound::Unbounded, Bound::Unbounded)),
         [only] => bounds_of_one(alloc, only),
         [first, second] => bounds_of_two(alloc, first, second),
-        _ => Err(Error::bad_param(alloc, "more than two comparators")),
+        _ => Err(Error::bad_param(alloc, "there are more than two comparators")),
     }
 }

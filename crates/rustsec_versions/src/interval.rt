@@ -5,7 +5,7 @@ ghost use Rattle.std.specs.Cmp.{on_equiv, on_per, partial_equiv_from_equiv};
 ghost use Rattle.std.specs.Fmt.{DisplaysOnOk};
 ghost use Rattle.semver.specs.Identifiers.{parts_of};
 ghost use Rattle.rustsec_versions.specs.Equality.{endpoint_eq, endpoint_equiv, interval_eq, interval_equiv};
-ghost use Rattle.rustsec_versions.specs.Failure.{IsMemory, IsRefusal};
+ghost use Rattle.rustsec_versions.specs.Failure.{IsMemory, IsOfKind, IsRefusal};
 ghost use Rattle.rustsec_versions.specs.Interval.{holds, is_after, is_before, overlap, reaches};
 ghost use Rattle.rustsec_versions.specs.IntervalText.{end_text, interval_text, start_text};
 ghost use Rattle.rustsec_versions.specs.Precedence.{version_order};
@@ -14,6 +14,7 @@ ghost use Rattle.rustsec_versions.specs.Views.{bound_version_of, comparators_of,
 
 use crate::comparator::bounds_of;
 use crate::error::{Error, ErrorKind, Result};
+use crate::print::refused_requirement;
 use rustsec_values::{ExactClone, ExactEq};
 use semver::{Version, VersionReq};
 use std::alloc::{AllocError, Global};
@@ -170,22 +171,45 @@ impl Model for UnaffectedRange {
     ghost invariant = { λ r. reaches version_order (endpoint_of r.start) (endpoint_of r.end) ≡ true };
 }
 
+/// The interval of a requirement whose bounds have the versions that they want.
+fn admissible_interval(alloc: Global, req: &VersionReq) -> Result<UnaffectedRange>
+    ensures ok { IfOk result (λ r. interval_of (comparators_of req.now) ≡ Some r) }
+    ensures err { IfErr result
+        (IsRefusal ErrorKind.BadParam (interval_of (comparators_of req.now) ≡ None)) }
+{
+    let (start, end) = bounds_of(alloc, req)?;
+    if !is_start(&start) || !is_end(&end) {
+        return Err(no_version_above(alloc));
+    }
+    UnaffectedRange::new(alloc, start, end)
+}
+
+/// The refusal of a bound at a release whose patch number is the greatest one.
+fn no_version_above(alloc: Global) -> Error
+    ensures { IsOfKind ErrorKind.BadParam result }
+{
+    Error::bad_param(
+        alloc,
+        "a bound needs the version above a release whose patch number is 18446744073709551615, the greatest one",
+    )
+}
+
 impl UnaffectedRange {
     /// The interval of a requirement: the versions that it names as not affected.
     ///
     /// # Errors
     ///
-    /// `BadParam` where the requirement is not admissible; else `OutOfMemory`.
+    /// `BadParam` if the requirement is not admissible, with a message that shows its text and says
+    /// what is wrong with it; else `OutOfMemory`.
     pub fn from_req(alloc: Global, req: &VersionReq) -> Result<UnaffectedRange>
         ensures ok { IfOk result (λ r. interval_of (comparators_of req.now) ≡ Some r) }
         ensures err { IfErr result
             (IsRefusal ErrorKind.BadParam (interval_of (comparators_of req.now) ≡ None)) }
     {
-        let (start, end) = bounds_of(alloc, req)?;
-        if !is_start(&start) || !is_end(&end) {
-            return Err(Error::bad_param(alloc, "no version is least above a bound"));
+        match admissible_interval(alloc, req) {
+            Ok(interval) => Ok(interval),
+            Err(e) => Err(refused_requirement(alloc, req, &e)),
         }
-        UnaffectedRange::new(alloc, start, end)
     }
 
     /// The interval between two bounds.
@@ -203,7 +227,7 @@ impl UnaffectedRange {
         if reaches(&start, &end) {
             Ok(UnaffectedRange { start, end })
         } else {
-            Err(Error::bad_param(alloc, "the start of a range is above its end"))
+            Err(Error::bad_param(alloc, "the lower bound is not below the upper one"))
         }
     }
 
@@ -278,7 +302,7 @@ impl Eq for UnaffectedRange {
 }
 
 impl ExactEq for UnaffectedRange {
-    ghost use Rattle.rustsec_versions.specs.Decided.{interval_decides};
+    ghost use Rattle.rustsec_versions.specs.EqualityLaws.{interval_decides};
 
     ghost decides = { interval_decides };
 }

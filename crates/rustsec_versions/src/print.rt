@@ -2,11 +2,13 @@
 
 ghost use Rattle.std.specs.Prelude.{◌≡◌, ◌++◌, IfErr, IfOk, OnOk, string_bytes};
 ghost use Rattle.semver.specs.Identifiers.{comparator_view, marked, pre_text};
-ghost use Rattle.rustsec_versions.specs.Failure.{IsMemory};
+ghost use Rattle.rustsec_versions.specs.Failure.{IsMemory, IsOfKind};
 ghost use Rattle.rustsec_versions.specs.RequirementText.{comparator_text, dotted, op_text, requirement_text, star};
 ghost use Rattle.rustsec_versions.specs.Views.{comparators_of};
 
 use crate::error::{Error, Result};
+use crate::refusal::refused_at;
+use rustsec_values::beginning_of;
 use semver::{Comparator, Op, Prerelease, VersionReq};
 use std::alloc::{AllocError, Global};
 
@@ -91,4 +93,37 @@ pub fn requirement_text(alloc: Global, req: &VersionReq) -> Result<String>
         push_comparator(&mut text, c)?;
     }
     Ok(text)
+}
+
+/// How many bytes of a requirement's text a message shows.
+const SHOWN: usize = 60;
+
+/// The text of a requirement for a message: its first 60 bytes, between back quotes.
+pub(crate) fn quoted(alloc: Global, req: &VersionReq) -> Result<String>
+    ensures { IfErr result IsMemory }
+{
+    let text = requirement_text(alloc, req)?;
+    let shown = beginning_of(text.as_str(), SHOWN);
+    let quoted = format!(in alloc; "`{shown}`")?;
+    Ok(quoted)
+}
+
+/// Where a refusal of a requirement came up.
+fn place_of(alloc: Global, req: &VersionReq) -> Result<String>
+    ensures { IfErr result IsMemory }
+{
+    let quoted = quoted(alloc, req)?;
+    let place = format!(in alloc; "the requirement {quoted}")?;
+    Ok(place)
+}
+
+/// The refusal of a requirement, which its message shows. Out of memory stays as it is.
+pub(crate) fn refused_requirement(alloc: Global, req: &VersionReq, error: &Error) -> Error
+    ensures kind { IsOfKind error.now.kind result }
+    ensures memory { IsMemory error.now → IsMemory result }
+{
+    match place_of(alloc, req) {
+        Ok(place) => refused_at(alloc, place.as_str(), error),
+        Err(refused) => refused,
+    }
 }

@@ -8,14 +8,13 @@ ghost use Rattle.rustsec_versions.specs.Failure.{IsMemory};
 ghost use Rattle.rustsec_versions.specs.Gaps.{HasValidBounds, IsValidBound, cut, gap_before, gaps_from};
 ghost use Rattle.rustsec_versions.specs.Lists.{Lists, affected, intervals};
 ghost use Rattle.rustsec_versions.specs.Precedence.{IsVersion};
-ghost use Rattle.rustsec_versions.specs.Ranges.{AreRanges, Range, SameRequirements, affects, affects_from, affects_till, in_ranges, lower_cut, upper_cut};
+ghost use Rattle.rustsec_versions.specs.Ranges.{AreRanges, HasCuts, Range, SameRequirements, affects, affects_from, affects_till, in_ranges, lower_cut, upper_cut};
 ghost use Rattle.rustsec_versions.specs.Successor.{IsLeastAbove, successor};
 ghost use Rattle.rustsec_versions.specs.Views.{endpoint_of, range_of};
 
 use crate::error::{Error, Result};
 use crate::interval::{Bound, UnaffectedRange};
 use crate::next_version::successor;
-use crate::starts::by_start;
 use crate::versions::Versions;
 use rustsec_values::ExactClone;
 use semver::Version;
@@ -152,7 +151,7 @@ fn add_gap(
 }
 
 /// The gaps between intervals that stand in the order of their starts.
-fn gaps(alloc: Global, sorted: &[&UnaffectedRange]) -> Result<Vec<OsvRange>>
+pub(crate) fn gaps(alloc: Global, sorted: &[&UnaffectedRange]) -> Result<Vec<OsvRange>>
     requires { All (λ x. HasValidBounds x.now) sorted.now }
     ensures ok { IfOk result (λ v. v.items ≡ gaps_from None (map (λ x. cut x.now) sorted.now)) }
     ensures err { IfErr result IsMemory }
@@ -186,6 +185,9 @@ pub fn ranges_for_advisory(alloc: Global, versions: &Versions) -> Result<Vec<Osv
     // A cut of an exclusive start or an inclusive end is the version least above it.
     ensures cuts { (v s : Parts) → successor v ≡ Some s → IsLeastAbove v s }
 
+    // Each interval with a start has a lower cut, and each with an end an upper one.
+    ensures has_cuts { All HasCuts (intervals versions.now) }
+
     // No list is given exactly for one requirement without comparators.
     ensures empty { IfOk result (λ v. (v.items ≡ []) ↔ (versions.now.patched ++ versions.now.unaffected ≡ [] ∷ [])) }
 
@@ -198,6 +200,6 @@ pub fn ranges_for_advisory(alloc: Global, versions: &Versions) -> Result<Vec<Osv
         → AreRanges (intervals ls) rs → rs ≡ v.items) }
     ensures err { IfErr result IsMemory }
 {
-    let sorted = by_start(alloc, versions.ranges())?;
-    gaps(alloc, &sorted)
+    let stored = versions.ranges()?;
+    Ok(stored)
 }

@@ -2,7 +2,7 @@
 
 ghost use Rattle.std.specs.Prelude.{◌≡◌, [], ◌++◌, ◌∷◌, IfErr, IfOk, OnErr, OnOk, map};
 ghost use Rattle.std.specs.Cmp.{partial_equiv_from_equiv};
-ghost use Rattle.rustsec_versions.specs.Decided.{requirements_decides};
+ghost use Rattle.rustsec_versions.specs.EqualityLaws.{requirements_decides};
 ghost use Rattle.rustsec_versions.specs.Equality.{requirements_eq, requirements_equiv};
 ghost use Rattle.rustsec_versions.specs.Failure.{IsMemory};
 ghost use Rattle.rustsec_versions.specs.Views.{comparators_of};

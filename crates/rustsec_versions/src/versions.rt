@@ -1,25 +1,29 @@
 //! The lists of requirements of an advisory, and which versions they leave affected.
 
-ghost use Rattle.std.specs.Prelude.{◌≡◌, ◌++◌, ℕ, [], IfErr, IfOk, List, OnOk, false, filter_map, map, true};
+ghost use Rattle.std.specs.Prelude.{◌≡◌, ◌+◌, ◌-◌, ◌^◌, ◌≤◌, ◌++◌, ℕ, IfErr, IfOk, List, OnOk, false, filter_map, length, map, true};
 ghost use Rattle.std.specs.Cmp.{partial_equiv_from_equiv};
 ghost use Rattle.std.specs.List.{list_any};
 ghost use Rattle.semver.specs.Identifiers.{parts_of};
-ghost use Rattle.semver.specs.Parse.{Held};
-ghost use Rattle.rustsec_versions.specs.Apart.{are_apart, meets_next, neighbours_apart};
-ghost use Rattle.rustsec_versions.specs.Decided.{lists_decides};
+ghost use Rattle.rustsec_versions.specs.Apart.{meets_next, neighbours_apart};
 ghost use Rattle.rustsec_versions.specs.Equality.{lists_eq, lists_equiv};
+ghost use Rattle.rustsec_versions.specs.EqualityLaws.{lists_decides};
 ghost use Rattle.rustsec_versions.specs.Failure.{IsMemory, IsRefusal};
 ghost use Rattle.rustsec_versions.specs.Interval.{holds};
 ghost use Rattle.rustsec_versions.specs.Lists.{Lists, accepted, affected, all_admissible, intervals, no_lists};
-ghost use Rattle.rustsec_versions.specs.Precedence.{version_order, with_build};
-ghost use Rattle.rustsec_versions.specs.Ranges.{SameRequirements};
+ghost use Rattle.rustsec_versions.specs.Precedence.{IsVersion, version_order, with_build};
+ghost use Rattle.rustsec_versions.specs.Ranges.{AreRanges, Range, SameRequirements};
 ghost use Rattle.rustsec_versions.specs.Requirement.{interval_of};
+ghost use Rattle.rustsec_versions.specs.StoredRanges.{AreRangesOf, HasBinaryDigits};
 ghost use Rattle.rustsec_versions.specs.Views.{comparators_of, lists_of};
 
 use crate::error::{Error, ErrorKind, Result};
 use crate::interval::UnaffectedRange;
+use crate::overlaps::overlap_refused;
+use crate::ranges::{OsvRange, gaps};
 use crate::requirements::Requirements;
+use crate::search::in_ranges;
 use crate::starts::by_start;
+use crate::steps::Steps;
 use rustsec_values::{ExactClone, ExactEq};
 use semver::{Version, VersionReq};
 use std::alloc::{AllocError, Global};
@@ -30,19 +34,21 @@ use std::marker::Model;
 pub struct Versions {
     patched: Requirements,
     unaffected: Requirements,
-    ranges: Vec<UnaffectedRange>,
+    intervals: Vec<UnaffectedRange>,
+    ranges: Vec<OsvRange>,
 }
 
 impl Model for Versions {
-    ghost use Rattle.std.specs.Prelude.{◌≡◌, true};
-    ghost use Rattle.rustsec_versions.specs.Lists.{Lists, accepted, intervals};
+    ghost use Rattle.std.specs.Prelude.{◌≡◌};
+    ghost use Rattle.rustsec_versions.specs.Lists.{Lists, intervals};
+    ghost use Rattle.rustsec_versions.specs.StoredRanges.{AreRangesOf};
 
     ghost Value = { Lists };
 
     ghost view = { λ v. record { patched = v.patched; unaffected = v.unaffected } };
 
-    ghost invariant = { λ v. (accepted (record { patched = v.patched; unaffected = v.unaffected }) ≡ true)
-        × (v.ranges.items ≡ intervals (record { patched = v.patched; unaffected = v.unaffected })) };
+    ghost invariant = { λ v. AreRangesOf (record { patched = v.patched; unaffected = v.unaffected }) v.ranges.items
+        × (v.intervals.items ≡ intervals (record { patched = v.patched; unaffected = v.unaffected })) };
 }
 
 /// Appends the interval of each requirement.
@@ -101,14 +107,26 @@ fn neighbours_apart(intervals: &[&UnaffectedRange]) -> bool
     true
 }
 
-/// Whether no interval overlaps another one. Behind the order of starts it is enough to look at
-/// neighbours.
-fn are_apart(alloc: Global, intervals: &[UnaffectedRange]) -> std::result::Result<bool, AllocError>
-    requires { (rs : List (List Held)) × (intervals.now ≡ filter_map interval_of rs) }
-    ensures { IfOk result (λ b. b ≡ are_apart version_order intervals.now) }
+/// The ranges between the intervals of the requirements. Behind the order of starts it is enough to
+/// look at neighbours for overlaps.
+fn ranges_between(
+    alloc: Global,
+    patched: &Requirements,
+    unaffected: &Requirements,
+    intervals: &[UnaffectedRange],
+) -> Result<Vec<OsvRange>>
+    requires admissible { all_admissible (patched.now ++ unaffected.now) ≡ true }
+    requires intervals { intervals.now ≡ filter_map interval_of (patched.now ++ unaffected.now) }
+    ensures ok { IfOk result (λ v. AreRangesOf (record { patched = patched.now; unaffected = unaffected.now }) v.items) }
+    ensures err { IfErr result (IsRefusal ErrorKind.BadParam
+        (accepted (record { patched = patched.now; unaffected = unaffected.now }) ≡ false)) }
 {
     let sorted = by_start(alloc, intervals)?;
-    Ok(neighbours_apart(&sorted))
+    let in_order: &[&UnaffectedRange] = &sorted;
+    if !neighbours_apart(in_order) {
+        return Err(overlap_refused(alloc, patched, unaffected, intervals, in_order));
+    }
+    gaps(alloc, in_order)
 }
 
 /// Whether some interval holds a version.
@@ -118,12 +136,21 @@ fn any_holds(intervals: &[UnaffectedRange], version: &Version) -> bool
     intervals.iter().any(|interval| interval.holds(version))
 }
 
+#[tactic(auto, using(crate::proofs::Parsed::release_valid))]
+/// Whether a version has no pre-release. It is valid then.
+fn is_release(version: &Version) -> bool
+    ensures { result ≡ true → IsVersion (parts_of version.now) }
+{
+    version.pre.is_empty()
+}
+
 impl Versions {
     /// The lists, where each requirement is admissible and no two clash.
     ///
     /// # Errors
     ///
-    /// `BadParam` where a requirement is not admissible or two clash; else `OutOfMemory`.
+    /// `BadParam` if a requirement is not admissible or two clash, with a message that shows the
+    /// requirement or the two; else `OutOfMemory`.
     pub fn new(
         alloc: Global,
         patched: Vec<VersionReq>,
@@ -139,14 +166,12 @@ impl Versions {
     {
         let patched = Requirements::from(patched);
         let unaffected = Requirements::from(unaffected);
-        let ranges = intervals_of(alloc, &patched, &unaffected)?;
-        let apart = are_apart(alloc, &ranges)?;
-        if !apart {
-            return Err(Error::bad_param(alloc, "two requirements overlap"));
-        }
+        let intervals = intervals_of(alloc, &patched, &unaffected)?;
+        let ranges = ranges_between(alloc, &patched, &unaffected, &intervals)?;
         Ok(Versions {
             patched,
             unaffected,
+            intervals,
             ranges,
         })
     }
@@ -178,7 +203,8 @@ impl Versions {
     }
 
     /// Whether a version is affected: whether no requirement's interval holds it, in precedence
-    /// (SemVer 2.0.0, section 11).
+    /// (SemVer 2.0.0, section 11). The ranges answer for a version without a pre-release. One with a
+    /// pre-release may be made by hand and not be valid, so the intervals answer for it.
     pub fn is_vulnerable(&self, version: &Version) -> bool
         ensures answer { result ≡ affected self.now (parts_of version.now) }
 
@@ -186,15 +212,32 @@ impl Versions {
         ensures build { (b : List ℕ) → affected self.now (with_build b (parts_of version.now)) ≡ result }
         ensures accepted { accepted self.now ≡ true }
     {
-        !any_holds(&self.ranges, version)
+        if is_release(version) {
+            let mut steps = Steps::new();
+            return self.is_vulnerable_counted(version, &mut steps);
+        }
+        !any_holds(&self.intervals, version)
     }
 
-    /// The intervals of the requirements, in order.
-    pub(crate) fn ranges(&self) -> &[UnaffectedRange]
-        ensures value { result.now ≡ intervals self.now }
+    /// Whether a valid version is affected, by a search among the ranges that halves them. It counts
+    /// the comparisons of versions: at most one more than the number of ranges has binary digits.
+    pub fn is_vulnerable_counted(&self, version: &Version, steps: &mut Steps) -> bool
+        ensures answer { IsVersion (parts_of version.now) → result ≡ affected self.now (parts_of version.now) }
+        ensures build { IsVersion (parts_of version.now) → (b : List ℕ) → affected self.now (with_build b (parts_of version.now)) ≡ result }
         ensures accepted { accepted self.now ≡ true }
+        ensures count { (rs : List Range) (digits : ℕ) → AreRanges (intervals self.now) rs → HasBinaryDigits (length rs) digits
+            → steps.new ≤ steps.old + digits + 1 }
+        ensures rises { steps.old ≤ steps.new }
+        ensures stays { steps.old ≡ 2 ^ 64 - 1 → steps.new ≡ 2 ^ 64 - 1 }
     {
-        &self.ranges
+        in_ranges(&self.ranges, version, steps)
+    }
+
+    /// A copy of the ranges that the requirements leave.
+    pub(crate) fn ranges(&self) -> std::result::Result<Vec<OsvRange>, AllocError>
+        ensures { IfOk result (λ v. AreRangesOf self.now v.items) }
+    {
+        copied(&self.ranges)
     }
 
     /// An equal value.
@@ -212,10 +255,20 @@ impl Versions {
 }
 
 /// A copy of a list of intervals.
-fn copied(intervals: &Vec<UnaffectedRange>) -> std::result::Result<Vec<UnaffectedRange>, AllocError>
+fn copied_intervals(
+    intervals: &Vec<UnaffectedRange>,
+) -> std::result::Result<Vec<UnaffectedRange>, AllocError>
     ensures { IfOk result (λ v. v.items ≡ intervals.now.items) }
 {
     let copy = intervals.clone()?;
+    Ok(copy)
+}
+
+/// A copy of a list of ranges.
+fn copied(ranges: &Vec<OsvRange>) -> std::result::Result<Vec<OsvRange>, AllocError>
+    ensures { IfOk result (λ v. v.items ≡ ranges.now.items) }
+{
+    let copy = ranges.clone()?;
     Ok(copy)
 }
 
@@ -225,10 +278,12 @@ impl Clone for Versions {
     fn clone(&self) -> std::result::Result<Versions, AllocError> {
         let patched = Clone::clone(&self.patched)?;
         let unaffected = Clone::clone(&self.unaffected)?;
+        let intervals = copied_intervals(&self.intervals)?;
         let ranges = copied(&self.ranges)?;
         Ok(Versions {
             patched,
             unaffected,
+            intervals,
             ranges,
         })
     }
