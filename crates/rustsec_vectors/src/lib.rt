@@ -20,6 +20,8 @@ mod cvss;
 #[cfg(test)]
 mod dates;
 #[cfg(test)]
+mod fixes;
+#[cfg(test)]
 mod fixtures;
 #[cfg(test)]
 mod function_paths;
@@ -31,6 +33,8 @@ mod intervals;
 mod lint;
 #[cfg(test)]
 mod lockfiles;
+#[cfg(test)]
+mod lookups;
 #[cfg(test)]
 mod packages;
 #[cfg(test)]

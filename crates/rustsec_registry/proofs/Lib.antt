@@ -1,0 +1,5 @@
+pub mod Entries
+pub mod Growth
+pub mod Listing
+pub mod Sorting
+pub mod Walk

@@ -1,0 +1,58 @@
+-- Packages that were sorted and of which neighbours were compared are the distinct ones, in order.
+use Rattle.std.proofs.Common.{◌≡◌, ◌∙◌, Bool, true, false, cond, List, [], ◌∷◌, Ordering, Less, map, refl, sym, ap, IsPermutation}
+use Rattle.std.specs.Prelude.{Contains}
+use Rattle.std.specs.Borrow.{Bor}
+use Rattle.std.specs.Cmp.{on_total}
+use Rattle.std.specs.List.{AllByRecursion, dedup, dedup_from}
+use Rattle.std.specs.List.Retain.{DiffersFromLast, IsFiltered}
+use Rattle.std.specs.List.Sorted.{IsSorted, IsStrictlySortedBy}
+use Rattle.std.proofs.lemmas.List.Filters.{dedup_is}
+use Rattle.std.proofs.lemmas.List.Kept.{Contains-dedup, Contains-from_dedup, IsStrictlySortedBy-dedup}
+use Rattle.std.proofs.lemmas.List.Sorted.{Contains-permutation, IsPermutation-map, IsPermutation-sym}
+use Rattle.rustsec_lock.specs.Package.{PackageValue, package_cmp, package_decides, package_eq, package_equiv, package_ties, package_total}
+use Rattle.rustsec_registry.specs.Packages.{AreDistinct}
+
+module _ {A B : Type 0} (f : A → B) where
+  all-map : (P : B → Type 0) (xs : List A) → AllByRecursion (λ x. P (f x)) xs → AllByRecursion P (map f xs)
+  all-map P [] h = tt
+  all-map P (x ∷ xs) h = (h.0, all-map P xs h.1)
+
+  -- what rises by what is read of each element, read
+  rise-map : (R : B → B → Ordering) (xs : List A) → IsStrictlySortedBy (λ x y. R (f x) (f y)) xs → IsStrictlySortedBy R (map f xs)
+  unfolding IsStrictlySortedBy
+  rise-map R [] h = tt
+  rise-map R (x ∷ xs) h = (all-map (λ y. R (f x) y ≡ Less) xs h.0, rise-map R xs h.1)
+
+  either-map : (b : Bool) (us vs : List A) → map f (cond b us vs) ≡ cond b (map f us) (map f vs)
+  either-map true us vs = refl
+  either-map false us vs = refl
+
+  dedup_from-map : (E : B → B → Bool) (k : A) (xs : List A) → map f (dedup_from (λ x y. E (f x) (f y)) k xs) ≡ dedup_from E (f k) (map f xs)
+  dedup_from-map E k [] = refl
+  dedup_from-map E k (x ∷ xs) =
+      either-map (E (f x) (f k)) _ _ ∙ rw (dedup_from-map E k xs, dedup_from-map E x xs) refl
+
+  dedup-map : (E : B → B → Bool) (xs : List A) → map f (dedup (λ x y. E (f x) (f y)) xs) ≡ dedup E (map f xs)
+  dedup-map E [] = refl
+  dedup-map E (x ∷ xs) = dedup_from-map E x xs
+
+-- the package that a reference refers to
+abbrev read : Bor PackageValue → PackageValue
+read x = x.now
+
+pub are-distinct : (packages : List PackageValue) (refs sorted left : List (Bor PackageValue)) → map (λ x. x.now) refs ≡ packages
+    → IsPermutation refs sorted → IsSorted (λ (x y : Bor PackageValue). package_cmp x.now y.now) sorted
+    → IsFiltered (DiffersFromLast (λ (x y : Bor PackageValue). package_eq x.now y.now)) [] sorted left
+    → AreDistinct packages (map (λ x. x.now) left)
+are-distinct packages refs sorted left are perm up kept =
+    let is : left ≡ dedup (λ (x y : Bor PackageValue). package_eq x.now y.now) sorted = dedup_is _ sorted left kept in
+    let rising = IsStrictlySortedBy-dedup (on_total read package_total) (λ x y. package_ties x.now y.now) sorted up in
+    let values : map read left ≡ dedup package_eq (map read sorted) = ap (map read) is ∙ dedup-map read package_eq sorted in
+    let shuffled : IsPermutation packages (map read sorted) = rw (sym are) (IsPermutation-map read refs sorted perm) in
+    record {
+      rise = rw is (rise-map read package_cmp _ rising);
+      same = λ p. (
+        λ h. Contains-permutation _ _ p (IsPermutation-sym _ _ shuffled) (Contains-from_dedup package_eq (map read sorted) p (rw values at h)),
+        λ h. rw values (Contains-dedup package_equiv (λ x y. (package_decides x y).0) (map read sorted) p (Contains-permutation _ _ p shuffled h)),
+      );
+    }

@@ -1,0 +1,98 @@
+//! A look-up with the answers that it gave.
+
+ghost use Rattle.std.specs.Prelude.{◌≡◌, [], IfErr, IfOk, List, OnOk, map};
+ghost use Rattle.rustsec_versions.specs.Failure.{IsMemory};
+ghost use Rattle.rustsec_lock.specs.Package.{PackageValue};
+ghost use Rattle.rustsec_registry.specs.Lookups.{AreAnswers};
+ghost use Rattle.rustsec_registry.specs.Packages.{AreDistinct};
+ghost use Rattle.rustsec_registry.specs.Yanked.{AreKept, Grows, seen, yanked_answers};
+
+use crate::distinct::distinct;
+use crate::kept::{Kept, ask_all};
+use crate::lookup::Lookup;
+use crate::verdict::verdicts;
+use rustsec_lock::package::{Name, Package};
+use rustsec_values::SortedMap;
+use rustsec_versions::{Error, Result};
+use std::alloc::Global;
+use std::marker::Model;
+
+/// A look-up with the answers that it gave, of which each name has one at most. The first is kept for good.
+#[derive(Drop)]
+pub struct CachedIndex<I: Lookup> {
+    index: I,
+    kept: SortedMap<Name, Kept>,
+}
+
+impl<I: Lookup> Model for CachedIndex<I> {
+    ghost use Rattle.rustsec_registry.specs.Lookups.{AreAnswers, Cached};
+
+    ghost Value = { Cached I };
+
+    ghost view = { λ c. record { index = c.index; kept = c.kept } };
+
+    ghost invariant = { λ c. AreAnswers (I.answers c.index) c.kept };
+}
+
+/// The same over a look-up and the answers that are kept of it.
+fn find<'a, I: Lookup>(
+    alloc: Global,
+    index: &I,
+    kept: &mut SortedMap<Name, Kept>,
+    packages: &'a [Package],
+) -> Result<Vec<std::result::Result<&'a Package, Error>>>
+    ensures ok { IfOk result (λ v. (distinct : List PackageValue) × AreDistinct packages.now distinct
+        × (map seen v.items ≡ yanked_answers kept.new distinct)) }
+    ensures asked { OnOk result (AreKept packages.now kept.new) }
+    ensures grown { Grows packages.now kept.old kept.new }
+    ensures given { AreAnswers (I.answers index.now) kept.old → AreAnswers (I.answers index.now) kept.new }
+    ensures err { IfErr result IsMemory }
+{
+    let distinct = distinct(alloc, packages)?;
+    ask_all(alloc, index, kept, &distinct)?;
+    verdicts(alloc, kept, &distinct)
+}
+
+impl<I: Lookup> CachedIndex<I> {
+    /// A look-up that was not asked yet.
+    pub fn new(alloc: Global, index: I) -> CachedIndex<I>
+        ensures index { result.index ≡ index }
+        ensures none { result.kept ≡ [] }
+    {
+        CachedIndex {
+            index,
+            kept: SortedMap::new(alloc),
+        }
+    }
+
+    /// Which of some packages are yanked: for each distinct package, in their order, the package itself
+    /// where it is yanked, nothing where it is not, `NotFound` where the registry has no such name or
+    /// version, and the look-up's failure where that is what it answered. Of a version that is listed
+    /// twice the last entry counts.
+    ///
+    /// Each name is asked about once, and its answer is kept for good.
+    ///
+    /// # Errors
+    ///
+    /// `OutOfMemory` alone, also where the look-up answers that. The answers that are kept stay, and
+    /// those that came before the refusal stay with them.
+    pub fn find_yanked<'a>(
+        &mut self,
+        alloc: Global,
+        packages: &'a [Package],
+    ) -> Result<Vec<std::result::Result<&'a Package, Error>>>
+        ensures ok { IfOk result (λ v. (distinct : List PackageValue) × AreDistinct packages.now distinct
+            × (map seen v.items ≡ yanked_answers self.new.kept distinct)) }
+        ensures asked { OnOk result (AreKept packages.now self.new.kept) }
+
+        // Also where the call is refused, no kept answer is changed, and a new one is of a name of the packages.
+        ensures grown { Grows packages.now self.old.kept self.new.kept }
+
+        // Each kept answer is one that the look-up may give about its name.
+        ensures given { AreAnswers (I.answers self.new.index) self.new.kept }
+        ensures index { self.new.index ≡ self.old.index }
+        ensures err { IfErr result IsMemory }
+    {
+        find(alloc, &self.index, &mut self.kept, packages)
+    }
+}

@@ -1,0 +1,27 @@
+//! The distinct ones of some packages.
+
+ghost use Rattle.std.specs.Prelude.{◌≡◌, IfOk, map};
+ghost use Rattle.rustsec_registry.specs.Packages.{AreDistinct};
+
+use rustsec_lock::package::Package;
+use std::alloc::{AllocError, Global};
+
+/// References to packages.
+fn references(alloc: Global, packages: &[Package]) -> std::result::Result<Vec<&Package>, AllocError>
+    ensures { IfOk result (λ v. map (λ p. p.now) v.items ≡ packages.now) }
+{
+    packages.iter().collect(alloc)
+}
+
+/// References to the distinct ones of some packages, in their order.
+pub(crate) fn distinct(
+    alloc: Global,
+    packages: &[Package],
+) -> std::result::Result<Vec<&Package>, AllocError>
+    ensures { IfOk result (λ v. AreDistinct packages.now (map (λ p. p.now) v.items)) }
+{
+    let mut sorted = references(alloc, packages)?;
+    sorted.sort()?;
+    sorted.dedup();
+    Ok(sorted)
+}

@@ -1,0 +1,121 @@
+//! What is kept of a registry's answers.
+
+ghost use Rattle.std.specs.Prelude.{◌≡◌, ◌∷◌, [], if◌then◌else◌, ℕ, List, IfErr, IfOk, IsSome, OnErr, OnOk, Some, is_some, map, nat_eq};
+ghost use Rattle.std.specs.Cmp.Lexicographic.{pointwise};
+ghost use Rattle.std.specs.Option.{option_copied};
+ghost use Rattle.rustsec_versions.specs.Failure.{IsMemory};
+ghost use Rattle.rustsec_registry.specs.Lookups.{AreAnswers, IsKeptOf, at, listed};
+ghost use Rattle.rustsec_registry.specs.Yanked.{AreKept, Grows};
+
+use crate::lookup::{IndexVersion, Lookup};
+use rustsec_lock::package::{Name, Package};
+use rustsec_values::{Items, SortedMap, Text};
+use rustsec_versions::{Error, ErrorKind, Result};
+use std::alloc::{AllocError, Global};
+
+/// What is kept of an answer: which of the listed versions are yanked.
+pub(crate) type Kept = Result<Option<SortedMap<Text, bool>>>;
+
+/// The versions of a list, by their texts. Of a version that is listed twice the last entry counts.
+fn by_text(
+    alloc: Global,
+    versions: Items<IndexVersion>,
+) -> std::result::Result<SortedMap<Text, bool>, AllocError>
+    ensures { IfOk result (λ m. (text : List ℕ) → at text m ≡ listed text versions) }
+{
+    let mut entries = SortedMap::new(alloc);
+    for entry in Vec::from(versions) {
+        let IndexVersion { version, yanked } = entry;
+        entries.insert(version, yanked)?;
+    }
+    Ok(entries)
+}
+
+/// What is kept of an answer.
+fn kept_of(alloc: Global, answer: Result<Option<Items<IndexVersion>>>) -> Result<Kept>
+    ensures ok { IfOk result (IsKeptOf answer) }
+    ensures err { IfErr result IsMemory }
+{
+    match answer {
+        Ok(Some(versions)) => {
+            let entries = by_text(alloc, versions)?;
+            Ok(Ok(Some(entries)))
+        }
+        Ok(None) => Ok(Ok(None)),
+        Err(e) => {
+            if e.kind() == ErrorKind::OutOfMemory {
+                return Err(Error::from(AllocError));
+            }
+            Ok(Err(e))
+        }
+    }
+}
+
+/// What is kept at a name.
+pub(crate) fn at_name<'a>(kept: &'a SortedMap<Name, Kept>, name: &Name) -> Option<&'a Kept>
+    ensures { option_copied result ≡ at name.now kept.now }
+{
+    kept.get(name)
+}
+
+/// Whether an answer is kept at a name.
+fn is_kept(kept: &SortedMap<Name, Kept>, name: &Name) -> bool
+    ensures { result ≡ is_some (at name.now kept.now) }
+{
+    match at_name(kept, name) {
+        Some(_) => true,
+        None => false,
+    }
+}
+
+/// Keeps an answer at a name, or changes nothing.
+fn keep(
+    kept: &mut SortedMap<Name, Kept>,
+    name: Name,
+    answer: Kept,
+) -> std::result::Result<(), AllocError>
+    ensures ok { OnOk result ((q : List ℕ) → at q kept.new ≡ (if pointwise nat_eq q name then Some answer else at q kept.old)) }
+    ensures err { OnErr result (kept.new ≡ kept.old) }
+{
+    kept.insert(name, answer)
+}
+
+/// Asks about a package's name, unless an answer is kept already.
+fn ask<I: Lookup>(
+    alloc: Global,
+    index: &I,
+    kept: &mut SortedMap<Name, Kept>,
+    package: &Package,
+) -> Result<()>
+    ensures grown { Grows («package».now ∷ []) kept.old kept.new }
+    ensures asked { OnOk result (IsSome (at «package».now.name kept.new)) }
+    ensures given { AreAnswers (I.answers index.now) kept.old → AreAnswers (I.answers index.now) kept.new }
+    ensures err { IfErr result IsMemory }
+{
+    if is_kept(kept, &package.name) {
+        return Ok(());
+    }
+    let answer = kept_of(alloc, index.krate(alloc, &package.name))?;
+    let name = package.name.clone(alloc)?;
+    keep(kept, name, answer)?;
+    Ok(())
+}
+
+/// Asks once about each name of some packages of which no answer is kept. A refusal leaves the answers
+/// that were kept, and those that came before it.
+pub(crate) fn ask_all<I: Lookup>(
+    alloc: Global,
+    index: &I,
+    kept: &mut SortedMap<Name, Kept>,
+    packages: &[&Package],
+) -> Result<()>
+    ensures grown { Grows (map (λ p. p.now) packages.now) kept.old kept.new }
+    ensures asked { OnOk result (AreKept (map (λ p. p.now) packages.now) kept.new) }
+    ensures given { AreAnswers (I.answers index.now) kept.old → AreAnswers (I.answers index.now) kept.new }
+    ensures err { IfErr result IsMemory }
+{
+    for package in packages {
+        ask(alloc, index, kept, package)?;
+    }
+    Ok(())
+}

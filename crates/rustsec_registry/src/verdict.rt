@@ -1,0 +1,137 @@
+//! What the kept answers say of packages.
+
+ghost use Rattle.std.specs.Prelude.{◌≡◌, IfErr, IfOk, Some, map, option_map};
+ghost use Rattle.rustsec_versions.specs.Failure.{IsMemory};
+ghost use Rattle.rustsec_registry.specs.Lookups.{at};
+ghost use Rattle.rustsec_registry.specs.Yanked.{by_name, by_version, missing_name, missing_version, not_found, seen, yanked_answers};
+ghost use Rattle.semver.specs.Identifiers.{parts_text};
+
+use crate::kept::{Kept, at_name};
+use rustsec_lock::package::{Name, Package};
+use rustsec_values::{Items, SortedMap, Text};
+use rustsec_versions::{Error, ErrorKind, Result};
+use std::alloc::Global;
+
+/// What is answered about one package, where it is not passed over: itself, or why it is not known.
+type Verdict<'a> = std::result::Result<&'a Package, Error>;
+
+/// What stands at a text.
+fn at_text(entries: &SortedMap<Text, bool>, text: &Text) -> Option<bool>
+    ensures { result ≡ at text.now entries.now }
+{
+    entries.get(text).copied()
+}
+
+/// A refusal of kind `NotFound` with this message.
+fn not_found(alloc: Global, message: &str) -> Result<Error>
+    ensures ok { IfOk result (λ e. e ≡ not_found message.now) }
+    ensures err { IfErr result IsMemory }
+{
+    let error = Error::new(alloc, ErrorKind::NotFound, message);
+    if error.kind() == ErrorKind::OutOfMemory {
+        return Err(error);
+    }
+    Ok(error)
+}
+
+/// That a package's name is not there.
+fn missing_name(alloc: Global, package: &Package) -> Result<Error>
+    ensures ok { IfOk result (λ e. e ≡ not_found (missing_name «package».now)) }
+    ensures err { IfErr result IsMemory }
+{
+    let message = format!(in alloc; "no such package in the registry: {}", package.name)?;
+    not_found(alloc, message.as_str())
+}
+
+/// That a package's version is not there.
+fn missing_version(alloc: Global, package: &Package) -> Result<Error>
+    ensures ok { IfOk result (λ e. e ≡ not_found (missing_version «package».now)) }
+    ensures err { IfErr result IsMemory }
+{
+    let message = format!(in alloc;
+        "no such version in the registry: {} {}",
+        package.name, package.version
+    )?;
+    not_found(alloc, message.as_str())
+}
+
+/// Whether the list of a name says that a package's version is yanked, or nothing of it. The version is
+/// looked up by its printed text.
+fn listed(alloc: Global, entries: &SortedMap<Text, bool>, package: &Package) -> Result<Option<bool>>
+    ensures ok { IfOk result (λ yanked. yanked ≡ at (parts_text «package».now.version) entries.now) }
+    ensures err { IfErr result IsMemory }
+{
+    let text = Text::from(package.version.to_string(alloc)?);
+    Ok(at_text(entries, &text))
+}
+
+/// What the list of a name says of a package.
+fn by_version<'a>(
+    alloc: Global,
+    entries: &SortedMap<Text, bool>,
+    package: &'a Package,
+) -> Result<Option<Verdict<'a>>>
+    ensures ok { IfOk result (λ v. option_map seen v ≡ by_version «package».now (at (parts_text «package».now.version) entries.now)) }
+    ensures err { IfErr result IsMemory }
+{
+    match listed(alloc, entries, package)? {
+        Some(true) => Ok(Some(Ok(package))),
+        Some(false) => Ok(None),
+        None => {
+            let missing = missing_version(alloc, package)?;
+            Ok(Some(Err(missing)))
+        }
+    }
+}
+
+/// What is kept at a package's name says of it.
+fn by_name<'a>(
+    alloc: Global,
+    kept: Option<&Kept>,
+    package: &'a Package,
+) -> Result<Option<Verdict<'a>>>
+    ensures ok { IfOk result (λ v. option_map seen v ≡ by_name «package».now (option_map (λ k. k.now) kept.entry)) }
+    ensures err { IfErr result IsMemory }
+{
+    match kept {
+        Some(Ok(Some(entries))) => by_version(alloc, entries, package),
+        Some(Err(e)) => {
+            let e = e.clone(alloc)?;
+            Ok(Some(Err(e)))
+        }
+        Some(Ok(None)) | None => {
+            let missing = missing_name(alloc, package)?;
+            Ok(Some(Err(missing)))
+        }
+    }
+}
+
+/// What the kept answers say of a package.
+fn verdict<'a>(
+    alloc: Global,
+    kept: &SortedMap<Name, Kept>,
+    package: &'a Package,
+) -> Result<Option<Verdict<'a>>>
+    ensures ok { IfOk result (λ v. option_map seen v ≡ by_name «package».now (at «package».now.name kept.now)) }
+    ensures err { IfErr result IsMemory }
+{
+    by_name(alloc, at_name(kept, &package.name), package)
+}
+
+/// What the kept answers say of each package, in order.
+pub(crate) fn verdicts<'a>(
+    alloc: Global,
+    kept: &SortedMap<Name, Kept>,
+    packages: &[&'a Package],
+) -> Result<Vec<Verdict<'a>>>
+    ensures ok { IfOk result (λ v. map seen v.items ≡ yanked_answers kept.now (map (λ p. p.now) packages.now)) }
+    ensures err { IfErr result IsMemory }
+{
+    let mut answers = Items::new(alloc);
+    for &package in packages {
+        if let Some(answer) = verdict(alloc, kept, package)? {
+            answers.push(answer)?;
+        }
+    }
+    Ok(Vec::from(answers))
+}

@@ -1,0 +1,292 @@
+// Yanked packages by look-ups of the tests, and signatures.
+
+use crate::fixtures::version;
+use rustsec_lock::package::{Name, Package};
+use rustsec_registry::{CachedIndex, IndexVersion, Lookup, Signature};
+use rustsec_values::{Items, Text};
+use rustsec_versions::{Error, ErrorKind};
+use std::alloc::Global;
+use std::cell::Cell;
+use std::process::Abort;
+use std::rt::Files;
+use std::test::Fail;
+
+/// What a registry answers about a name: the versions that it lists, each with whether it is yanked, or a
+/// failure.
+enum Said<'a> {
+    Lists(&'a [(&'a str, bool)]),
+    Fails(ErrorKind),
+}
+
+/// What a registry says of some names. It has no others.
+type Rows<'a> = &'a [(&'a str, Said<'a>)];
+
+/// A registry that says one thing when it is first asked, and another from then on.
+#[derive(Drop)]
+struct Changing<'a> {
+    first: Rows<'a>,
+    then: Rows<'a>,
+    asked: Cell<u32>,
+}
+
+/// The versions of a list.
+fn listed(alloc: Global, rows: &[(&str, bool)]) -> rustsec_versions::Result<Items<IndexVersion>> {
+    let mut versions = Items::new(alloc);
+    for (text, yanked) in rows {
+        let version = Text::from_str(alloc, text)?;
+        versions.push(IndexVersion {
+            version,
+            yanked: *yanked,
+        })?;
+    }
+    Ok(versions)
+}
+
+/// What stands at a name.
+fn said_of<'a>(rows: Rows<'a>, name: &str) -> Option<&'a Said<'a>> {
+    for (row, said) in rows {
+        if *row == name {
+            return Some(said);
+        }
+    }
+    None
+}
+
+/// An answer, made anew.
+fn answer(
+    alloc: Global,
+    said: Option<&Said<'_>>,
+) -> rustsec_versions::Result<Option<Items<IndexVersion>>> {
+    match said {
+        Some(Said::Lists(rows)) => {
+            let versions = listed(alloc, rows)?;
+            Ok(Some(versions))
+        }
+        Some(Said::Fails(kind)) => Err(Error::new(alloc, *kind, "the registry fails")),
+        None => Ok(None),
+    }
+}
+
+impl<'a> Lookup for Changing<'a> {
+    ghost use Rattle.std.specs.Prelude.{⊤};
+
+    ghost answers = { λ _ _ _. ⊤ };
+
+    fn krate(
+        &self,
+        alloc: Global,
+        name: &Name,
+    ) -> rustsec_versions::Result<Option<Items<IndexVersion>>> {
+        let asked = self.asked.get();
+        self.asked.set(asked.saturating_add(1));
+        let rows = if asked == 0 { self.first } else { self.then };
+        answer(alloc, said_of(rows, name.as_str()))
+    }
+}
+
+/// A cache over a registry that says one thing when it is first asked, and another from then on.
+fn asked_anew<'a>(alloc: Global, first: Rows<'a>, then: Rows<'a>) -> CachedIndex<Changing<'a>> {
+    CachedIndex::new(
+        alloc,
+        Changing {
+            first,
+            then,
+            asked: Cell::new(0),
+        },
+    )
+}
+
+/// What is wanted at one place of the answers: a package of this name and major version, or a kind.
+enum Want<'a> {
+    Yanked(&'a str, u64),
+    Refused(ErrorKind),
+}
+
+/// Whether an answer is the wanted one.
+fn is(answer: &std::result::Result<&Package, Error>, want: &Want<'_>) -> bool {
+    match (answer, want) {
+        (Ok(package), Want::Yanked(name, major)) => {
+            package.name.as_str() == *name && package.version.major == *major
+        }
+        (Err(e), Want::Refused(kind)) => e.kind() == *kind,
+        _ => false,
+    }
+}
+
+/// Whether the answers are the wanted ones, in order.
+fn are(answers: &[std::result::Result<&Package, Error>], wants: &[Want<'_>]) -> bool {
+    for (i, answer) in answers.iter().enumerate() {
+        match wants.get(i) {
+            Some(want) if is(answer, want) => {}
+            _ => return false,
+        }
+    }
+    answers.len() == wants.len()
+}
+
+/// A package without a source.
+fn package(alloc: Global, name: &str, text: &str) -> Result<Package, Fail> {
+    let name = Name::from_str(alloc, name)?;
+    let version = version(alloc, text)?;
+    Ok(Package {
+        name,
+        version,
+        source: None,
+        checksum: None,
+    })
+}
+
+/// Packages of names and versions.
+fn packages(alloc: Global, rows: &[(&str, &str)]) -> Result<Vec<Package>, Fail> {
+    let mut packages = Vec::new(alloc);
+    for (name, text) in rows {
+        packages.push(package(alloc, name, text)?)?;
+    }
+    Ok(packages)
+}
+
+/// Whether a cache answers over packages as it is wanted, or refuses with the wanted kind.
+fn finds(
+    alloc: Global,
+    index: &mut CachedIndex<Changing<'_>>,
+    packages: &[Package],
+    want: &std::result::Result<&[Want<'_>], ErrorKind>,
+) -> bool {
+    match (index.find_yanked(alloc, packages), want) {
+        (Ok(answers), Ok(wants)) => are(&answers, wants),
+        (Err(e), Err(kind)) => e.kind() == *kind,
+        _ => false,
+    }
+}
+
+/// Packages, what the registry says of their names at first and later, and what is wanted of the calls one
+/// after another.
+#[derive(Drop)]
+struct Row<'a> {
+    packages: &'a [(&'a str, &'a str)],
+    first: Rows<'a>,
+    then: Rows<'a>,
+    wants: &'a [std::result::Result<&'a [Want<'a>], ErrorKind>],
+}
+
+/// Whether each call answers as it is wanted.
+fn answers_as_wanted(alloc: Global, row: &Row<'_>) -> Result<bool, Fail> {
+    let packages = packages(alloc, row.packages)?;
+    let mut index = asked_anew(alloc, row.first, row.then);
+    for want in row.wants {
+        if !finds(alloc, &mut index, &packages, want) {
+            return Ok(false);
+        }
+    }
+    Ok(true)
+}
+
+/// Checks a row.
+fn expect<T: Files + AllocGlobal + Abort>(rt: &T, row: &Row<'_>) -> Result<(), Fail> {
+    assert!(rt; answers_as_wanted(rt.alloc(), row)?);
+    Ok(())
+}
+
+#[test]
+fn yanked(rt: HostRuntime) -> Result<(), Fail> {
+    let rows: Rows<'_> = &[("a", Said::Lists(&[("1.0.0", true), ("2.0.0", false)]))];
+    expect(
+        &rt,
+        &Row {
+            packages: &[
+                ("b", "1.0.0"),
+                ("a", "2.0.0"),
+                ("a", "1.0.0"),
+                ("a", "1.0.0"),
+            ],
+            first: rows,
+            then: rows,
+            wants: &[Ok(&[Want::Yanked("a", 1), Want::Refused(ErrorKind::NotFound)])],
+        },
+    )
+}
+
+#[test]
+fn changing_look_up(rt: HostRuntime) -> Result<(), Fail> {
+    expect(
+        &rt,
+        &Row {
+            packages: &[("a", "1.0.0"), ("a", "2.0.0")],
+            first: &[("a", Said::Lists(&[("1.0.0", true), ("2.0.0", false)]))],
+            then: &[("a", Said::Lists(&[("1.0.0", false), ("2.0.0", true)]))],
+            wants: &[Ok(&[Want::Yanked("a", 1)]), Ok(&[Want::Yanked("a", 1)])],
+        },
+    )
+}
+
+#[test]
+fn look_up_doubles(rt: HostRuntime) -> Result<(), Fail> {
+    let doubled: Rows<'_> = &[("a", Said::Lists(&[("1.0.0", false), ("1.0.0", true)]))];
+    expect(
+        &rt,
+        &Row {
+            packages: &[("a", "1.0.0"), ("a", "1.0.0+b")],
+            first: doubled,
+            then: doubled,
+            wants: &[Ok(&[Want::Yanked("a", 1), Want::Refused(ErrorKind::NotFound)])],
+        },
+    )
+}
+
+#[test]
+fn look_up_that_fails(rt: HostRuntime) -> Result<(), Fail> {
+    expect(
+        &rt,
+        &Row {
+            packages: &[("a", "1.0.0"), ("a", "2.0.0")],
+            first: &[("a", Said::Fails(ErrorKind::Registry))],
+            then: &[("a", Said::Lists(&[("1.0.0", true), ("2.0.0", true)]))],
+            wants: &[
+                Ok(&[
+                    Want::Refused(ErrorKind::Registry),
+                    Want::Refused(ErrorKind::Registry),
+                ]),
+                Ok(&[
+                    Want::Refused(ErrorKind::Registry),
+                    Want::Refused(ErrorKind::Registry),
+                ]),
+            ],
+        },
+    )
+}
+
+#[test]
+fn look_up_out_of_memory(rt: HostRuntime) -> Result<(), Fail> {
+    expect(
+        &rt,
+        &Row {
+            packages: &[("a", "1.0.0"), ("b", "1.0.0")],
+            first: &[
+                ("a", Said::Lists(&[("1.0.0", true)])),
+                ("b", Said::Lists(&[("1.0.0", true)])),
+            ],
+            then: &[
+                ("a", Said::Lists(&[("1.0.0", false)])),
+                ("b", Said::Fails(ErrorKind::OutOfMemory)),
+            ],
+            wants: &[Err(ErrorKind::OutOfMemory), Err(ErrorKind::OutOfMemory)],
+        },
+    )
+}
+
+/// Whether a signature and its copy hold these bytes, and another does not equal them.
+fn keeps(alloc: Global, bytes: &[u8], other: &[u8]) -> Result<bool, Fail> {
+    let signature = Signature::from_bytes(alloc, bytes)?;
+    let copy = signature.clone(alloc)?;
+    let other = Signature::from_bytes(alloc, other)?;
+    Ok(signature.as_ref() == bytes && copy == signature && signature != other)
+}
+
+#[test]
+fn signatures(rt: HostRuntime) -> Result<(), Fail> {
+    let rows: &[(&[u8], &[u8])] = &[(&[], &[97]), (&[255, 0], &[255])];
+    for (bytes, other) in rows {
+        assert!(rt; keeps(rt.alloc(), bytes, other)?);
+    }
+    Ok(())
+}
