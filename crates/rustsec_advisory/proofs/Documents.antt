@@ -6,7 +6,7 @@ use Rattle.rustsec_versions.specs.Lists.{Lists}
 use Rattle.rustsec_texts.specs.Parts.{FileParts, parts_of}
 use Rattle.rustsec_advisory.specs.Advisory.{AreVersions, IsAdvisory, IsAffectedAt, IsOfDocument, document_text}
 use Rattle.rustsec_advisory.specs.Affected.{AreFunctions, AreFunctionsAt, Function}
-use Rattle.rustsec_advisory.specs.Fields.{required}
+use Rattle.rustsec_toml.specs.Fields.{required}
 use Rattle.rustsec_advisory.specs.Metadata.{IsMetadata}
 use Rattle.rustsec_advisory.specs.declared.advisory.Advisory.{Advisory}
 use Rattle.rustsec_advisory.specs.declared.affected.Affected.{Affected}

@@ -8,7 +8,7 @@ use Rattle.rustsec_texts.specs.Parts.{FileParts, parts_of}
 use Rattle.rustsec_advisory.specs.Affected.{IsAffected}
 use Rattle.rustsec_advisory.specs.declared.advisory.Advisory.{Advisory}
 use Rattle.rustsec_advisory.specs.declared.affected.Affected.{Affected}
-use Rattle.rustsec_advisory.specs.Fields.{defaulted, required}
+use Rattle.rustsec_toml.specs.Fields.{defaulted, required}
 use Rattle.rustsec_advisory.specs.Requirements.{requirements_of}
 use Rattle.rustsec_advisory.specs.Metadata.{IsMetadata}
 

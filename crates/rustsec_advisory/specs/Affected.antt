@@ -8,7 +8,7 @@ use Rattle.rustsec_values.specs.Reading.{◌>>=◌, read_all}
 use Rattle.rustsec_lock.specs.Platforms.{arch_of, os_of}
 use Rattle.rustsec_texts.specs.Paths.{path_of, path_order}
 use Rattle.rustsec_advisory.specs.declared.affected.Affected.{Affected}
-use Rattle.rustsec_advisory.specs.Fields.{defaulted, every, text}
+use Rattle.rustsec_toml.specs.Fields.{defaulted, every, text}
 use Rattle.rustsec_advisory.specs.Requirements.{requirements_of}
 
 -- a function, by its path, and the requirements that it is affected under

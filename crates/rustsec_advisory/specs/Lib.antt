@@ -1,8 +1,6 @@
 pub mod Addresses
-pub mod Fields
 pub mod Requirements
-pub mod Paths
-pub mod Files
+pub mod FileRefusals
 pub mod Affected
 pub mod Groups
 pub mod Metadata
@@ -10,3 +8,4 @@ pub mod Advisory
 pub mod Faults
 pub mod Lints
 pub mod Decided
+pub use Rattle.rustsec_files.specs.Paths

@@ -17,7 +17,7 @@ use Rattle.rustsec_advisory.specs.declared.metadata.Metadata.{Metadata}
 use Rattle.rustsec_advisory.specs.declared.metadata.Origin.{Origin}
 use Rattle.rustsec_advisory.specs.declared.metadata.Subject.{Subject}
 use Rattle.rustsec_advisory.specs.declared.metadata.Terms.{Terms}
-use Rattle.rustsec_advisory.specs.Fields.{defaulted, every, optional, required, text}
+use Rattle.rustsec_toml.specs.Fields.{defaulted, every, optional, required, text}
 
 -- what the table says of the fault: its names, its package and its day
 pub record IsSubject (table : Members) (s : Subject) : Type 0 where

@@ -3,7 +3,7 @@ use Rattle.std.specs.Prelude.{ℕ, List, Option}
 use Rattle.toml.specs.Data.{Data}
 use Rattle.semver.specs.Parse.{Held, req_of}
 use Rattle.rustsec_values.specs.Reading.{value_of}
-use Rattle.rustsec_advisory.specs.Fields.{every, text}
+use Rattle.rustsec_toml.specs.Fields.{every, text}
 
 -- the comparators of a requirement's text
 abbrev pub requirement_of : List ℕ → Option (List Held)

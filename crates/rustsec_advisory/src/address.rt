@@ -9,7 +9,7 @@ ghost use Rattle.rustsec_advisory.specs.Addresses.{address_of, unless_no_room};
 ghost use Rattle.rustsec_versions.specs.Failure.{IsRefusal};
 
 use rustsec_values::{ExactClone, ExactEq};
-use rustsec_versions::{Error, ErrorKind, Result};
+use rustsec_versions::{Error, ErrorKind, FromText, Result};
 use std::alloc::{AllocError, Global};
 use std::convert::AsStr;
 use std::fmt;
@@ -145,5 +145,15 @@ impl AsStr for Address {
 
     fn as_str(&self) -> &str {
         Address::as_str(self)
+    }
+}
+
+impl FromText for Address {
+    ghost use Rattle.rustsec_advisory.specs.Addresses.{address_of};
+
+    ghost reads = { address_of };
+
+    fn from_text(alloc: Global, text: &str) -> Result<Address> {
+        Address::from_str(alloc, text)
     }
 }

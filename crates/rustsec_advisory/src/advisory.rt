@@ -1,27 +1,26 @@
 // Advisories, and how a text is read as one.
 
 ghost use Rattle.std.specs.Prelude.{◌≡◌, ◌⊎◌, ℕ, IfErr, IfOk, List, None, Some, is_some, option_and_then, string_bytes};
-ghost use Rattle.std.specs.Option.{option_copied};
 ghost use Rattle.rustsec_lock.specs.Cvss.{cvss_severity};
 ghost use Rattle.toml.specs.Parse.{parse_document};
 ghost use Rattle.toml.specs.View.{table_view};
 ghost use Rattle.rustsec_advisory.specs.Advisory.{IsAdvisory, IsAdvisoryWith, IsOfDocument, document_text};
-ghost use Rattle.rustsec_advisory.specs.Files.{NamesFile, file_failure, open_failure, parse_failure};
-ghost use Rattle.rustsec_advisory.specs.Paths.{is_draft};
+ghost use Rattle.rustsec_advisory.specs.FileRefusals.{NamesFile};
+ghost use Rattle.rustsec_files.specs.Paths.{is_draft};
 ghost use Rattle.rustsec_advisory.specs.declared.advisory.Advisory as given;
 ghost use Rattle.rustsec_versions.specs.Failure.{IsMemory, IsOfKind, IsRefusal, out_of_memory};
 
 use crate::affected::Affected;
-use crate::fields::{refused, table_at};
+use crate::front_matter;
 use crate::metadata::Metadata;
-use crate::{path, tables};
+use rustsec_files::{path, reading};
 use rustsec_lock::Severity;
 use rustsec_texts::{Date, Id, Parts};
+use rustsec_toml::Section;
 use rustsec_values::{ExactClone, ExactEq};
-use rustsec_versions::{Error, ErrorKind, Result, Versions};
+use rustsec_versions::{Error, ErrorKind, Result, Versions, refused_file};
 use std::alloc::{AllocError, Global};
 use std::rt::Files;
-use std::{fs, io};
 use toml::Table;
 
 /// A security advisory: what it says of itself, what is affected, and the requirements that tell
@@ -59,6 +58,16 @@ fn document_text(alloc: Global, front: &str) -> std::result::Result<String, Allo
     Ok(text)
 }
 
+/// The refusal of a front matter that is no document, with the TOML reader's words for it.
+fn no_document(alloc: Global, why: &str) -> Error
+    ensures { IsOfKind ErrorKind.Parse result }
+{
+    match format!(in alloc; "the front matter is no TOML document: {why}") {
+        Ok(message) => Error::new(alloc, ErrorKind::Parse, &message),
+        Err(refused) => Error::from(refused),
+    }
+}
+
 /// The document of a front matter.
 fn document(alloc: Global, front: &str) -> Result<Table>
     ensures ok { IfOk result (λ t. parse_document (document_text front.now) ≡ Some (table_view t)) }
@@ -71,22 +80,41 @@ fn document(alloc: Global, front: &str) -> Result<Table>
             if e.is_memory() {
                 return Err(Error::from(AllocError));
             }
-            Err(refused(alloc, "the front matter is no TOML document"))
+            Err(no_document(alloc, e.message()))
         }
     }
 }
 
 /// The advisory of a document, with this title and description.
-fn of_document(alloc: Global, document: &Table, title: &str, description: &str) -> Result<Advisory>
-    ensures ok { IfOk result (IsOfDocument (table_view document.now) title.now description.now) }
+fn of_document(
+    alloc: Global,
+    document: Section<'_>,
+    title: &str,
+    description: &str,
+) -> Result<Advisory>
+    ensures ok { IfOk result (IsOfDocument (table_view document.entry.table.now) title.now description.now) }
     ensures err { IfErr result (IsRefusal ErrorKind.Parse
-        ((a : given.Advisory) → ¬ IsOfDocument (table_view document.now) title.now description.now a)) }
+        ((a : given.Advisory) → ¬ IsOfDocument (table_view document.entry.table.now) title.now description.now a)) }
 {
-    let table = table_at(alloc, document, "advisory")?;
-    let metadata = tables::metadata(alloc, table, title, description)?;
-    let table = table_at(alloc, document, "versions")?;
-    let versions = tables::versions(alloc, table)?;
-    let affected = tables::affected_at(alloc, document, "affected")?;
+    let table = document.table_at(alloc, "advisory")?;
+    let metadata = front_matter::metadata(
+        alloc,
+        Section {
+            table,
+            name: "[advisory]",
+        },
+        title,
+        description,
+    )?;
+    let table = document.table_at(alloc, "versions")?;
+    let versions = front_matter::versions(
+        alloc,
+        Section {
+            table,
+            name: "[versions]",
+        },
+    )?;
+    let affected = front_matter::affected_at(alloc, document, "affected")?;
     Ok(Advisory {
         metadata,
         affected,
@@ -101,62 +129,12 @@ pub(crate) fn read(alloc: Global, text: &str) -> Result<(Advisory, Table)>
 {
     let parts = Parts::parse(alloc, text)?;
     let document = document(alloc, parts.front_matter)?;
-    let advisory = of_document(alloc, &document, parts.title, parts.description)?;
+    let whole = Section {
+        table: &document,
+        name: "the front matter",
+    };
+    let advisory = of_document(alloc, whole, parts.title, parts.description)?;
     Ok((advisory, document))
-}
-
-/// The text of a file, or the error of the system.
-fn text_in<R: Files>(rt: &R, alloc: Global, path: &str) -> io::Result<String> {
-    let file = fs::File::open(rt, path)?;
-    io::read_to_string(alloc, file)
-}
-
-/// The text of a file.
-pub(crate) fn text_of<R: Files>(rt: &R, alloc: Global, path: &str) -> Result<String>
-    ensures kind { IfErr result (IsOfKind ErrorKind.Io) }
-    ensures value { IfErr result (λ e. (e ≡ open_failure path.now) ⊎ (e ≡ out_of_memory)) }
-{
-    match text_in(rt, alloc, path) {
-        Ok(text) => Ok(text),
-        Err(e) => {
-            if e.kind() == io::ErrorKind::OutOfMemory {
-                return Err(Error::from(AllocError));
-            }
-            Err(with_path(alloc, ErrorKind::Io, "couldn't open", path, None))
-        }
-    }
-}
-
-/// A refusal of a file, whose message names the path, with the text of its cause where there is one.
-fn with_path(alloc: Global, kind: ErrorKind, what: &str, path: &str, cause: Option<&str>) -> Error
-    ensures kind { IsOfKind kind result }
-    ensures value { (result ≡ file_failure kind what.now path.now (option_copied cause.entry)) ⊎ (result ≡ out_of_memory) }
-{
-    match format!(in alloc; "{what} {path}") {
-        Ok(message) => match cause {
-            Some(cause) => Error::with_source(alloc, kind, &message, cause),
-            None => Error::new(alloc, kind, &message),
-        },
-        Err(refused) => Error::from(refused),
-    }
-}
-
-/// A refusal of a file's text, as the refusal of the file, whose cause is its message.
-fn of_file(alloc: Global, error: Error, path: &str) -> Error
-    ensures memory { error ≡ out_of_memory → result ≡ out_of_memory }
-    ensures kind { IsOfKind ErrorKind.Parse result }
-    ensures value { (result ≡ parse_failure path.now error.message) ⊎ (result ≡ out_of_memory) }
-{
-    if error.kind() == ErrorKind::OutOfMemory {
-        return Error::from(AllocError);
-    }
-    with_path(
-        alloc,
-        ErrorKind::Parse,
-        "error parsing",
-        path,
-        Some(error.message()),
-    )
 }
 
 impl Advisory {
@@ -180,18 +158,18 @@ impl Advisory {
     ///
     /// # Errors
     ///
-    /// `Io` where the file cannot be read or is no UTF-8; then as `from_str`. The message names the path,
-    /// and the message of `from_str` is the cause.
+    /// `Io` if the file cannot be read or is no UTF-8; then as `from_str`. The message names the path;
+    /// the cause is what `from_str` says, with its own cause behind it.
     pub fn load_file<R: Files>(rt: &R, alloc: Global, path: &str) -> Result<Advisory>
         ensures ok { IfOk result (λ a. (text : List ℕ) × IsAdvisory text a) }
         ensures err { IfErr result (λ e. IsOfKind ErrorKind.Io e
             ⊎ ((text : List ℕ) × IsRefusal ErrorKind.Parse ((a : given.Advisory) → ¬ IsAdvisory text a) e)) }
         ensures names { IfErr result (NamesFile path.now) }
     {
-        let text = text_of(rt, alloc, path)?;
+        let text = reading::text_of_file(rt, alloc, path)?;
         match Advisory::from_str(alloc, &text) {
             Ok(advisory) => Ok(advisory),
-            Err(e) => Err(of_file(alloc, e, path)),
+            Err(e) => Err(refused_file(alloc, path, &e)),
         }
     }
 
@@ -216,7 +194,7 @@ impl Advisory {
         self.metadata.description.as_str()
     }
 
-    /// The day on which the fault was made known.
+    /// The day on which the vulnerability was made known.
     pub fn date(&self) -> &Date
         ensures { result.now ≡ self.now.metadata.date }
     {

@@ -1,4 +1,4 @@
-// Which platforms and functions of a package an advisory's fault affects.
+// Which platforms and functions of a package an advisory affects.
 
 ghost use Rattle.std.specs.Prelude.{◌≡◌, [], IfErr, IfOk};
 ghost use Rattle.rustsec_versions.specs.Failure.{IsMemory};

@@ -1,4 +1,4 @@
-// The walk over the keys of a document that finds an advisory's faults.
+// The walk over the keys of a document that finds an advisory's lint errors.
 
 ghost use Rattle.std.specs.Prelude.{◌≡◌, ◌++◌, ◌&&◌, IfErr, IfOk, OnOk, false, flat_map, string_bytes};
 ghost use Rattle.std.specs.Option.{option_copied};
@@ -22,7 +22,7 @@ use std::fmt;
 use std::fmt::Formatter;
 use toml::{Table, Value};
 
-/// Appends a fault of a value, where a test holds.
+/// Appends a lint error of a value, where a test holds.
 fn add_value(
     alloc: Global,
     errors: &mut Items<Error>,
@@ -43,7 +43,7 @@ fn add_value(
     Ok(())
 }
 
-/// Appends a fault of a section's content, where a test holds.
+/// Appends a lint error of a section's content, where a test holds.
 fn add_content(
     alloc: Global,
     errors: &mut Items<Error>,
@@ -61,7 +61,7 @@ fn add_content(
     Ok(())
 }
 
-/// Appends the fault of a key that has no meaning where it stands, where a test holds.
+/// Appends the lint error of a key that has no meaning where it stands, where a test holds.
 fn add_key(
     alloc: Global,
     errors: &mut Items<Error>,
@@ -101,7 +101,7 @@ fn names_another_year(metadata: &Metadata) -> bool
     }
 }
 
-/// Appends the fault of an ID beside a draft flag, where there is one.
+/// Appends the lint error of an ID beside a draft flag, where there is one.
 fn lint_draft(
     alloc: Global,
     errors: &mut Items<Error>,
@@ -117,7 +117,7 @@ fn lint_draft(
     add_value(alloc, errors, test, "advisory", "id", printed, message)
 }
 
-/// Appends the fault of an ID of no known kind.
+/// Appends the lint error of an ID of no known kind.
 fn lint_kind(
     alloc: Global,
     errors: &mut Items<Error>,
@@ -132,7 +132,7 @@ fn lint_kind(
     add_value(alloc, errors, test, "advisory", "id", printed, message)
 }
 
-/// Appends the fault of an ID of another year than the date's.
+/// Appends the lint error of an ID of another year than the date's.
 fn lint_year(
     alloc: Global,
     errors: &mut Items<Error>,
@@ -147,7 +147,7 @@ fn lint_year(
     add_value(alloc, errors, test, "advisory", "id", printed, message)
 }
 
-/// Appends the faults of the ID, which prints so.
+/// Appends the lint errors of the ID, which prints so.
 fn lint_id(
     alloc: Global,
     errors: &mut Items<Error>,
@@ -170,7 +170,7 @@ fn is_other_category(category: &Category) -> bool
     matches!(category, Category::Other(_))
 }
 
-/// Appends the fault of a category.
+/// Appends the lint error of a category.
 fn lint_category(alloc: Global, errors: &mut Items<Error>, category: &Category) -> Result<()>
     ensures ok { OnOk result (errors.new ≡ errors.old ++ category_row category.now) }
     ensures err { IfErr result IsMemory }
@@ -188,7 +188,7 @@ fn lint_category(alloc: Global, errors: &mut Items<Error>, category: &Category) 
     )
 }
 
-/// Appends the faults of the categories.
+/// Appends the lint errors of the categories.
 fn lint_categories(alloc: Global, errors: &mut Items<Error>, categories: &[Category]) -> Result<()>
     ensures ok { OnOk result (errors.new ≡ errors.old ++ flat_map category_row categories.now) }
     ensures err { IfErr result IsMemory }
@@ -199,7 +199,7 @@ fn lint_categories(alloc: Global, errors: &mut Items<Error>, categories: &[Categ
     Ok(())
 }
 
-/// Appends the fault of an informational kind.
+/// Appends the lint error of an informational kind.
 fn lint_informational(
     alloc: Global,
     errors: &mut Items<Error>,
@@ -234,7 +234,7 @@ fn printed(alloc: Global, value: &Value) -> std::result::Result<String, AllocErr
     }
 }
 
-/// Appends the fault of an address, which the URL Standard's parser took.
+/// Appends the lint error of an address, which the URL Standard's parser took.
 fn lint_url(alloc: Global, errors: &mut Items<Error>, value: &Value) -> Result<()>
     ensures ok { OnOk result (errors.new ≡ errors.old ++ of_string url_row (view value.now)) }
     ensures err { IfErr result IsMemory }
@@ -255,7 +255,7 @@ fn is_other_license(license: &License) -> bool
     matches!(license, License::Other(_))
 }
 
-/// Appends the fault of a license.
+/// Appends the lint error of a license.
 fn lint_license(alloc: Global, errors: &mut Items<Error>, license: &License) -> Result<()>
     ensures ok { OnOk result (errors.new ≡ errors.old ++ license_row license.now) }
     ensures err { IfErr result IsMemory }
@@ -273,7 +273,7 @@ fn lint_license(alloc: Global, errors: &mut Items<Error>, license: &License) -> 
     )
 }
 
-/// Whether a key of the section `advisory` has a meaning, and no fault of its own.
+/// Whether a key of the section `advisory` has a meaning, and no lint error of its own.
 fn is_quiet(key: &str) -> bool
     ensures { result ≡ is_one_of quiet_keys key.now }
 {
@@ -294,7 +294,7 @@ fn is_quiet(key: &str) -> bool
     )
 }
 
-/// Appends the faults of the ID, where its value is a string.
+/// Appends the lint errors of the ID, where its value is a string.
 fn lint_id_value(
     alloc: Global,
     errors: &mut Items<Error>,
@@ -312,7 +312,7 @@ fn lint_id_value(
     lint_id(alloc, errors, draft, metadata, &printed)
 }
 
-/// Appends the faults of a key of the section `advisory`.
+/// Appends the lint errors of a key of the section `advisory`.
 fn lint_advisory_key(
     alloc: Global,
     errors: &mut Items<Error>,
@@ -348,7 +348,7 @@ fn lint_advisory_key(
     }
 }
 
-/// Appends the faults of the section `advisory`.
+/// Appends the lint errors of the section `advisory`.
 fn lint_advisory(
     alloc: Global,
     errors: &mut Items<Error>,
@@ -383,7 +383,7 @@ fn begins_with(name: &[u8], path: &FunctionPath) -> bool
     path.crate_name().as_bytes() == name
 }
 
-/// Appends the fault of a function whose path does not begin with the name of its crate.
+/// Appends the lint error of a function whose path does not begin with the name of its crate.
 fn lint_function(
     alloc: Global,
     errors: &mut Items<Error>,
@@ -407,7 +407,7 @@ fn lint_function(
     )
 }
 
-/// Appends the faults of some functions of a crate.
+/// Appends the lint errors of some functions of a crate.
 fn lint_paths(
     alloc: Global,
     errors: &mut Items<Error>,
@@ -423,7 +423,7 @@ fn lint_paths(
     Ok(())
 }
 
-/// Appends the faults of the functions of an advisory.
+/// Appends the lint errors of the functions of an advisory.
 fn lint_functions(alloc: Global, errors: &mut Items<Error>, advisory: &Advisory) -> Result<()>
     ensures ok { OnOk result (errors.new ≡ errors.old ++ flat_map (function_row (crate_name_of advisory.now.metadata.«package»)) (paths_in advisory.now.affected)) }
     ensures err { IfErr result IsMemory }
@@ -442,7 +442,7 @@ fn is_platform_key(key: &str) -> bool
     matches!(key, "arch" | "os")
 }
 
-/// Appends the faults of a key of the section `affected`.
+/// Appends the lint errors of a key of the section `affected`.
 fn lint_affected_key(
     alloc: Global,
     errors: &mut Items<Error>,
@@ -458,7 +458,7 @@ fn lint_affected_key(
     }
 }
 
-/// Appends the faults of the section `affected`.
+/// Appends the lint errors of the section `affected`.
 fn lint_affected(
     alloc: Global,
     errors: &mut Items<Error>,
@@ -474,7 +474,7 @@ fn lint_affected(
     Ok(())
 }
 
-/// Appends the faults of a key of the section `versions`.
+/// Appends the lint errors of a key of the section `versions`.
 fn lint_versions_key(alloc: Global, errors: &mut Items<Error>, key: &str) -> Result<()>
     ensures ok { OnOk result (errors.new ≡ errors.old ++ versions_rows key.now) }
     ensures err { IfErr result IsMemory }
@@ -485,7 +485,7 @@ fn lint_versions_key(alloc: Global, errors: &mut Items<Error>, key: &str) -> Res
     }
 }
 
-/// Appends the faults of the section `versions`.
+/// Appends the lint errors of the section `versions`.
 fn lint_versions(alloc: Global, errors: &mut Items<Error>, table: &Table) -> Result<()>
     ensures ok { OnOk result (errors.new ≡ errors.old ++ flat_map (λ e. versions_rows e.0) (members_of (table_view table.now))) }
     ensures err { IfErr result IsMemory }
@@ -496,7 +496,7 @@ fn lint_versions(alloc: Global, errors: &mut Items<Error>, table: &Table) -> Res
     Ok(())
 }
 
-/// Appends the faults of a section.
+/// Appends the lint errors of a section.
 fn lint_section(
     alloc: Global,
     errors: &mut Items<Error>,
@@ -516,7 +516,7 @@ fn lint_section(
     }
 }
 
-/// Appends the faults of a key at the top.
+/// Appends the lint errors of a key at the top.
 fn lint_top_key(
     alloc: Global,
     errors: &mut Items<Error>,
@@ -535,7 +535,7 @@ fn lint_top_key(
     lint_section(alloc, errors, draft, advisory, key, table)
 }
 
-/// The faults of a document and its advisory.
+/// The lint errors of a document and its advisory.
 pub(crate) fn of_document(
     alloc: Global,
     draft: Option<bool>,

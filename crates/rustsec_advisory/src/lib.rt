@@ -1,17 +1,14 @@
-//! Advisories of the RustSec database: their files, and the faults that a linter finds in them.
+//! Advisories of the RustSec database: their files, and the lint errors that a linter finds in them.
 #![tactic(auto)]
 
 mod address;
 mod advisory;
 mod affected;
 mod faults;
-mod fields;
+mod front_matter;
 pub mod linter;
 pub mod metadata;
-mod path;
 mod requirements;
-mod tables;
-mod texts;
 
 pub use crate::address::Address;
 pub use crate::advisory::Advisory;

@@ -1,4 +1,4 @@
-//! The linter of advisories: it finds the faults that the reader of advisories lets pass.
+//! The linter of advisories: it finds the lint errors that the reader of advisories lets pass.
 
 ghost use Rattle.std.specs.Prelude.{◌≡◌, ◌⊎◌, ℕ, List, IfErr, IfOk, Some, false, true};
 ghost use Rattle.std.specs.Fmt.{DisplaysOnOk};
@@ -6,22 +6,23 @@ ghost use Rattle.std.specs.Option.{option_copied};
 ghost use Rattle.rustsec_advisory.specs.Advisory.{IsAdvisory};
 ghost use Rattle.rustsec_advisory.specs.Faults.{Fault, fault_text, kind_text, message_text, section_text};
 ghost use Rattle.rustsec_advisory.specs.Lints.{Lints};
-ghost use Rattle.rustsec_advisory.specs.Paths.{is_draft, is_markdown};
+ghost use Rattle.rustsec_files.specs.Paths.{is_draft, is_markdown};
 ghost use Rattle.rustsec_advisory.specs.declared.advisory.Advisory as given;
 ghost use Rattle.rustsec_advisory.specs.declared.linter.ErrorKind.TheVariants as fault_kind;
 ghost use Rattle.rustsec_versions.specs.Failure.{IsMemory, IsOfKind, IsRefusal};
 ghost use Rattle.rustsec_versions.specs.declared.error.ErrorKind.TheVariants as failure;
 
 use crate::advisory::{self, Advisory};
-use crate::{faults, path};
+use crate::faults;
+use rustsec_files::{path, reading};
 use rustsec_values::{ExactClone, ExactEq, Items, Text};
-use rustsec_versions::Result;
+use rustsec_versions::{Result, refused_text};
 use std::alloc::{AllocError, Global};
 use std::fmt;
 use std::marker::Model;
 use std::rt::Files;
 
-/// The kind of a fault.
+/// The kind of a lint error.
 #[derive(Debug, PartialEq, Eq, Drop)]
 pub enum ErrorKind {
     /// A section has content that it should not have.
@@ -125,7 +126,7 @@ impl fmt::Display for ErrorKind {
     }
 }
 
-/// A fault: its kind, the section where it stands, and a message.
+/// A lint error: its kind, the section where it stands, and a message.
 #[derive(Debug, PartialEq, Eq)]
 pub struct Error {
     kind: ErrorKind,
@@ -155,7 +156,7 @@ impl Model for Error {
 }
 
 impl Error {
-    /// A fault with copies of these texts.
+    /// A lint error with copies of these texts.
     pub(crate) fn new(
         alloc: Global,
         kind: ErrorKind,
@@ -181,7 +182,7 @@ impl Error {
         &self.kind
     }
 
-    /// The section of the advisory where the fault stands; none for the top.
+    /// The section of the advisory where the lint error stands; none for the top.
     pub fn section(&self) -> Option<&str>
         ensures { option_copied result ≡ self.now.section }
     {
@@ -195,7 +196,7 @@ impl Error {
         text_of(&self.message)
     }
 
-    /// An equal fault.
+    /// An equal lint error.
     ///
     /// # Errors
     ///
@@ -258,7 +259,7 @@ impl ExactEq for Error {
     ghost decides = { fault_decides };
 }
 
-/// Writes where a fault stands.
+/// Writes where a lint error stands.
 fn write_section<W: fmt::Write>(f: &mut fmt::Formatter<W>, section: &Option<Text>) -> fmt::Result
     ensures { DisplaysOnOk W.write_str_gives f.old result (Some (section_text section.now)) f.new }
 {
@@ -288,7 +289,7 @@ impl fmt::Display for Error {
     }
 }
 
-/// An advisory and its faults.
+/// An advisory and its lint errors.
 pub struct Linter {
     advisory: Advisory,
     errors: Items<Error>,
@@ -305,7 +306,7 @@ impl Drop for Linter {
 }
 
 impl Linter {
-    /// Reads an advisory from a text, and finds its faults. `draft` tells whether its file is a
+    /// Reads an advisory from a text, and finds its lint errors. `draft` tells whether its file is a
     /// draft's, where that is known.
     ///
     /// # Errors
@@ -336,13 +337,9 @@ impl Linter {
             ⊎ ((text : List ℕ) × IsRefusal failure.Parse ((a : given.Advisory) → ¬ IsAdvisory text a) e)))) }
     {
         if !path::is_markdown(path) {
-            return Err(rustsec_versions::Error::new(
-                alloc,
-                rustsec_versions::ErrorKind::Parse,
-                "the file's extension is not `md`",
-            ));
+            return Err(refused_text(alloc, "not a Markdown file", path, "the extension `md`"));
         }
-        let text = advisory::text_of(rt, alloc, path)?;
+        let text = reading::text_of_file(rt, alloc, path)?;
         Linter::lint_string(alloc, &text, Some(path::is_draft(path)))
     }
 
@@ -353,7 +350,7 @@ impl Linter {
         &self.advisory
     }
 
-    /// Its faults, in the order of the document's keys.
+    /// Its lint errors, in the order of the document's keys.
     pub fn errors(&self) -> &[Error]
         ensures { result.now ≡ self.now.errors }
     {

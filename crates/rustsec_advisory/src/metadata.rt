@@ -24,15 +24,15 @@ pub struct Metadata {
     pub title: Text,
     /// The description, which stands behind the title.
     pub description: Text,
-    /// The day on which the fault was made known.
+    /// The day on which the vulnerability was made known.
     pub date: Date,
-    /// IDs of the same fault.
+    /// IDs of the same vulnerability.
     pub aliases: Items<Id>,
-    /// IDs of other faults that go with it.
+    /// IDs of others that go with it.
     pub related: Items<Id>,
     /// The collection that it stands in, where the file says so.
     pub collection: Option<Collection>,
-    /// The categories of the fault.
+    /// The categories of the vulnerability.
     pub categories: Items<Category>,
     /// Words to look for it by.
     pub keywords: Items<Keyword>,
@@ -259,7 +259,7 @@ impl Metadata {
         })
     }
 
-    /// A copy of how the fault is sorted.
+    /// A copy of how the vulnerability is sorted.
     fn kinds(&self) -> std::result::Result<Kinds, AllocError>
         ensures { IfOk result (λ k. k ≡ kinds_of self.now) }
     {

@@ -5,19 +5,19 @@ ghost use Rattle.semver.specs.Parse.{memory_error, req_of};
 ghost use Rattle.semver.specs.declared.error.Error as semver;
 ghost use Rattle.toml.specs.View.{array_view, table_view, view};
 ghost use Rattle.rustsec_values.specs.Reading.{read_all};
-ghost use Rattle.rustsec_advisory.specs.Fields.{defaulted, list_of, required, text};
+ghost use Rattle.rustsec_toml.specs.Fields.{defaulted, list_of, required, text};
 ghost use Rattle.rustsec_advisory.specs.Requirements.{requirement_of, requirements_of};
 ghost use Rattle.rustsec_versions.specs.Failure.{IsRefusal};
 ghost use Rattle.rustsec_versions.specs.Views.{comparators_of};
 
-use crate::fields::{member, refused};
-use rustsec_versions::{Error, ErrorKind, Requirements, Result};
+use rustsec_toml::Section;
+use rustsec_versions::{ErrorKind, Result, refused_text};
 use semver::VersionReq;
 use std::alloc::{AllocError, Global};
+use toml::Value;
 use toml::value::Array;
-use toml::{Table, Value};
 
-/// Whether an error of `semver` is want of memory.
+/// Whether an error of `semver` is out of memory.
 fn is_memory(e: semver::Error) -> bool
     ensures memory { e ≡ memory_error → result ≡ true }
     ensures only { result ≡ true → e ≡ memory_error }
@@ -25,7 +25,7 @@ fn is_memory(e: semver::Error) -> bool
     e == semver::Error::from(AllocError)
 }
 
-/// The requirement of a text, none where the text is refused. A refusal is never want of memory.
+/// The requirement of a text, none if the text is refused. A refusal is never out of memory.
 fn parsed(alloc: Global, text: &str) -> std::result::Result<Option<VersionReq>, AllocError>
     ensures ok { IfOk result (λ r. requirement_of text.now ≡ option_map comparators_of r) }
     ensures refused { (e : semver.Error) → req_of text.now ≡ Err e → e ≢ memory_error → IsOk result }
@@ -44,29 +44,55 @@ fn requirement(alloc: Global, text: &str) -> Result<VersionReq>
 {
     match parsed(alloc, text)? {
         Some(req) => Ok(req),
-        None => Err(refused(alloc, "no requirement")),
+        None => Err(refused_text(
+            alloc,
+            "not a requirement",
+            text,
+            "comparators such as `>=1.2.3, <2`",
+        )),
+    }
+}
+
+/// The requirement of a text that stands at a key.
+fn requirement_at(alloc: Global, section: Section<'_>, key: &str, text: &str) -> Result<VersionReq>
+    ensures ok { IfOk result (λ r. requirement_of text.now ≡ Some (comparators_of r)) }
+    ensures err { IfErr result (IsRefusal ErrorKind.Parse (requirement_of text.now ≡ None)) }
+{
+    match requirement(alloc, text) {
+        Ok(req) => Ok(req),
+        Err(e) => Err(section.refused_at(alloc, key, &e)),
     }
 }
 
 /// The requirement of a value that must be a string.
-fn requirement_in(alloc: Global, value: &Value) -> Result<VersionReq>
+fn requirement_in(
+    alloc: Global,
+    section: Section<'_>,
+    key: &str,
+    value: &Value,
+) -> Result<VersionReq>
     ensures ok { IfOk result (λ r. text requirement_of (view value.now) ≡ Some (comparators_of r)) }
     ensures err { IfErr result (IsRefusal ErrorKind.Parse (text requirement_of (view value.now) ≡ None)) }
 {
     match value.as_str() {
-        Some(text) => requirement(alloc, text),
-        None => Err(refused(alloc, "no string")),
+        Some(text) => requirement_at(alloc, section, key, text),
+        None => Err(section.unexpected(alloc, key, value, "a string")),
     }
 }
 
 /// The requirements of an array, in order.
-fn requirements_in(alloc: Global, array: &Array) -> Result<Vec<VersionReq>>
+fn requirements_in(
+    alloc: Global,
+    section: Section<'_>,
+    key: &str,
+    array: &Array,
+) -> Result<Vec<VersionReq>>
     ensures ok { IfOk result (λ rs. read_all (text requirement_of) (list_of (array_view array.now)) ≡ Some (map comparators_of rs.items)) }
     ensures err { IfErr result (IsRefusal ErrorKind.Parse (read_all (text requirement_of) (list_of (array_view array.now)) ≡ None)) }
 {
     let mut read = Vec::new(alloc);
     for value in array {
-        match requirement_in(alloc, value) {
+        match requirement_in(alloc, section, key, value) {
             Ok(req) => read.push(req).map_err(|_| AllocError)?,
             Err(e) => return Err(e),
         }
@@ -75,34 +101,43 @@ fn requirements_in(alloc: Global, array: &Array) -> Result<Vec<VersionReq>>
 }
 
 /// The requirements of a value that must be an array of texts.
-pub fn requirements(alloc: Global, value: &Value) -> Result<Vec<VersionReq>>
+pub fn requirements(
+    alloc: Global,
+    section: Section<'_>,
+    key: &str,
+    value: &Value,
+) -> Result<Vec<VersionReq>>
     ensures ok { IfOk result (λ rs. requirements_of (view value.now) ≡ Some (map comparators_of rs.items)) }
     ensures err { IfErr result (IsRefusal ErrorKind.Parse (requirements_of (view value.now) ≡ None)) }
 {
     match value.as_array() {
-        Some(array) => requirements_in(alloc, array),
-        None => Err(refused(alloc, "no array")),
+        Some(array) => requirements_in(alloc, section, key, array),
+        None => Err(section.unexpected(alloc, key, value, "an array of strings")),
     }
 }
 
 /// The requirements at a key that must be there.
-pub fn requirements_at(alloc: Global, table: &Table, key: &str) -> Result<Vec<VersionReq>>
-    ensures ok { IfOk result (λ rs. required requirements_of key.now (table_view table.now) ≡ Some (map comparators_of rs.items)) }
-    ensures err { IfErr result (IsRefusal ErrorKind.Parse (required requirements_of key.now (table_view table.now) ≡ None)) }
+pub fn requirements_at(alloc: Global, section: Section<'_>, key: &str) -> Result<Vec<VersionReq>>
+    ensures ok { IfOk result (λ rs. required requirements_of key.now (table_view section.entry.table.now) ≡ Some (map comparators_of rs.items)) }
+    ensures err { IfErr result (IsRefusal ErrorKind.Parse (required requirements_of key.now (table_view section.entry.table.now) ≡ None)) }
 {
-    match member(table, key) {
-        Some(value) => requirements(alloc, value),
-        None => Err(refused(alloc, "a key is missing")),
+    match section.get(key) {
+        Some(value) => requirements(alloc, section, key, value),
+        None => Err(section.missing(alloc, key)),
     }
 }
 
-/// The requirements at a key, none where it is missing.
-pub fn optional_requirements_at(alloc: Global, table: &Table, key: &str) -> Result<Vec<VersionReq>>
-    ensures ok { IfOk result (λ rs. defaulted [] requirements_of key.now (table_view table.now) ≡ Some (map comparators_of rs.items)) }
-    ensures err { IfErr result (IsRefusal ErrorKind.Parse (defaulted [] requirements_of key.now (table_view table.now) ≡ None)) }
+/// The requirements at a key, none if it is missing.
+pub fn optional_requirements_at(
+    alloc: Global,
+    section: Section<'_>,
+    key: &str,
+) -> Result<Vec<VersionReq>>
+    ensures ok { IfOk result (λ rs. defaulted [] requirements_of key.now (table_view section.entry.table.now) ≡ Some (map comparators_of rs.items)) }
+    ensures err { IfErr result (IsRefusal ErrorKind.Parse (defaulted [] requirements_of key.now (table_view section.entry.table.now) ≡ None)) }
 {
-    match member(table, key) {
-        Some(value) => requirements(alloc, value),
+    match section.get(key) {
+        Some(value) => requirements(alloc, section, key, value),
         None => Ok(Vec::new(alloc)),
     }
 }

@@ -1,7 +1,7 @@
 -- The output of `lint` for a file that is refused.
 use Rattle.std.proofs.Common.{◌≡◌, ◌≢◌, ◌⊎◌, ◌∙◌, ℕ, List, false, true, ap, inl, inr}
 use Rattle.rustsec_advisory.specs.Advisory.{IsAdvisory}
-use Rattle.rustsec_advisory.specs.Paths.{is_markdown}
+use Rattle.rustsec_files.specs.Paths.{is_markdown}
 use Rattle.rustsec_advisory.specs.declared.advisory.Advisory.{Advisory}
 use Rattle.rustsec_commands.specs.Lint.{IsLintOutput, another, refused_as, unparsed, unread}
 use Rattle.rustsec_commands.specs.Output.{Output}

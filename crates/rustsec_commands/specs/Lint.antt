@@ -3,7 +3,7 @@ use Rattle.std.specs.Prelude.{◌≡◌, ◌++◌, ◌==◌, ℕ, List, Some, co
 use Rattle.rustsec_advisory.specs.Advisory.{IsAdvisory}
 use Rattle.rustsec_advisory.specs.Faults.{Fault, fault_text}
 use Rattle.rustsec_advisory.specs.Lints.{Lints}
-use Rattle.rustsec_advisory.specs.Paths.{is_draft, is_markdown}
+use Rattle.rustsec_files.specs.Paths.{is_draft, is_markdown}
 use Rattle.rustsec_advisory.specs.declared.advisory.Advisory.{Advisory}
 use Rattle.rustsec_commands.specs.Output.{Output}
 use Rattle.rustsec_versions.specs.Failure.{kind_text}

@@ -2,9 +2,9 @@ use Rattle.std.proofs.Common.{◌≡◌, [], ◌∷◌, inl, inr, ⊎_elim, sym,
 use Rattle.std.specs.Prelude.{is_ok}
 use Rattle.std.proofs.lemmas.List.{map-append}
 use Rattle.rustsec_versions.specs.Views.{comparators_of}
-use Rattle.rustsec_advisory.specs.Fields.{text}
+use Rattle.rustsec_toml.specs.Fields.{text}
 use Rattle.rustsec_advisory.specs.Requirements.{requirement_of}
-use Rattle.rustsec_advisory.proofs.Lists.{items_more, items_start, items_stop}
+use Rattle.rustsec_toml.proofs.Arrays.{items_more, items_start, items_stop}
 use Rattle.rustsec_advisory.proofs.requirements.requirements_in.Goals as goal
 
 pub loop-value-init : goal.loop-value-init

@@ -2,7 +2,7 @@ use Rattle.std.proofs.Common.{◌≡◌, map, take, Some}
 use Rattle.toml.specs.View.{items_view}
 use Rattle.rustsec_values.specs.Reading.{read_all}
 use Rattle.rustsec_versions.specs.Views.{comparators_of}
-use Rattle.rustsec_advisory.specs.Fields.{list_of, text}
+use Rattle.rustsec_toml.specs.Fields.{list_of, text}
 use Rattle.rustsec_advisory.specs.Requirements.{requirement_of}
 use Rattle.rustsec_advisory.proofs.requirements.requirements_in.Given as goal
 

@@ -1,0 +1,236 @@
+// The tables of a front matter's document.
+
+ghost use Rattle.std.specs.Prelude.{◌≡◌, ◌≢◌, [], IfErr, IfOk, List, None, OnOk, Option, Some};
+ghost use Rattle.toml.specs.Data.{as_str, get_member};
+ghost use Rattle.toml.specs.View.{table_view};
+ghost use Rattle.rustsec_advisory.specs.Advisory.{AreVersions, IsAffectedAt};
+ghost use Rattle.rustsec_advisory.specs.Affected.{AreFunctions, AreFunctionsAt, Function, IsAffected};
+ghost use Rattle.rustsec_advisory.specs.Metadata.{AreKinds, AreTerms, IsMetadata, IsOrigin, IsSubject};
+ghost use Rattle.rustsec_advisory.specs.declared.affected.Affected as affected;
+ghost use Rattle.rustsec_advisory.specs.declared.metadata.Kinds as kinds;
+ghost use Rattle.rustsec_advisory.specs.declared.metadata.Metadata as metadata;
+ghost use Rattle.rustsec_advisory.specs.declared.metadata.Origin as origin;
+ghost use Rattle.rustsec_advisory.specs.declared.metadata.Subject as subject;
+ghost use Rattle.rustsec_advisory.specs.declared.metadata.Terms as terms;
+ghost use Rattle.rustsec_texts.specs.Paths.{path_of};
+ghost use Rattle.rustsec_toml.specs.Fields.{defaulted};
+ghost use Rattle.rustsec_versions.specs.Failure.{IsOfKind, IsRefusal, out_of_memory};
+ghost use Rattle.rustsec_versions.specs.Lists.{Lists};
+
+use crate::affected::Affected;
+use crate::metadata::{Kinds, Metadata, Origin, Subject, Terms};
+use crate::requirements::{optional_requirements_at, requirements, requirements_at};
+use rustsec_texts::{FunctionPath, License};
+use rustsec_toml::Section;
+use rustsec_values::{SortedMap, Text};
+use rustsec_versions::{Error, ErrorKind, Requirements, Result, Versions};
+use std::alloc::{AllocError, Global};
+use toml::Table;
+
+/// What the table `advisory` says of the vulnerability: its names, its package and its day.
+fn subject(alloc: Global, section: Section<'_>) -> Result<Subject>
+    ensures ok { IfOk result (λ s. IsSubject (table_view section.entry.table.now) s) }
+    ensures err { IfErr result (IsRefusal ErrorKind.Parse ((s : subject.Subject) → ¬ IsSubject (table_view section.entry.table.now) s)) }
+{
+    Ok(Subject {
+        id: section.text_at(alloc, "id")?,
+        name: section.text_at(alloc, "package")?,
+        date: section.text_at(alloc, "date")?,
+        aliases: section.texts_at(alloc, "aliases")?,
+        related: section.texts_at(alloc, "related")?,
+    })
+}
+
+/// How the table `advisory` sorts the vulnerability.
+fn kinds(alloc: Global, section: Section<'_>) -> Result<Kinds>
+    ensures ok { IfOk result (λ k. AreKinds (table_view section.entry.table.now) k) }
+    ensures err { IfErr result (IsRefusal ErrorKind.Parse ((k : kinds.Kinds) → ¬ AreKinds (table_view section.entry.table.now) k)) }
+{
+    Ok(Kinds {
+        collection: section.optional_text_at(alloc, "collection")?,
+        categories: section.texts_at(alloc, "categories")?,
+        keywords: section.texts_at(alloc, "keywords")?,
+        cvss: section.optional_text_at(alloc, "cvss")?,
+        informational: section.optional_text_at(alloc, "informational")?,
+    })
+}
+
+/// What the table `advisory` says of where more is found.
+fn origin(alloc: Global, section: Section<'_>) -> Result<Origin>
+    ensures ok { IfOk result (λ o. IsOrigin (table_view section.entry.table.now) o) }
+    ensures err { IfErr result (IsRefusal ErrorKind.Parse ((o : origin.Origin) → ¬ IsOrigin (table_view section.entry.table.now) o)) }
+{
+    Ok(Origin {
+        references: section.texts_at(alloc, "references")?,
+        source: section.optional_text_at(alloc, "source")?,
+        url: section.optional_text_at(alloc, "url")?,
+    })
+}
+
+/// On which terms the table `advisory` says that the advisory stands.
+fn terms(alloc: Global, section: Section<'_>) -> Result<Terms>
+    ensures ok { IfOk result (λ t. AreTerms (table_view section.entry.table.now) t) }
+    ensures err { IfErr result (IsRefusal ErrorKind.Parse ((t : terms.Terms) → ¬ AreTerms (table_view section.entry.table.now) t)) }
+{
+    Ok(Terms {
+        withdrawn: section.optional_text_at(alloc, "withdrawn")?,
+        license: section.text_or(alloc, "license", License::default())?,
+        expect_deleted: section.bool_or_false(alloc, "expect-deleted")?,
+    })
+}
+
+/// Checks that there is no text at a key, or an empty one.
+fn no_text_at(alloc: Global, section: Section<'_>, key: &str) -> Result<()>
+    ensures ok { OnOk result (defaulted [] as_str key.now (table_view section.entry.table.now) ≡ Some []) }
+    ensures err { IfErr result (IsRefusal ErrorKind.Parse (defaulted [] as_str key.now (table_view section.entry.table.now) ≢ Some [])) }
+{
+    let Some(value) = section.get(key) else {
+        return Ok(());
+    };
+    match value.as_str() {
+        Some("") => Ok(()),
+        _ => Err(section.unexpected(alloc, key, value, "no text, as the Markdown below gives it")),
+    }
+}
+
+/// What the table `advisory` says, with the title and the description from around it.
+pub fn metadata(
+    alloc: Global,
+    section: Section<'_>,
+    title: &str,
+    description: &str,
+) -> Result<Metadata>
+    ensures ok { IfOk result (IsMetadata (table_view section.entry.table.now) title.now description.now) }
+    ensures err { IfErr result (IsRefusal ErrorKind.Parse
+        ((m : metadata.Metadata) → ¬ IsMetadata (table_view section.entry.table.now) title.now description.now m)) }
+{
+    no_text_at(alloc, section, "title")?;
+    no_text_at(alloc, section, "description")?;
+    let subject = subject(alloc, section)?;
+    let kinds = kinds(alloc, section)?;
+    let origin = origin(alloc, section)?;
+    let terms = terms(alloc, section)?;
+    let title = Text::from_str(alloc, title)?;
+    let description = Text::from_str(alloc, description)?;
+    Ok(Metadata::of_groups(subject, kinds, origin, terms, title, description))
+}
+
+/// A refusal of lists of requirements, as the refusal of the table that holds them.
+fn as_parse(alloc: Global, section: Section<'_>, error: Error) -> Error
+    ensures memory { error ≡ out_of_memory → result ≡ out_of_memory }
+    ensures kind { IsOfKind ErrorKind.Parse result }
+{
+    if error.kind() == ErrorKind::OutOfMemory {
+        return Error::from(AllocError);
+    }
+    let (name, message) = (section.name, error.message());
+    match format!(in alloc; "{name}: {message}") {
+        Ok(message) => match error.cause() {
+            Some(cause) => Error::with_source(alloc, ErrorKind::Parse, &message, cause),
+            None => Error::new(alloc, ErrorKind::Parse, &message),
+        },
+        Err(refused) => Error::from(refused),
+    }
+}
+
+/// The lists of the table `versions`.
+pub fn versions(alloc: Global, section: Section<'_>) -> Result<Versions>
+    ensures ok { IfOk result (AreVersions (table_view section.entry.table.now)) }
+    ensures err { IfErr result (IsRefusal ErrorKind.Parse ((ls : Lists) → ¬ AreVersions (table_view section.entry.table.now) ls)) }
+{
+    let patched = requirements_at(alloc, section, "patched")?;
+    let unaffected = optional_requirements_at(alloc, section, "unaffected")?;
+    match Versions::new(alloc, patched, unaffected) {
+        Ok(versions) => Ok(versions),
+        Err(e) => Err(as_parse(alloc, section, e)),
+    }
+}
+
+/// The table of the functions, under its name.
+fn functions_section(table: &Table) -> Section<'_>
+    ensures { table_view result.table.now ≡ table_view table.now }
+{
+    Section {
+        table,
+        name: "[affected.functions]",
+    }
+}
+
+/// The path of a key of the table of the functions.
+fn function_path(alloc: Global, table: &Table, key: &str) -> Result<FunctionPath>
+    ensures ok { IfOk result (λ p. path_of key.now ≡ Some p) }
+    ensures err { IfErr result (IsRefusal ErrorKind.Parse (path_of key.now ≡ None)) }
+{
+    functions_section(table).read(alloc, key, key)
+}
+
+/// The functions of a table, by their paths.
+fn functions(alloc: Global, table: &Table) -> Result<SortedMap<FunctionPath, Requirements>>
+    ensures ok { IfOk result (AreFunctions (table_view table.now)) }
+    ensures err { IfErr result (IsRefusal ErrorKind.Parse ((fs : List Function) → ¬ AreFunctions (table_view table.now) fs)) }
+{
+    let mut functions = SortedMap::new(alloc);
+    for (key, value) in table.iter() {
+        let name = key.as_str();
+        let path = function_path(alloc, table, name)?;
+        let reqs = requirements(alloc, functions_section(table), name, value)?;
+        functions.insert(path, Requirements::from(reqs))?;
+    }
+    Ok(functions)
+}
+
+/// The functions at a key, none if it is missing.
+fn functions_at(
+    alloc: Global,
+    section: Section<'_>,
+    key: &str,
+) -> Result<SortedMap<FunctionPath, Requirements>>
+    ensures ok { IfOk result (AreFunctionsAt (get_member key.now (table_view section.entry.table.now))) }
+    ensures err { IfErr result (IsRefusal ErrorKind.Parse
+        ((fs : List Function) → ¬ AreFunctionsAt (get_member key.now (table_view section.entry.table.now)) fs)) }
+{
+    let Some(value) = section.get(key) else {
+        return Ok(SortedMap::new(alloc));
+    };
+    match value.as_table() {
+        Some(inner) => functions(alloc, inner),
+        None => Err(section.unexpected(alloc, key, value, "a table")),
+    }
+}
+
+/// What the table `affected` says.
+fn affected_in(alloc: Global, section: Section<'_>) -> Result<Affected>
+    ensures ok { IfOk result (IsAffected (table_view section.entry.table.now)) }
+    ensures err { IfErr result (IsRefusal ErrorKind.Parse ((a : affected.Affected) → ¬ IsAffected (table_view section.entry.table.now) a)) }
+{
+    let arch = section.texts_at(alloc, "arch")?;
+    let os = section.texts_at(alloc, "os")?;
+    let functions = functions_at(alloc, section, "functions")?;
+    Ok(Affected {
+        arch,
+        os,
+        functions,
+    })
+}
+
+/// What the table `affected` says at a key, if it is there.
+pub fn affected_at(alloc: Global, section: Section<'_>, key: &str) -> Result<Option<Affected>>
+    ensures ok { IfOk result (IsAffectedAt (get_member key.now (table_view section.entry.table.now))) }
+    ensures err { IfErr result (IsRefusal ErrorKind.Parse
+        ((a : Option affected.Affected) → ¬ IsAffectedAt (get_member key.now (table_view section.entry.table.now)) a)) }
+{
+    let Some(value) = section.get(key) else {
+        return Ok(None);
+    };
+    let Some(table) = value.as_table() else {
+        return Err(section.unexpected(alloc, key, value, "a table"));
+    };
+    let affected = affected_in(
+        alloc,
+        Section {
+            table,
+            name: "[affected]",
+        },
+    )?;
+    Ok(Some(affected))
+}
