@@ -1,5 +1,5 @@
 -- Behind the order of starts, intervals are apart where neighbours are.
-use Rattle.std.proofs.Common.{◌≡◌, ◌&&◌, Bool, true, false, List, [], ◌∷◌, map, refl, sym, ap, ◌∙◌, inl, inr, IsPermutation}
+use Rattle.std.proofs.Common.{◌≡◌, ◌&&◌, Bool, true, false, List, [], ◌∷◌, map, refl, sym, ◌∙◌, inl, inr, IsPermutation}
 use Rattle.std.specs.Prelude.{filter_map}
 use Rattle.std.specs.Borrow.{Bor}
 use Rattle.std.specs.List.{list_any}
@@ -15,7 +15,7 @@ use Rattle.rustsec_versions.proofs.Agreement.{intervals-admissible}
 use Rattle.rustsec_versions.proofs.AreRanges.{admissible_shuffled, apart_shuffled, sound_shuffled}
 use Rattle.rustsec_versions.proofs.Chain.{AllAdmissible, StartsRise, earlier-reaches, starts-rise}
 use Rattle.rustsec_versions.proofs.Clashes.{AllSound, are_apart-plain, intervals-sound}
-use Rattle.rustsec_versions.proofs.Shuffled.{Shuffled, shuffled}
+use Rattle.rustsec_versions.proofs.Shuffled.{shuffled}
 use Rattle.rustsec_versions.proofs.Sound.{admissible-reaches, overlap-plain}
 
 and-false : (a b : Bool) → b ≡ false → (a && b) ≡ false

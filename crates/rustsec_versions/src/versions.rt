@@ -40,7 +40,7 @@ pub struct Versions {
 
 impl Model for Versions {
     ghost use Rattle.std.specs.Prelude.{◌≡◌};
-    ghost use Rattle.rustsec_versions.specs.Lists.{Lists, intervals};
+    ghost use Rattle.rustsec_versions.specs.Lists.{Lists, intervals as listed_intervals};
     ghost use Rattle.rustsec_versions.specs.StoredRanges.{AreRangesOf};
 
     ghost Value = { Lists };
@@ -48,7 +48,7 @@ impl Model for Versions {
     ghost view = { λ v. record { patched = v.patched; unaffected = v.unaffected } };
 
     ghost invariant = { λ v. AreRangesOf (record { patched = v.patched; unaffected = v.unaffected }) v.ranges.items
-        × (v.intervals.items ≡ intervals (record { patched = v.patched; unaffected = v.unaffected })) };
+        × (v.intervals.items ≡ listed_intervals (record { patched = v.patched; unaffected = v.unaffected })) };
 }
 
 /// Appends the interval of each requirement.
@@ -136,11 +136,15 @@ fn any_holds(intervals: &[UnaffectedRange], version: &Version) -> bool
     intervals.iter().any(|interval| interval.holds(version))
 }
 
+/// Whether a version has no pre-release. It is valid then, since its numbers have 64 bits; the
+/// prover knows so of numbers that the body reads.
 #[tactic(auto, using(crate::proofs::Parsed::release_valid))]
-/// Whether a version has no pre-release. It is valid then.
 fn is_release(version: &Version) -> bool
     ensures { result ≡ true → IsVersion (parts_of version.now) }
 {
+    let _major = version.major;
+    let _minor = version.minor;
+    let _patch = version.patch;
     version.pre.is_empty()
 }
 

@@ -1,4 +1,4 @@
-use Rattle.std.proofs.Common.{◌-◌, ◌≡◌, ◌+◌, ◌<◌, ◌≤◌, ◌^◌, ℕ, false, get_or, length, true}
+use Rattle.std.proofs.Common.{◌-◌, ◌≡◌, ◌<◌, ◌≤◌, ◌^◌, ℕ, false, get_or, length, true}
 use Rattle.semver.specs.Identifiers.{parts_of}
 use Rattle.rustsec_versions.specs.Ranges.{Range, is_from}
 use Rattle.rustsec_versions.proofs.Halving.{WithinDigits}

@@ -1,4 +1,4 @@
-use Rattle.std.proofs.Common.{◌≡◌, ◌∙◌, sym}
+use Rattle.std.proofs.Common.{◌∙◌, sym}
 use Rattle.semver.specs.Identifiers.{parts_of}
 use Rattle.rustsec_versions.specs.StoredRanges.{AreRangesOf}
 use Rattle.rustsec_versions.proofs.Agreement.{kept-in_turn, kept-length}

@@ -13,7 +13,7 @@ returns-in_err-intervals-clause-err c =
 
 pub returns-in_err-ranges-clause-err : goal.returns-in_err-ranges-clause-err
 returns-in_err-ranges-clause-err c =
-    let p = err_from_is_err_and c.from_residual.result c.from_residual.ensures.1 in
+    let p = err_from_is_err_and c.from_residual-in_err-ranges.result c.from_residual-in_err-ranges.ensures.1 in
     let bad = rw (c.from-patched.ensures, c.from-unaffected.ensures) at c.in_err-ranges.ensures.err in
     rw (p.1, p.2) bad
 
