@@ -20,6 +20,10 @@ mod cvss;
 #[cfg(test)]
 mod dates;
 #[cfg(test)]
+mod fakes;
+#[cfg(test)]
+mod file_contents;
+#[cfg(test)]
 mod fixes;
 #[cfg(test)]
 mod fixtures;
@@ -39,6 +43,8 @@ mod lookups;
 mod packages;
 #[cfg(test)]
 mod platforms;
+#[cfg(test)]
+mod readers_and_writers;
 #[cfg(test)]
 mod refusal_messages;
 #[cfg(test)]

@@ -89,7 +89,7 @@ fn invalid_advisory_lint(rt: HostRuntime) -> Result<(), Fail> {
 }
 
 #[test]
-fn lint_single_errors(rt: HostRuntime) -> Result<(), Fail> {
+fn lint_single_faults(rt: HostRuntime) -> Result<(), Fail> {
     expect_errors(
         &rt,
         &[

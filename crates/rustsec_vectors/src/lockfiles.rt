@@ -12,7 +12,7 @@ use std::rt::Files;
 use std::test::Fail;
 
 /// A lockfile of two packages, the second without a source and a checksum.
-const TWO_PACKAGES: &str = r#"version = 4
+pub const TWO_PACKAGES: &str = r#"version = 4
 
 [[package]]
 name = "base"
@@ -27,7 +27,7 @@ version = "0.1.0"
 "#;
 
 /// Its packages.
-const PACKAGES: &[Row] = &[
+pub const PACKAGES: &[Row] = &[
     (
         "base",
         "1.0.0",
@@ -119,7 +119,7 @@ fn lockfile_tables(rt: HostRuntime) -> Result<(), Fail> {
 }
 
 /// Whether the lockfile in a file of these bytes has these packages. The file is removed again.
-fn file_has<T: Files + AllocGlobal>(
+pub fn file_has<T: Files + AllocGlobal>(
     rt: &T,
     path: &str,
     bytes: &[u8],
