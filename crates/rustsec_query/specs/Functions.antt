@@ -7,13 +7,13 @@ use Rattle.rustsec_advisory.specs.Affected.{Function}
 use Rattle.rustsec_advisory.specs.declared.affected.Affected.{Affected}
 use Rattle.rustsec_query.specs.declared.vulnerability.Vulnerability.{Vulnerability}
 
--- whether a version matches some requirement of a function, by Cargo's rule of matching
-abbrev pub is_function_of : Parts → Function → Bool
-is_function_of v f = list_any (λ r. matches_views r v) f.1
+-- whether a version matches some requirement, by Cargo's rule of matching
+abbrev pub matches_some : Parts → List (List Held) → Bool
+matches_some v rs = list_any (λ r. matches_views r v) rs
 
 -- the paths of the functions of which a version matches some requirement, in their order
 abbrev pub matching : Parts → List Function → List (List (List ℕ))
-matching v fs = map (λ (f : Function). f.0) (filter (is_function_of v) fs)
+matching v fs = map (λ (f : Function). f.0) (filter (λ (f : Function). matches_some v f.1) fs)
 
 -- the same of functions that may not be listed
 abbrev pub listed : Parts → List Function → Option (List (List (List ℕ)))

@@ -1,6 +1,7 @@
 //! Which advisories a query selects, and the vulnerabilities of packages.
 #![tactic(auto)]
 
+mod functions;
 mod query;
 mod tests_of_fields;
 mod vulnerability;

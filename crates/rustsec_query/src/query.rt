@@ -271,24 +271,18 @@ impl Query {
     pub fn matches(&self, advisory: &Advisory) -> bool
         ensures { result ≡ selects self.now advisory.now }
     {
-        self.passes(
-            self.package_name.as_ref(),
-            self.package_version.as_ref(),
-            self.package_source.as_ref(),
-            advisory,
-        )
+        let version = self.package_version.as_ref();
+        let source = self.package_source.as_ref();
+        self.passes(self.package_name.as_ref(), version, source, advisory)
     }
 
     /// Whether an advisory matches the query that `package` would make of this one. It takes no memory.
     pub fn matches_package(&self, package: &Package, advisory: &Advisory) -> bool
         ensures { result ≡ selects (of_package self.now «package».now) advisory.now }
     {
-        self.passes(
-            Some(&package.name),
-            Some(&package.version),
-            package.source.as_ref(),
-            advisory,
-        )
+        let version = Some(&package.version);
+        let source = package.source.as_ref();
+        self.passes(Some(&package.name), version, source, advisory)
     }
 
     /// An equal query.

@@ -1,0 +1,79 @@
+// The affected functions of a vulnerability.
+
+ghost use Rattle.std.specs.Prelude.{◌≡◌, IfErr, IfOk, List, map, option_map};
+ghost use Rattle.std.specs.List.{list_any};
+ghost use Rattle.semver.specs.EvalViews.{matches_views};
+ghost use Rattle.semver.specs.Identifiers.{parts_of};
+ghost use Rattle.rustsec_versions.specs.Failure.{IsMemory};
+ghost use Rattle.rustsec_versions.specs.Views.{comparators_of};
+ghost use Rattle.rustsec_query.specs.Functions.{functions_of, matching, matches_some};
+
+use crate::vulnerability::Vulnerability;
+use rustsec_texts::FunctionPath;
+use rustsec_values::SortedMap;
+use rustsec_versions::Requirements;
+use semver::{Version, VersionReq};
+use std::alloc::{AllocError, Global};
+
+/// Whether a version matches a requirement, by Cargo's rule.
+fn matches_one(req: &VersionReq, version: &Version) -> bool
+    ensures { result ≡ matches_views (comparators_of req.now) (parts_of version.now) }
+{
+    req.matches(version)
+}
+
+/// Whether a version matches some requirement.
+fn matches_some(reqs: &[VersionReq], version: &Version) -> bool
+    ensures { result ≡ matches_some (parts_of version.now) (map comparators_of reqs.now) }
+{
+    for req in reqs {
+        if matches_one(req, version) {
+            return true;
+        }
+    }
+    false
+}
+
+/// The paths of the functions of which a version matches some requirement, in their order.
+fn matching(
+    alloc: Global,
+    functions: &SortedMap<FunctionPath, Requirements>,
+    version: &Version,
+) -> Result<Vec<FunctionPath>, AllocError>
+    ensures { IfOk result (λ v. v.items ≡ matching (parts_of version.now) functions.now) }
+{
+    let mut paths = Vec::new(alloc);
+    for (path, reqs) in functions.as_map() {
+        if matches_some(reqs.as_slice(), version) {
+            paths.push(Clone::clone(path)?)?;
+        }
+    }
+    Ok(paths)
+}
+
+impl Vulnerability {
+    /// The paths of the listed functions of which some requirement matches the package's version, by
+    /// Cargo's rule of matching, in the order of paths. It answers none if no function is listed.
+    ///
+    /// # Errors
+    ///
+    /// `OutOfMemory` alone.
+    pub fn affected_functions(
+        &self,
+        alloc: Global,
+    ) -> rustsec_versions::Result<Option<Vec<FunctionPath>>>
+        ensures ok { IfOk result (λ o. option_map (λ v. v.items) o ≡ functions_of self.now) }
+        ensures err { IfErr result IsMemory }
+    {
+        match &self.affected {
+            Some(affected) => {
+                if affected.functions.is_empty() {
+                    return Ok(None);
+                }
+                let paths = matching(alloc, &affected.functions, &self.package.version)?;
+                Ok(Some(paths))
+            }
+            None => Ok(None),
+        }
+    }
+}
