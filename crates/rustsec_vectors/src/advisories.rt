@@ -434,12 +434,12 @@ fn files_that_cannot_be_read(rt: HostRuntime) -> Result<(), Fail> {
     fs::write(&rt, "no-text.md", b"```toml\n\xff\n```\n# T\n".as_slice())?;
     fs::write(&rt, "no-advisory.md", "# T\n")?;
     for (path, kind, message, caused) in &[
-        ("absent.md", ErrorKind::Io, "couldn't open absent.md", false),
+        ("absent.md", ErrorKind::Io, "couldn't open absent.md", true),
         (
             "no-text.md",
             ErrorKind::Io,
             "couldn't open no-text.md",
-            false,
+            true,
         ),
         (
             "no-advisory.md",

@@ -46,6 +46,8 @@ mod platforms;
 #[cfg(test)]
 mod readers_and_writers;
 #[cfg(test)]
+mod readings;
+#[cfg(test)]
 mod refusal_messages;
 #[cfg(test)]
 mod refused_requirements;

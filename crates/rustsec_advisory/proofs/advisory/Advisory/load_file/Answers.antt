@@ -1,0 +1,10 @@
+use Rattle.std.proofs.Common.{inr}
+use Rattle.rustsec_advisory.proofs.FileRefusals.{names_file, same_reason}
+use Rattle.rustsec_advisory.proofs.advisory.Advisory.load_file.Goals as goal
+
+pub returns-clause-err : goal.returns-clause-err
+returns-clause-err g c =
+    inr (c.deref.result.now, same_reason _ _ _ c.in-Err.ensures.err c.refused_file.ensures.kind c.refused_file.ensures.memory)
+
+pub returns-clause-names : goal.returns-clause-names
+returns-clause-names g c = names_file _ _ _ c.refused_file.ensures.message

@@ -1,0 +1,145 @@
+// Readers to their end, names in paths, and what is said of a refused front matter.
+
+use rustsec_advisory::Advisory;
+use rustsec_files::{path, reading};
+use rustsec_versions::{Error, ErrorKind};
+use std::alloc::Global;
+use std::test::Fail;
+
+/// Whether a reader's bytes are these, all of them.
+fn bytes_are_read(alloc: Global, bytes: &[u8]) -> bool {
+    let mut reader = bytes;
+    match reading::bytes_of(alloc, &mut reader) {
+        Ok(all) => all.as_slice() == bytes,
+        Err(_) => false,
+    }
+}
+
+/// So many bytes.
+fn many(alloc: Global, count: usize) -> Result<Vec<u8>, Fail> {
+    let mut bytes = Vec::new(alloc);
+    for at in 0..count {
+        bytes.push((at % 251) as u8)?;
+    }
+    Ok(bytes)
+}
+
+/// Whether so many bytes are read, all of them.
+fn many_are_read(alloc: Global, count: usize) -> Result<bool, Fail> {
+    let bytes = many(alloc, count)?;
+    Ok(bytes_are_read(alloc, &bytes))
+}
+
+#[test]
+fn readers_to_their_end(rt: HostRuntime) -> Result<(), Fail> {
+    for count in &[0, 1, 65535, 65536, 65537, 1200000] {
+        assert!(rt; many_are_read(rt.alloc(), *count)?, "of {count}");
+    }
+    Ok(())
+}
+
+/// Whether the text of a reader is this one, or refused if there is none.
+fn text_is(alloc: Global, bytes: &[u8], want: Option<&str>) -> bool {
+    let mut reader = bytes;
+    match (reading::text_of(alloc, &mut reader, "x.md"), want) {
+        (Ok(text), Some(want)) => text.as_str() == want,
+        (Err(error), None) => error.kind() == ErrorKind::Io,
+        _ => false,
+    }
+}
+
+#[test]
+fn texts_of_readers(rt: HostRuntime) {
+    for (bytes, want) in &[
+        (b"".as_slice(), Some("")),
+        (b"a\r\nb\r\n", Some("a\r\nb\r\n")),
+        (b"\xef\xbb\xbfa", Some("\u{feff}a")),
+        (b"a\xff", None),
+    ] {
+        assert!(rt; text_is(rt.alloc(), bytes, *want), "of {want:?}");
+    }
+}
+
+#[test]
+fn names_in_paths(rt: HostRuntime) {
+    for (whole, file, folder, parent) in &[
+        (
+            "crates/base/x.md",
+            Some("x.md"),
+            Some("base"),
+            Some("crates"),
+        ),
+        (
+            "/db/./crates//base/./x.md/.",
+            Some("x.md"),
+            Some("base"),
+            Some("crates"),
+        ),
+        ("base/../x.md", Some("x.md"), Some(".."), Some("base")),
+        ("x.md", Some("x.md"), None, None),
+        ("./", None, None, None),
+    ] {
+        assert!(rt; path::file_name(whole) == *file, "of {whole}");
+        assert!(rt; path::folder(whole) == *folder, "of {whole}");
+        assert!(rt; path::folder_parent(whole) == *parent, "of {whole}");
+    }
+}
+
+#[test]
+fn files_of_their_ids(rt: HostRuntime) {
+    for (whole, id, named) in &[
+        (
+            "crates/base/RUSTSEC-2001-2101.md",
+            "RUSTSEC-2001-2101",
+            true,
+        ),
+        (
+            "crates/base/RUSTSEC-2001-2101.md",
+            "RUSTSEC-2001-210",
+            false,
+        ),
+        (
+            "crates/base/RUSTSEC-2001-2101.MD",
+            "RUSTSEC-2001-2101",
+            false,
+        ),
+        ("RUSTSEC-2001-2101.md.md", "RUSTSEC-2001-2101", false),
+        ("", "", false),
+    ] {
+        assert!(rt;
+            path::is_markdown_file_of(whole, id) == *named,
+            "of {whole}"
+        );
+    }
+}
+
+/// Whether an advisory with this front matter is refused with this message.
+fn is_refused(alloc: Global, front: &str, want: &str) -> Result<bool, Fail> {
+    let text = format!(in alloc; "```toml\n{front}\n```\n# T\n")?;
+    match Advisory::from_str(alloc, &text) {
+        Ok(_) => Ok(false),
+        Err(error) => Ok(error.kind() == ErrorKind::Parse && error.message() == want),
+    }
+}
+
+#[test]
+fn messages_name_key_and_table(rt: HostRuntime) -> Result<(), Fail> {
+    for (front, want) in &[
+        ("package = \"a\"", "key `id` is missing in [advisory]"),
+        (
+            "id = 3",
+            "key `id` in [advisory]: found integer `3`, expected a string",
+        ),
+        (
+            "id = \"X-1\"\npackage = \"a\"\ndate = \"2001-02-03\"",
+            "key `versions` is missing in the front matter",
+        ),
+        (
+            "id = \"X-1\"\npackage = \"a\"\ndate = \"2001-02-03\"\n[versions]\npatched = 1",
+            "key `patched` in [versions]: found integer `1`, expected an array of strings",
+        ),
+    ] {
+        assert!(rt; is_refused(rt.alloc(), front, want)?, "of {want}");
+    }
+    Ok(())
+}
