@@ -5,6 +5,7 @@ use Rattle.semver.specs.Parse.{Parts, version_parts}
 use Rattle.toml.specs.Data.{Data, Items, Members, as_array, as_str, as_table, get_member, item, no_items}
 use Rattle.toml.specs.Parse.{parse_document}
 use Rattle.rustsec_values.specs.Reading.{◌>>=◌, read_all, read_optional, value_of}
+use Rattle.rustsec_files.specs.ReadFailures.{read_message}
 use Rattle.rustsec_versions.specs.Failure.{Failure, out_of_memory}
 use Rattle.rustsec_versions.specs.Precedence.{IsVersion}
 use Rattle.rustsec_lock.specs.Names.{name_of}
@@ -64,4 +65,4 @@ AreValid ps = All (λ (p : PackageValue). IsVersion p.version) ps
 
 -- the message of a failure to load a lockfile names its path; out of memory has no message
 abbrev pub NamesLockfile : List ℕ → Failure → Type 0
-NamesLockfile path e = (e.message ≡ codes "error parsing " ++ path) ⊎ ((e.message ≡ codes "couldn't read " ++ path) ⊎ (e ≡ out_of_memory))
+NamesLockfile path e = (e.message ≡ codes "error parsing " ++ path) ⊎ ((e.message ≡ read_message path) ⊎ (e ≡ out_of_memory))
