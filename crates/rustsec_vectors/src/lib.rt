@@ -48,6 +48,8 @@ mod readers_and_writers;
 #[cfg(test)]
 mod readings;
 #[cfg(test)]
+mod readme;
+#[cfg(test)]
 mod refusal_messages;
 #[cfg(test)]
 mod refused_requirements;
