@@ -17,7 +17,7 @@ pub trait ToTree {
     ///
     /// # Errors
     ///
-    /// Want of memory.
+    /// Out of memory.
     fn to_tree(&self, alloc: Global) -> Result<Value, AllocError>
         ensures { IfOk result (λ v. view v ≡ Self.tree self.now) };
 }
