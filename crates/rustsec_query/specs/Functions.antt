@@ -1,8 +1,8 @@
 -- The affected functions of a vulnerability.
-use Rattle.std.specs.Prelude.{ℕ, Bool, List, [], ◌∷◌, Option, Some, None, map}
+use Rattle.std.specs.Prelude.{ℕ, ◌==◌, Bool, List, Option, Some, None, if◌then◌else◌, length, map}
 use Rattle.std.specs.List.{filter, list_any}
 use Rattle.semver.specs.EvalViews.{matches_views}
-use Rattle.semver.specs.Parse.{Parts}
+use Rattle.semver.specs.Parse.{Held, Parts}
 use Rattle.rustsec_advisory.specs.Affected.{Function}
 use Rattle.rustsec_advisory.specs.declared.affected.Affected.{Affected}
 use Rattle.rustsec_query.specs.declared.vulnerability.Vulnerability.{Vulnerability}
@@ -15,14 +15,10 @@ matches_some v rs = list_any (λ r. matches_views r v) rs
 abbrev pub matching : Parts → List Function → List (List (List ℕ))
 matching v fs = map (λ (f : Function). f.0) (filter (λ (f : Function). matches_some v f.1) fs)
 
--- the same of functions that may not be listed
-abbrev pub listed : Parts → List Function → Option (List (List (List ℕ)))
-listed v [] = None
-listed v (f ∷ fs) = Some (matching v (f ∷ fs))
-
+-- the same of a table `affected` that may be missing, or may list no function
 abbrev pub functions_at : Parts → Option Affected → Option (List (List (List ℕ)))
 functions_at v None = None
-functions_at v (Some a) = listed v a.functions
+functions_at v (Some a) = if length a.functions == 0 then None else Some (matching v a.functions)
 
 -- the affected functions of a vulnerability: none where no function is listed
 abbrev pub functions_of : Vulnerability → Option (List (List (List ℕ)))

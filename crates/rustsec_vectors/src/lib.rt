@@ -44,6 +44,8 @@ mod packages;
 #[cfg(test)]
 mod platforms;
 #[cfg(test)]
+mod query_builders;
+#[cfg(test)]
 mod readers_and_writers;
 #[cfg(test)]
 mod readings;
