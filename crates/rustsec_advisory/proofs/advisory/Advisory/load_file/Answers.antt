@@ -7,4 +7,4 @@ returns-clause-err g c =
     inr (c.deref.result.now, same_reason _ _ _ c.in-Err.ensures.err c.refused_file.ensures.kind c.refused_file.ensures.memory)
 
 pub returns-clause-names : goal.returns-clause-names
-returns-clause-names g c = names_file _ _ _ c.refused_file.ensures.message
+returns-clause-names g c = names_file c.args.path.now c.in-Err.e c.refused_file.result c.refused_file.ensures.message
