@@ -20,7 +20,6 @@ pub(crate) fn add_word(alloc: Global, words: &mut Items<Text>, word: &str) -> Re
 }
 
 /// Puts the words behind others that name a manifest.
-#[tactic(auto, using(std::proofs::Common::append_assoc))]
 fn add_path(alloc: Global, words: &mut Items<Text>, path: &str) -> Result<()>
     ensures ok { OnOk result (words.new ≡ words.old ++ manifest_words (Some path.now)) }
     ensures err { IfErr result IsMemory }
