@@ -1,16 +1,16 @@
 -- The refusal of a file's text as that of the file.
-use Rattle.std.proofs.Common.{◌≡◌, ◌⊎◌, ◌∙◌, ◌++◌, ℕ, List, codes, ap, inl, inr}
+use Rattle.std.proofs.Common.{◌≡◌, ◌⊎◌, ◌∙◌, ℕ, List, inl, inr}
 use Rattle.rustsec_versions.specs.Failure.{Failure, IsMemory, IsOfKind, IsRefusal}
 use Rattle.rustsec_versions.specs.Refusals.{of_file}
 use Rattle.rustsec_versions.specs.declared.error.ErrorKind.{ErrorKind}
 use Rattle.rustsec_advisory.specs.FileRefusals.{NamesFile}
 
--- a refusal that keeps the kind and want of memory keeps the reason
+-- a refusal that keeps the kind and out of memory keeps the reason
 pub same_reason : {P : Type 0} (k : ErrorKind) (e r : Failure) → IsRefusal k P e → IsOfKind e.kind r → (IsMemory e → IsMemory r) → IsRefusal k P r
 same_reason k e r (inl bad) (inl same) keeps = inl (same ∙ bad.0, bad.1)
 same_reason k e r (inl bad) (inr memory) keeps = inr memory
 same_reason k e r (inr memory) h keeps = inr (keeps memory)
 
 pub names_file : (path : List ℕ) (e r : Failure) → (r ≡ of_file path e) ⊎ IsMemory r → NamesFile path r
-names_file path e r (inl same) = inr (ap (λ (f : Failure). f.message) same)
+names_file path e r (inl same) = inr (e, same)
 names_file path e r (inr memory) = inl (inr memory)

@@ -14,7 +14,7 @@ printed (Err e) = None
 abbrev pub address_of : List ℕ → Option (List ℕ)
 address_of text = printed (parse_url None text)
 
--- what a parser answers, none for a refusal, and want of memory for want of room alone
+-- what a parser answers, none for a refusal, and out of memory for want of room alone
 abbrev pub unless_no_room : {T : Type 0} → Parsed T → Result (Option T) AllocError
 unless_no_room (Ok url) = Ok (Some url)
 unless_no_room (Err reason.OutOfMemory) = Err alloc_error

@@ -27,7 +27,7 @@ abbrev pub at : {A : Type 0} → List ℕ → List (List ℕ × A) → Option A
 at text entries = lookup (pointwise nat_eq text) entries
 
 -- what is kept of an answer: of each version what its list says of it; a missing name as one; a failure as it is,
--- unless it is want of memory, of which nothing is kept
+-- unless it is out of memory, of which nothing is kept
 abbrev pub IsKeptOf : Answer → Kept → Type 0
 IsKeptOf (Ok None) (Ok None) = Unit {0}
 IsKeptOf (Ok (Some versions)) (Ok (Some entries)) = (text : List ℕ) → at text entries ≡ listed text versions
