@@ -40,7 +40,7 @@ pub fn bytes_of<R: Read>(alloc: Global, reader: &mut R) -> io::Result<Vec<u8>>
     Err(io::Error::other("no end after 4294967296 reads"))
 }
 
-/// Whether reading failed for out of memory, and not for what was read.
+/// Whether reading failed since memory ran out, and not for what was read.
 pub fn is_out_of_memory(error: &io::Error) -> bool
     ensures { result ≡ true ↔ error_kind error.now ≡ IoErrorKind.OutOfMemory }
 {
