@@ -69,6 +69,26 @@ OF_LINT = [
 ]
 
 
+def star_alone(command, data, ours, theirs):
+    """The export of one requirement without comparators leaves no range: the Rust crate stops; ours refuses."""
+    return theirs == PANIC and ours == (b"refused: bad parameter\n", 2)
+
+
+def checksum_of_another_form(command, data, ours, theirs):
+    """The Rust crate takes checksums of 64 hex digits alone; ours takes any text."""
+    return b"checksum = " in data and theirs == (b"refused: parse error\n", 2) and ours[1] < 2
+
+
+OF_OSV = [
+    number_of_an_advisory, starts_of_an_advisory, source_that_is_no_address, message_cut_inside_a_character, empty_name,
+    star_alone,
+]
+OF_DATABASES = [
+    number_of_an_advisory, starts_of_an_advisory, source_that_is_no_address, message_cut_inside_a_character, empty_name,
+    checksum_of_another_form,
+]
+
+
 def explained(departures, *case):
     """The name of the departure that explains a difference, if one does."""
     for departure in departures:
