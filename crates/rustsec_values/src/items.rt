@@ -19,7 +19,7 @@ use std::{fmt, slice};
 /// A list, which every contract sees as the list of its elements. It is compared element by element.
 #[derive(Drop)]
 pub struct Items<T> {
-    vector: Vec<T>,
+    pub(crate) vector: Vec<T>,
 }
 
 impl<T> Model for Items<T> {

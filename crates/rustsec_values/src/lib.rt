@@ -8,6 +8,7 @@ mod closed_table;
 mod items;
 mod laws;
 mod sorted_map;
+mod test;
 mod text;
 
 pub use crate::beginning::beginning_of;
@@ -15,4 +16,5 @@ pub use crate::closed_table::{Named, value_named};
 pub use crate::items::Items;
 pub use crate::laws::{ExactClone, ExactEq, StatedOrder};
 pub use crate::sorted_map::SortedMap;
+pub use crate::test::Test;
 pub use crate::text::Text;

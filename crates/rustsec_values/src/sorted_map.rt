@@ -21,7 +21,7 @@ use std::marker::Model;
 /// the keys, each key once.
 #[derive(Drop)]
 pub struct SortedMap<K: Ord, V> {
-    map: BTreeMap<K, V>,
+    pub(crate) map: BTreeMap<K, V>,
 }
 
 impl<K: Ord, V> Model for SortedMap<K, V> {

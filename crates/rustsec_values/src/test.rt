@@ -1,0 +1,38 @@
+// Tests of elements, and what passes one.
+
+ghost use Rattle.std.specs.Prelude.{◌≡◌, Bool, map};
+ghost use Rattle.std.specs.List.{filter};
+
+use crate::items::Items;
+use crate::sorted_map::SortedMap;
+
+/// A test of elements, whose answer at each one a contract knows.
+pub trait Test<T> {
+    ghost passes: { Self → T → Bool };
+
+    /// Whether an element passes.
+    fn passes(&self, element: &T) -> bool
+        ensures { result ≡ Self.passes self.now element.now };
+}
+
+impl<T: Drop> Items<T> {
+    /// Keeps the elements that pass a test, in their order. It takes no memory.
+    pub fn retain<P: Test<T>>(&mut self, test: &P)
+        ensures { self.new ≡ filter (P.passes test.now) self.old }
+    {
+        self.vector.retain(|element| test.passes(element));
+    }
+}
+
+impl<K: Ord + Drop, T: Drop> SortedMap<K, Items<T>> {
+    /// Keeps of each list the elements that pass a test, in their order, and every key, also where its
+    /// list becomes empty. It takes no memory.
+    pub fn retain_in_each<P: Test<T>>(&mut self, test: &P)
+        ensures { self.new ≡ map (λ e. (e.0, filter (P.passes test.now) e.1)) self.old }
+    {
+        self.map.retain(|_, list| {
+            list.retain(test);
+            true
+        });
+    }
+}
