@@ -1,13 +1,12 @@
 -- What holds by the answers that some folders allow holds by those that others allow, where these are the same.
 use Rattle.std.proofs.Common.{◌≡◌, ℕ, List, inl, inr}
-use Rattle.std.specs.Prelude.{◌⊎◌, Contains, None, Some}
+use Rattle.std.specs.Prelude.{◌⊎◌, Contains, None, Option, Some}
 use Rattle.rustsec_folders.specs.Allowed.{Allowed, AllowSame}
 use Rattle.rustsec_folders.specs.Listed.{AreFolders, FailsAtFile, FailsAtFolder, FailsBelow, FailsInFolder, IsCollection, IsCollectionIfThere, IsFile, IsFolder, Pairwise, ShowsFiles, ShowsFolders}
 use Rattle.rustsec_folders.specs.Names.{under}
+use Rattle.rustsec_folders.specs.declared.entry.FolderEntry.{FolderEntry}
 use Rattle.rustsec_folders.specs.declared.source_file.SourceFile.{SourceFile}
 use Rattle.rustsec_folders.proofs.Lists.{pairwise-weaker}
-use Rattle.rustsec_versions.specs.Failure.{Failure, IsRefusal}
-use Rattle.rustsec_versions.specs.declared.error.ErrorKind.{ErrorKind}
 
 pub same-refl : (a : Allowed) → AllowSame a a
 same-refl a = record { lists = λ path answer. (λ h. h, λ h. h); reads = λ path answer. (λ h. h, λ h. h) }
@@ -75,9 +74,10 @@ pub fails-below-before : (a b : Allowed) (collection : List ℕ) → AllowSame a
 fails-below-before a b collection same h =
     (h.0, shows-folders-before a b collection h.0 same h.1, fails-at-folder-before a b collection h.0 same h.2)
 
--- ---- refusals
+-- ---- at equal paths
 
--- a refusal for a reason that gives another one
-pub refusal-weaker : {P Q : Type 0} (k : ErrorKind) (e : Failure) → (P → Q) → IsRefusal k P e → IsRefusal k Q e
-refusal-weaker k e f (inl h) = inl (h.0, f h.1)
-refusal-weaker k e f (inr h) = inr h
+pub lists-at : (a : Allowed) (p q : List ℕ) (answer : Option (List FolderEntry)) → p ≡ q → a.lists p answer → a.lists q answer
+lists-at a p q answer is h = rw (← is) h
+
+pub reads-at : (a : Allowed) (p q : List ℕ) (answer : Option (List ℕ)) → p ≡ q → a.reads p answer → a.reads q answer
+reads-at a p q answer is h = rw (← is) h

@@ -9,9 +9,13 @@ use Rattle.rustsec_folders.specs.declared.entry.FolderEntry.{FolderEntry}
 abbrev pub under : List ℕ → List ℕ → List ℕ
 under folder name = folder ++ (codes "/" ++ name)
 
+-- whether a name begins with a dot
+abbrev pub begins_with_dot : List ℕ → Bool
+begins_with_dot name = starts_with nat_eq name (codes ".")
+
 -- whether an entry's name begins with no dot
 abbrev pub is_shown : FolderEntry → Bool
-is_shown entry = not (starts_with nat_eq entry.name (codes "."))
+is_shown entry = not (begins_with_dot entry.name)
 
 -- whether an entry is a folder
 abbrev pub is_folder : FolderEntry → Bool

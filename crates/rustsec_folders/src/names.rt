@@ -3,7 +3,7 @@
 ghost use Rattle.std.specs.Prelude.{◌≡◌, IfErr, IfOk, None, string_bytes};
 ghost use Rattle.rustsec_folders.specs.Allowed.{AllowSame};
 ghost use Rattle.rustsec_folders.specs.Listed.{ShowsFiles, ShowsFolders};
-ghost use Rattle.rustsec_folders.specs.Names.{AreInOrder, names_of, under};
+ghost use Rattle.rustsec_folders.specs.Names.{AreInOrder, begins_with_dot, names_of, under};
 ghost use Rattle.rustsec_versions.specs.Failure.{IsRefusal};
 
 use crate::entry::FolderEntry;
@@ -23,6 +23,13 @@ pub(crate) fn joined(
     format!(in alloc; "{folder}/{name}")
 }
 
+/// Whether a name begins with a dot.
+fn begins_with_dot(name: &str) -> bool
+    ensures { result ≡ begins_with_dot name.now }
+{
+    name.starts_with(".")
+}
+
 /// The test of entries whose names begin with no dot.
 struct Shown;
 
@@ -32,7 +39,7 @@ impl Test<FolderEntry> for Shown {
     ghost passes = { λ _ entry. is_shown entry };
 
     fn passes(&self, entry: &FolderEntry) -> bool {
-        !entry.name.as_str().starts_with(".")
+        !begins_with_dot(entry.name.as_str())
     }
 }
 

@@ -142,11 +142,17 @@ impl<'a, R: Files> Folders for RealFolders<'a, R> {
 
     ghost allowed = { λ _. every_answer };
 
-    fn list(&mut self, alloc: Global, path: &str) -> Result<Items<FolderEntry>> {
+    fn list(&mut self, alloc: Global, path: &str) -> Result<Items<FolderEntry>>
+        ensures kind { IfErr result (IsOfKind ErrorKind.Io) }
+        ensures names { IfErr result (IsReadFailure path.now) }
+    {
         entries(self.files, alloc, path)
     }
 
-    fn read(&mut self, alloc: Global, path: &str) -> Result<Text> {
+    fn read(&mut self, alloc: Global, path: &str) -> Result<Text>
+        ensures kind { IfErr result (IsOfKind ErrorKind.Io) }
+        ensures names { IfErr result (IsReadFailure path.now) }
+    {
         let text = text(self.files, alloc, path)?;
         Ok(Text::from(text))
     }

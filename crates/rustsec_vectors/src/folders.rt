@@ -61,7 +61,11 @@ struct Row<'a> {
 /// Checks rows of the root `db`.
 fn expect<T: AllocGlobal + Abort>(rt: &T, rows: &[Row<'_>]) {
     for row in rows {
-        assert!(rt; finds_in_memory(rt.alloc(), row.paths, NONE, "db", &row.want), "of {}", row.name);
+        assert!(rt;
+            finds_in_memory(rt.alloc(), row.paths, NONE, "db", &row.want),
+            "of {}",
+            row.name
+        );
     }
 }
 
@@ -73,7 +77,10 @@ fn open_folders(rt: HostRuntime) {
             Row {
                 name: "one advisory, and no rust",
                 paths: &[
-                    ("db/crates", Holds::Entries(&[("base", true), ("README", false)])),
+                    (
+                        "db/crates",
+                        Holds::Entries(&[("base", true), ("README", false)]),
+                    ),
                     (
                         "db/crates/base",
                         Holds::Entries(&[("RUSTSEC-2001-2101.md", false), (".DS_Store", false)]),
@@ -114,13 +121,22 @@ fn in_name_order(rt: HostRuntime) {
                 ("db/rust/a/0", Holds::Text("7")),
                 (
                     "db/crates",
-                    Holds::Entries(&[("b", true), ("a-b", true), ("é", true), ("B", true), ("a", true)]),
+                    Holds::Entries(&[
+                        ("b", true),
+                        ("a-b", true),
+                        ("é", true),
+                        ("B", true),
+                        ("a", true),
+                    ]),
                 ),
                 ("db/crates/b", Holds::Entries(&[])),
                 ("db/crates/a-b", Holds::Entries(&[("y", false)])),
                 ("db/crates/é", Holds::Entries(&[("w", false)])),
                 ("db/crates/B", Holds::Entries(&[("z", false)])),
-                ("db/crates/a", Holds::Entries(&[("x10", false), ("x2", false), ("x", false)])),
+                (
+                    "db/crates/a",
+                    Holds::Entries(&[("x10", false), ("x2", false), ("x", false)]),
+                ),
                 ("db/crates/B/z", Holds::Text("1")),
                 ("db/crates/a/x", Holds::Text("2")),
                 ("db/crates/a/x10", Holds::Text("3")),
@@ -151,9 +167,17 @@ fn names_that_are_passed_over(rt: HostRuntime) {
                 paths: &[
                     (
                         "db/crates",
-                        Holds::Entries(&[(".git", true), ("a", true), ("f.md", false), (".f", false)]),
+                        Holds::Entries(&[
+                            (".git", true),
+                            ("a", true),
+                            ("f.md", false),
+                            (".f", false),
+                        ]),
                     ),
-                    ("db/crates/a", Holds::Entries(&[(".x.md", false), ("..", false), ("x.", false)])),
+                    (
+                        "db/crates/a",
+                        Holds::Entries(&[(".x.md", false), ("..", false), ("x.", false)]),
+                    ),
                     ("db/crates/a/x.", Holds::Text("1")),
                     ("db/rust", Holds::Entries(&[("a.md", false), (".b", true)])),
                 ],
@@ -163,7 +187,10 @@ fn names_that_are_passed_over(rt: HostRuntime) {
                 name: "a name that an answer has twice",
                 paths: &[
                     ("db/crates", Holds::Entries(&[("a", true)])),
-                    ("db/crates/a", Holds::Entries(&[("x", false), ("w", false), ("x", false)])),
+                    (
+                        "db/crates/a",
+                        Holds::Entries(&[("x", false), ("w", false), ("x", false)]),
+                    ),
                     ("db/crates/a/w", Holds::Text("1")),
                     ("db/crates/a/x", Holds::Text("2")),
                 ],
@@ -211,7 +238,10 @@ fn failing_steps(rt: HostRuntime) {
             at: *at,
             kind: *kind,
         };
-        assert!(rt; finds_in_memory(rt.alloc(), BOTH, failing, "db", want), "at {at}");
+        assert!(rt;
+            finds_in_memory(rt.alloc(), BOTH, failing, "db", want),
+            "at {at}"
+        );
     }
 }
 
@@ -237,7 +267,11 @@ fn finds_on_disk<T: Files + AllocGlobal>(
     let alloc = rt.alloc();
     fs::create_dir_all(rt, &format!(in alloc; "{root}/crates/base")?)?;
     fs::write(rt, &format!(in alloc; "{root}/crates/base/x.md")?, bytes)?;
-    fs::write(rt, &format!(in alloc; "{root}/crates/base/.DS_Store")?, "no")?;
+    fs::write(
+        rt,
+        &format!(in alloc; "{root}/crates/base/.DS_Store")?,
+        "no",
+    )?;
     fs::write(rt, &format!(in alloc; "{root}/crates/README")?, "no")?;
     let found = finds(alloc, &mut RealFolders::new(rt), root, want);
     fs::remove_dir_all(rt, root)?;
@@ -247,7 +281,11 @@ fn finds_on_disk<T: Files + AllocGlobal>(
 #[test]
 fn folders_of_the_disk(rt: HostRuntime) -> Result<(), Fail> {
     for (root, bytes, want) in &[
-        ("read-db", b"T\n".as_slice(), Ok([("read-db/crates/base/x.md", "T\n")].as_slice())),
+        (
+            "read-db",
+            b"T\n".as_slice(),
+            Ok([("read-db/crates/base/x.md", "T\n")].as_slice()),
+        ),
         ("refused-db", b"\xff", Err(ErrorKind::Io)),
     ] {
         assert!(rt; finds_on_disk(&rt, root, bytes, want)?, "of {root}");
