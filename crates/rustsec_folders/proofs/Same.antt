@@ -1,12 +1,14 @@
 -- What holds by the answers that some folders allow holds by those that others allow, where these are the same.
-use Rattle.std.proofs.Common.{◌≡◌, ℕ, List, inl, inr}
-use Rattle.std.specs.Prelude.{◌⊎◌, Contains, None, Option, Some}
+use Rattle.std.proofs.Common.{◌≡◌, ◌+◌, ◌<◌, ◌++◌, ℕ, List, [], ◌∷◌, get_or, inl, inr, length, take}
+use Rattle.std.specs.Prelude.{◌⊎◌, Contains, IfErr, IfOk, None, Option, Some, Result, Ok, Err, ⊤}
 use Rattle.rustsec_folders.specs.Allowed.{Allowed, AllowSame}
 use Rattle.rustsec_folders.specs.Listed.{AreFolders, FailsAtFile, FailsAtFolder, FailsBelow, FailsInFolder, IsCollection, IsCollectionIfThere, IsFile, IsFolder, Pairwise, ShowsFiles, ShowsFolders}
 use Rattle.rustsec_folders.specs.Names.{under}
 use Rattle.rustsec_folders.specs.declared.entry.FolderEntry.{FolderEntry}
 use Rattle.rustsec_folders.specs.declared.source_file.SourceFile.{SourceFile}
-use Rattle.rustsec_folders.proofs.Lists.{pairwise-weaker}
+use Rattle.rustsec_folders.proofs.Lists.{contains-item, joined-push, pairwise-step, pairwise-weaker}
+use Rattle.rustsec_versions.specs.Failure.{Failure, IsRefusal}
+use Rattle.rustsec_versions.specs.declared.error.ErrorKind.{ErrorKind}
 
 pub same-refl : (a : Allowed) → AllowSame a a
 same-refl a = record { lists = λ path answer. (λ h. h, λ h. h); reads = λ path answer. (λ h. h, λ h. h) }
@@ -81,3 +83,56 @@ lists-at a p q answer is h = rw (← is) h
 
 pub reads-at : (a : Allowed) (p q : List ℕ) (answer : Option (List ℕ)) → p ≡ q → a.reads p answer → a.reads q answer
 reads-at a p q answer is h = rw (← is) h
+
+-- ---- names that are gone through
+
+-- one file more
+pub files-step : (a b : Allowed) (folder : List ℕ) (names : List (List ℕ)) (files : List SourceFile) (i : ℕ) (item name : List ℕ) (file : SourceFile)
+    → AllowSame a b → i < length names → item ≡ get_or names i item → name ≡ item → Pairwise (IsFile a folder) (take i names) files
+    → IsFile b folder name file → Pairwise (IsFile a folder) (take (i + 1) names) (files ++ file ∷ [])
+files-step a b folder names files i item name file same l at is before h =
+    pairwise-step (IsFile a folder) names files i item file l at before (rw (← is) (file-before a b folder name file same h))
+
+-- the files of one folder more
+pub folders-step : (a b : Allowed) (collection : List ℕ) (names : List (List ℕ)) (files part : List SourceFile) (i : ℕ) (item name : List ℕ)
+    → AllowSame a b → i < length names → item ≡ get_or names i item → name ≡ item → AreFolders a collection (take i names) files
+    → IsFolder b (under collection name) part → AreFolders a collection (take (i + 1) names) (files ++ part)
+folders-step a b collection names files part i item name same l at is before h = (
+  before.0 ++ part ∷ [],
+  pairwise-step (λ (n : List ℕ) (p : List SourceFile). IsFolder a (under collection n) p) names before.0 i item part l at before.1
+      (rw (← is) (folder-before a b (under collection name) part same h)),
+  joined-push files before.0 part before.2,
+)
+
+-- a folder in which an error is met
+pub folder-fails : (a b : Allowed) (collection : List ℕ) (names : List (List ℕ)) (i : ℕ) (item name : List ℕ) → AllowSame a b
+    → i < length names → item ≡ get_or names i item → name ≡ item → FailsInFolder b (under collection name) → FailsAtFolder a collection names
+folder-fails a b collection names i item name same l at is h =
+    (item, contains-item names i item l at, rw (← is) (fails-in-before a b (under collection name) same h))
+
+-- ---- names that were shown, and what was read of them then
+
+pub folder-found : (a b : Allowed) (folder : List ℕ) (names items : List (List ℕ)) (files : List SourceFile) → AllowSame a b
+    → ShowsFiles a folder names → items ≡ names → Pairwise (IsFile b folder) items files → IsFolder a folder files
+folder-found a b folder names items files same shown is h =
+    (items, rw is shown, files-before a b folder items files same h)
+
+pub collection-found : (a b : Allowed) (collection : List ℕ) (names items : List (List ℕ)) (files : List SourceFile) → AllowSame a b
+    → ShowsFolders a collection names → items ≡ names → AreFolders b collection items files → IsCollection a collection files
+collection-found a b collection names items files same shown is h =
+    (items, rw is shown, folders-before a b collection items files same h)
+
+pub below-found : (a b : Allowed) (collection : List ℕ) (names items : List (List ℕ)) → AllowSame a b → ShowsFolders a collection names
+    → items ≡ names → FailsAtFolder b collection items → FailsBelow a collection
+below-found a b collection names items same shown is h =
+    (items, rw is shown, fails-at-folder-before a b collection items same h)
+
+-- ---- answers
+
+pub ok-any : {T E : Type 0} (r : Result T E) → IfOk r (λ _. ⊤)
+ok-any (Ok x) = tt
+ok-any (Err e) = tt
+
+pub crates-refused : {T : Type 0} (k : ErrorKind) (a : Allowed) (p q : List ℕ) (r : Result T Failure) → p ≡ q
+    → IfErr r (IsRefusal k (a.lists p None ⊎ FailsBelow a p)) → IfErr r (IsRefusal k (a.lists q None ⊎ FailsBelow a q))
+crates-refused k a p q r is h = rw (← is) h

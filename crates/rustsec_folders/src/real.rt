@@ -1,8 +1,9 @@
 //! The folders and files of a runtime.
 
-ghost use Rattle.std.specs.Prelude.{IfErr};
+ghost use Rattle.std.specs.Prelude.{IfErr, IfOk};
 ghost use Rattle.rustsec_files.specs.ReadFailures.{IsReadFailure};
-ghost use Rattle.rustsec_versions.specs.Failure.{IsOfKind};
+ghost use Rattle.rustsec_folders.specs.Allowed.{AllowSame, every_answer};
+ghost use Rattle.rustsec_versions.specs.Failure.{IsOfKind, IsRefusal};
 
 use crate::entry::FolderEntry;
 use crate::folders::Folders;
@@ -143,14 +144,18 @@ impl<'a, R: Files> Folders for RealFolders<'a, R> {
     ghost allowed = { λ _. every_answer };
 
     fn list(&mut self, alloc: Global, path: &str) -> Result<Items<FolderEntry>>
-        ensures kind { IfErr result (IsOfKind ErrorKind.Io) }
+        ensures ok { IfOk result (λ entries. every_answer.lists path.now (Some entries)) }
+        ensures err { IfErr result (IsRefusal ErrorKind.Io (every_answer.lists path.now None)) }
+        ensures same { AllowSame every_answer every_answer }
         ensures names { IfErr result (IsReadFailure path.now) }
     {
         entries(self.files, alloc, path)
     }
 
     fn read(&mut self, alloc: Global, path: &str) -> Result<Text>
-        ensures kind { IfErr result (IsOfKind ErrorKind.Io) }
+        ensures ok { IfOk result (λ text. every_answer.reads path.now (Some text)) }
+        ensures err { IfErr result (IsRefusal ErrorKind.Io (every_answer.reads path.now None)) }
+        ensures same { AllowSame every_answer every_answer }
         ensures names { IfErr result (IsReadFailure path.now) }
     {
         let text = text(self.files, alloc, path)?;
