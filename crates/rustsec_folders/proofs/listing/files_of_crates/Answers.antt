@@ -4,4 +4,4 @@ use Rattle.rustsec_folders.proofs.listing.files_of_crates.Goals as goal
 
 pub returns-clause-err : goal.returns-clause-err
 returns-clause-err g c =
-    crates-refused _ _ _ _ c.files_of_collection.result (c.deref.ensures.value ∙ c.in_ok-path.ensures) c.files_of_collection.ensures.err
+    crates-refused _ (g.F.Folders.allowed c.args.folders.now) _ _ c.files_of_collection.result (c.deref.ensures ∙ c.in_ok-path.ensures) c.files_of_collection.ensures.err

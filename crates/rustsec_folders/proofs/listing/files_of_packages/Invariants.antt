@@ -1,4 +1,4 @@
-use Rattle.std.proofs.Common.{List, ℕ, take}
+use Rattle.std.proofs.Common.{take}
 use Rattle.rustsec_folders.specs.Allowed.{AllowSame}
 use Rattle.rustsec_folders.specs.Listed.{AreFolders}
 use Rattle.rustsec_folders.proofs.listing.files_of_packages.Given as goal
