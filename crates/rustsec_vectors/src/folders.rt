@@ -69,139 +69,134 @@ fn expect<T: AllocGlobal + Abort>(rt: &T, rows: &[Row<'_>]) {
     }
 }
 
+/// Roots with and without `crates`, and with a folder where a file is due.
+const OPEN_FOLDERS: &[Row<'_>] = &[
+    Row {
+        name: "one advisory, and no rust",
+        paths: &[
+            (
+                "db/crates",
+                Holds::Entries(&[("base", true), ("README", false)]),
+            ),
+            (
+                "db/crates/base",
+                Holds::Entries(&[("RUSTSEC-2001-2101.md", false), (".DS_Store", false)]),
+            ),
+            ("db/crates/base/RUSTSEC-2001-2101.md", Holds::Text("T")),
+            ("db/crates/base/.DS_Store", Holds::Text("no")),
+            ("db/crates/README", Holds::Text("no")),
+        ],
+        want: Ok(&[("db/crates/base/RUSTSEC-2001-2101.md", "T")]),
+    },
+    Row {
+        name: "no crates",
+        paths: &[("db/rust", Holds::Entries(&[]))],
+        want: Err(ErrorKind::Io),
+    },
+    Row {
+        name: "a folder where a file is due",
+        paths: &[
+            ("db/crates", Holds::Entries(&[("base", true)])),
+            ("db/crates/base", Holds::Entries(&[("sub", true)])),
+            ("db/crates/base/sub", Holds::Entries(&[])),
+        ],
+        want: Err(ErrorKind::Io),
+    },
+];
+
 #[test]
 fn open_folders(rt: HostRuntime) {
-    expect(
-        &rt,
-        &[
-            Row {
-                name: "one advisory, and no rust",
-                paths: &[
-                    (
-                        "db/crates",
-                        Holds::Entries(&[("base", true), ("README", false)]),
-                    ),
-                    (
-                        "db/crates/base",
-                        Holds::Entries(&[("RUSTSEC-2001-2101.md", false), (".DS_Store", false)]),
-                    ),
-                    ("db/crates/base/RUSTSEC-2001-2101.md", Holds::Text("T")),
-                    ("db/crates/base/.DS_Store", Holds::Text("no")),
-                    ("db/crates/README", Holds::Text("no")),
-                ],
-                want: Ok(&[("db/crates/base/RUSTSEC-2001-2101.md", "T")]),
-            },
-            Row {
-                name: "no crates",
-                paths: &[("db/rust", Holds::Entries(&[]))],
-                want: Err(ErrorKind::Io),
-            },
-            Row {
-                name: "a folder where a file is due",
-                paths: &[
-                    ("db/crates", Holds::Entries(&[("base", true)])),
-                    ("db/crates/base", Holds::Entries(&[("sub", true)])),
-                    ("db/crates/base/sub", Holds::Entries(&[])),
-                ],
-                want: Err(ErrorKind::Io),
-            },
-        ],
-    );
+    expect(&rt, OPEN_FOLDERS);
 }
+
+/// A root with several folders and files, listed in no order.
+const IN_NAME_ORDER: &[Row<'_>] = &[Row {
+    name: "names by their bytes, crates before rust",
+    paths: &[
+        ("db/rust", Holds::Entries(&[("a", true)])),
+        ("db/rust/a", Holds::Entries(&[("0", false)])),
+        ("db/rust/a/0", Holds::Text("7")),
+        (
+            "db/crates",
+            Holds::Entries(&[
+                ("b", true),
+                ("a-b", true),
+                ("é", true),
+                ("B", true),
+                ("a", true),
+            ]),
+        ),
+        ("db/crates/b", Holds::Entries(&[])),
+        ("db/crates/a-b", Holds::Entries(&[("y", false)])),
+        ("db/crates/é", Holds::Entries(&[("w", false)])),
+        ("db/crates/B", Holds::Entries(&[("z", false)])),
+        (
+            "db/crates/a",
+            Holds::Entries(&[("x10", false), ("x2", false), ("x", false)]),
+        ),
+        ("db/crates/B/z", Holds::Text("1")),
+        ("db/crates/a/x", Holds::Text("2")),
+        ("db/crates/a/x10", Holds::Text("3")),
+        ("db/crates/a/x2", Holds::Text("4")),
+        ("db/crates/a-b/y", Holds::Text("5")),
+        ("db/crates/é/w", Holds::Text("6")),
+    ],
+    want: Ok(&[
+        ("db/crates/B/z", "1"),
+        ("db/crates/a/x", "2"),
+        ("db/crates/a/x10", "3"),
+        ("db/crates/a/x2", "4"),
+        ("db/crates/a-b/y", "5"),
+        ("db/crates/é/w", "6"),
+        ("db/rust/a/0", "7"),
+    ]),
+}];
 
 #[test]
 fn in_name_order(rt: HostRuntime) {
-    expect(
-        &rt,
-        &[Row {
-            name: "names by their bytes, crates before rust",
-            paths: &[
-                ("db/rust", Holds::Entries(&[("a", true)])),
-                ("db/rust/a", Holds::Entries(&[("0", false)])),
-                ("db/rust/a/0", Holds::Text("7")),
-                (
-                    "db/crates",
-                    Holds::Entries(&[
-                        ("b", true),
-                        ("a-b", true),
-                        ("é", true),
-                        ("B", true),
-                        ("a", true),
-                    ]),
-                ),
-                ("db/crates/b", Holds::Entries(&[])),
-                ("db/crates/a-b", Holds::Entries(&[("y", false)])),
-                ("db/crates/é", Holds::Entries(&[("w", false)])),
-                ("db/crates/B", Holds::Entries(&[("z", false)])),
-                (
-                    "db/crates/a",
-                    Holds::Entries(&[("x10", false), ("x2", false), ("x", false)]),
-                ),
-                ("db/crates/B/z", Holds::Text("1")),
-                ("db/crates/a/x", Holds::Text("2")),
-                ("db/crates/a/x10", Holds::Text("3")),
-                ("db/crates/a/x2", Holds::Text("4")),
-                ("db/crates/a-b/y", Holds::Text("5")),
-                ("db/crates/é/w", Holds::Text("6")),
-            ],
-            want: Ok(&[
-                ("db/crates/B/z", "1"),
-                ("db/crates/a/x", "2"),
-                ("db/crates/a/x10", "3"),
-                ("db/crates/a/x2", "4"),
-                ("db/crates/a-b/y", "5"),
-                ("db/crates/é/w", "6"),
-                ("db/rust/a/0", "7"),
-            ]),
-        }],
-    );
+    expect(&rt, IN_NAME_ORDER);
 }
+
+/// Roots with names that are passed over, and a name that is read twice.
+const PASSED_OVER: &[Row<'_>] = &[
+    Row {
+        name: "dots at both levels, files of a collection",
+        paths: &[
+            (
+                "db/crates",
+                Holds::Entries(&[(".git", true), ("a", true), ("f.md", false), (".f", false)]),
+            ),
+            (
+                "db/crates/a",
+                Holds::Entries(&[(".x.md", false), ("..", false), ("x.", false)]),
+            ),
+            ("db/crates/a/x.", Holds::Text("1")),
+            ("db/rust", Holds::Entries(&[("a.md", false), (".b", true)])),
+        ],
+        want: Ok(&[("db/crates/a/x.", "1")]),
+    },
+    Row {
+        name: "a name that an answer has twice",
+        paths: &[
+            ("db/crates", Holds::Entries(&[("a", true)])),
+            (
+                "db/crates/a",
+                Holds::Entries(&[("x", false), ("w", false), ("x", false)]),
+            ),
+            ("db/crates/a/w", Holds::Text("1")),
+            ("db/crates/a/x", Holds::Text("2")),
+        ],
+        want: Ok(&[
+            ("db/crates/a/w", "1"),
+            ("db/crates/a/x", "2"),
+            ("db/crates/a/x", "2"),
+        ]),
+    },
+];
 
 #[test]
 fn names_that_are_passed_over(rt: HostRuntime) {
-    expect(
-        &rt,
-        &[
-            Row {
-                name: "dots at both levels, files of a collection",
-                paths: &[
-                    (
-                        "db/crates",
-                        Holds::Entries(&[
-                            (".git", true),
-                            ("a", true),
-                            ("f.md", false),
-                            (".f", false),
-                        ]),
-                    ),
-                    (
-                        "db/crates/a",
-                        Holds::Entries(&[(".x.md", false), ("..", false), ("x.", false)]),
-                    ),
-                    ("db/crates/a/x.", Holds::Text("1")),
-                    ("db/rust", Holds::Entries(&[("a.md", false), (".b", true)])),
-                ],
-                want: Ok(&[("db/crates/a/x.", "1")]),
-            },
-            Row {
-                name: "a name that an answer has twice",
-                paths: &[
-                    ("db/crates", Holds::Entries(&[("a", true)])),
-                    (
-                        "db/crates/a",
-                        Holds::Entries(&[("x", false), ("w", false), ("x", false)]),
-                    ),
-                    ("db/crates/a/w", Holds::Text("1")),
-                    ("db/crates/a/x", Holds::Text("2")),
-                ],
-                want: Ok(&[
-                    ("db/crates/a/w", "1"),
-                    ("db/crates/a/x", "2"),
-                    ("db/crates/a/x", "2"),
-                ]),
-            },
-        ],
-    );
+    expect(&rt, PASSED_OVER);
 }
 
 /// A root with a file in a folder of each collection.
@@ -245,15 +240,29 @@ fn failing_steps(rt: HostRuntime) {
     }
 }
 
-/// Whether a file and its copy have this path and this text.
-fn is_copied(alloc: Global, files: &[SourceFile], path: &str, text: &str) -> Result<bool, Fail> {
-    match files {
-        [file] => {
+/// Whether the first file under a root is equal to its copy, and has this path and this text.
+fn first_is_copied(
+    alloc: Global,
+    paths: Paths<'_>,
+    root: &str,
+    path: &str,
+    text: &str,
+) -> Result<bool, Fail> {
+    let mut folders = MemoryFolders::new(paths, NONE);
+    let files = source_files(alloc, &mut folders, root)?;
+    match files.get(0) {
+        Some(file) => {
             let copy = file.clone(alloc)?;
             Ok(copy == *file && copy.path.as_str() == path && copy.text.as_str() == text)
         }
-        _ => Ok(false),
+        None => Ok(false),
     }
+}
+
+#[test]
+fn files_are_copied(rt: HostRuntime) -> Result<(), Fail> {
+    assert!(rt; first_is_copied(rt.alloc(), BOTH, "db", "db/crates/a/x", "1")?);
+    Ok(())
 }
 
 /// A root of the disk in which a file of a package's folder, with these bytes, is read; the folder is
