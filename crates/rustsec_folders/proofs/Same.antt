@@ -1,6 +1,6 @@
 -- What holds by the answers that some folders allow holds by those that others allow, where these are the same.
 use Rattle.std.proofs.Common.{◌≡◌, ◌+◌, ◌<◌, ◌++◌, ℕ, List, [], ◌∷◌, get_or, inl, inr, length, take}
-use Rattle.std.specs.Prelude.{◌⊎◌, Contains, IfErr, IfOk, None, Option, Some, Result, Ok, Err, ⊤}
+use Rattle.std.specs.Prelude.{◌⊎◌, IfErr, IfOk, None, Option, Some, Result, Ok, Err, ⊤}
 use Rattle.rustsec_folders.specs.Allowed.{Allowed, AllowSame}
 use Rattle.rustsec_folders.specs.Listed.{AreFolders, FailsAtFile, FailsAtFolder, FailsBelow, FailsInFolder, IsCollection, IsCollectionIfThere, IsFile, IsFolder, Pairwise, ShowsFiles, ShowsFolders}
 use Rattle.rustsec_folders.specs.Names.{under}

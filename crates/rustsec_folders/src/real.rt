@@ -1,6 +1,6 @@
 //! The folders and files of a runtime.
 
-ghost use Rattle.std.specs.Prelude.{IfErr, IfOk};
+ghost use Rattle.std.specs.Prelude.{◌≡◌, IfErr, IfOk};
 ghost use Rattle.rustsec_files.specs.ReadFailures.{IsReadFailure};
 ghost use Rattle.rustsec_folders.specs.Allowed.{AllowSame, every_answer};
 ghost use Rattle.rustsec_versions.specs.Failure.{IsOfKind, IsRefusal};
@@ -133,7 +133,9 @@ pub struct RealFolders<'a, R> {
 
 impl<'a, R: Files> RealFolders<'a, R> {
     /// The folders and files of this runtime.
-    pub fn new(rt: &'a R) -> RealFolders<'a, R> {
+    pub fn new(rt: &'a R) -> RealFolders<'a, R>
+        ensures { result.files.now ≡ rt.now }
+    {
         RealFolders { files: rt }
     }
 }
