@@ -28,6 +28,10 @@ mod fixes;
 #[cfg(test)]
 mod fixtures;
 #[cfg(test)]
+mod folders;
+#[cfg(test)]
+mod folders_in_memory;
+#[cfg(test)]
 mod function_paths;
 #[cfg(test)]
 mod ids;
