@@ -1,0 +1,5 @@
+pub mod Slots
+pub mod Indexes
+pub mod Filing
+pub mod Loaded
+pub mod Places
