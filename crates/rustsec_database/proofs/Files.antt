@@ -12,7 +12,7 @@ use Rattle.rustsec_versions.specs.declared.error.ErrorKind.TheVariants as kind
 use Rattle.rustsec_advisory.specs.declared.advisory.Advisory.{Advisory}
 use Rattle.rustsec_database.specs.Filing.{IsFiled}
 use Rattle.rustsec_database.specs.Loaded.{AreFiled, AreLoaded, HaveOwnIds, IsAdded, IsAtFault, IsFault, IsFirstFault, has_id, is_known, is_stored, place_of_one, with_one}
-use Rattle.rustsec_database.specs.declared.source_file.SourceFile.{SourceFile}
+use Rattle.rustsec_folders.specs.declared.source_file.SourceFile.{SourceFile}
 use Rattle.rustsec_database.proofs.Places.{is-false}
 
 filed-more : (files : List SourceFile) (all : List Advisory) (f : SourceFile) (a : Advisory) → AreFiled files all → IsFiled f.path f.text a
@@ -58,7 +58,7 @@ pub loaded-step : (files : List SourceFile) (i : ℕ) (f : SourceFile) (loaded m
     → f ≡ get_or files i f → AreLoaded (take i files) loaded → IsAdded loaded f.path f.text place more → AreLoaded (take (i + 1) files) more
 loaded-step files i f loaded more place l is h one =
     let longer : take i files ++ f ∷ [] ≡ take (i + 1) files =
-        ap (λ x. take i files ++ x ∷ []) is ∙ sym (take_more files i f l) in
+    ap (λ x. take i files ++ x ∷ []) is ∙ sym (take_more files i f l) in
     subst (λ fs. AreLoaded fs more) longer (loaded-more (take i files) f loaded more place h one)
 
 -- the first file that is at fault behind others without fault

@@ -2,4 +2,5 @@ pub mod Slots
 pub mod Indexes
 pub mod Filing
 pub mod Loaded
+pub mod Opened
 pub mod Places

@@ -16,8 +16,8 @@ ghost use Rattle.rustsec_database.specs.Places.{IsIndexOf, at_places, is_under, 
 use crate::entries::Entries;
 use crate::index::Index;
 use crate::slot::Slot;
-use crate::source_file::SourceFile;
 use rustsec_advisory::Advisory;
+use rustsec_folders::SourceFile;
 use rustsec_lock::Lockfile;
 use rustsec_lock::package::{Name, Package};
 use rustsec_query::{Query, Vulnerability};

@@ -5,11 +5,11 @@ mod database;
 mod entries;
 mod filing;
 mod index;
+mod open;
 mod slot;
-mod source_file;
 
 pub use crate::database::{Database, Iter};
 pub use crate::entries::Entries;
 pub use crate::index::Index;
 pub use crate::slot::Slot;
-pub use crate::source_file::SourceFile;
+pub use rustsec_folders::SourceFile;
