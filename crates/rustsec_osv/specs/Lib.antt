@@ -1,0 +1,3 @@
+pub mod DocumentEvents
+pub mod DocumentKinds
+pub mod Documents
