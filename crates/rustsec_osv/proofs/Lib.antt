@@ -1,0 +1,4 @@
+pub mod Distinct
+pub mod LeastVersion
+pub mod Parts
+pub mod Timeline
