@@ -1,4 +1,6 @@
 pub mod Distinct
+pub mod Exported
 pub mod LeastVersion
+pub mod Links
 pub mod Parts
-pub mod Timeline
+pub mod RisingEvents

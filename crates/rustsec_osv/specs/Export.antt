@@ -7,7 +7,7 @@ use Rattle.rustsec_versions.specs.Ranges.{AreRanges, Range}
 use Rattle.rustsec_lock.specs.declared.cvss.Cvss.{Cvss}
 use Rattle.rustsec_lock.specs.declared.cvss.Cvss.TheVariants as cvss
 use Rattle.rustsec_texts.specs.Licenses.{license_name}
-use Rattle.rustsec_advisory.specs.Groups.{kinds_of}
+use Rattle.rustsec_advisory.specs.FieldGroups.{kinds_of}
 use Rattle.rustsec_advisory.specs.declared.advisory.Advisory.{Advisory}
 use Rattle.rustsec_advisory.specs.declared.affected.Affected.{Affected}
 use Rattle.rustsec_advisory.specs.declared.metadata.Kinds.{Kinds}

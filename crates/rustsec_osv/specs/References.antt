@@ -11,17 +11,26 @@ use Rattle.rustsec_osv.specs.declared.reference.OsvReferenceKind.{OsvReferenceKi
 use Rattle.rustsec_osv.specs.declared.reference.OsvReferenceKind.TheVariants as kind
 
 -- whether a part stands somewhere in a text
-abbrev pub has : List ℕ → List ℕ → Bool
+unfoldable pub has : List ℕ → List ℕ → Bool
 has part [] = starts_with nat_eq [] part
 has part (b ∷ bs) = starts_with nat_eq (b ∷ bs) part || has part bs
 
--- the kind of a reference, by the text that its address prints: the first line that holds
+-- whether it is the address of a report at a forge
+abbrev pub is_report : List ℕ → Bool
+is_report text = (has (codes "://github.com/") text || has (codes "://gitlab.") text) && has (codes "/issues/") text
+
+abbrev pub is_advisory : List ℕ → Bool
+is_advisory text = has (codes "/advisories/") text || has (codes "://cve.mitre.org/") text
+
+abbrev pub is_package : List ℕ → Bool
+is_package text = has (codes "://crates.io/crates/") text
+
+-- the kind of a reference, by the text that its address prints: that of the first test which holds
 unfoldable pub kind_of : List ℕ → OsvReferenceKind
 kind_of text =
-    if (has (codes "://github.com/") text || has (codes "://gitlab.") text) && has (codes "/issues/") text then kind.REPORT
-    else (if has (codes "/advisories/") text || has (codes "://cve.mitre.org/") text then kind.ADVISORY
-    else (if has (codes "://crates.io/crates/") text then kind.PACKAGE
-    else kind.WEB))
+    if is_report text then kind.REPORT
+    else (if is_advisory text then kind.ADVISORY
+    else (if is_package text then kind.PACKAGE else kind.WEB))
 
 -- a reference to an address
 abbrev pub reference_of : List ℕ → OsvReference

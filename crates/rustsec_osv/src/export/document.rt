@@ -28,6 +28,7 @@ use rustsec_versions::{ErrorKind, Result};
 use std::alloc::{AllocError, Global};
 
 /// The texts of a document that are made, not moved.
+#[derive(Drop)]
 struct Texts {
     modified: Text,
     published: Text,
@@ -35,36 +36,13 @@ struct Texts {
     license: Text,
 }
 
-/// One place drops the fields, so that the end of an owner's life is one step of its proof.
-impl Drop for Texts {
-    fn drop(self) {
-        let Texts {
-            modified: _,
-            published: _,
-            withdrawn: _,
-            license: _,
-        } = self;
-    }
-}
-
 /// The members of a document that are made, not moved.
+#[derive(Drop)]
 struct Made {
     texts: Texts,
     severity: Items<OsvSeverity>,
     package: OsvPackage,
     pages: Items<OsvReference>,
-}
-
-/// One place drops the fields, so that the end of an owner's life is one step of its proof.
-impl Drop for Made {
-    fn drop(self) {
-        let Made {
-            texts: _,
-            severity: _,
-            package: _,
-            pages: _,
-        } = self;
-    }
 }
 
 /// The texts of the document of an advisory.
@@ -101,7 +79,7 @@ fn made_of(alloc: Global, metadata: &Metadata, modified: &str) -> Result<Made>
           license = license_name metadata.now.license;
         }) }
     ensures severity { IfOk result (λ m. m.severity ≡ map severity_of (option_to_list metadata.now.cvss)) }
-    ensures «package» { IfOk result (λ m. m.«package» ≡ package_of metadata.now.«package») }
+    ensures of_crate { IfOk result (λ m. m.«package» ≡ package_of metadata.now.«package») }
     ensures pages { IfOk result (λ m. own_pages metadata.now.«package» metadata.now.id.text ≡ Some m.pages) }
     ensures err { IfErr result (IsRefusal ErrorKind.Parse (own_pages metadata.now.«package» metadata.now.id.text ≡ None)) }
 {

@@ -1,6 +1,6 @@
 // What other programs read out of a document: its crates, and the IDs that it refers to.
 
-ghost use Rattle.std.specs.Prelude.{◌≡◌, IfErr, IfOk, List, None, Some, map, option_map, string_bytes};
+ghost use Rattle.std.specs.Prelude.{◌≡◌, ◌++◌, ◌∷◌, [], IfErr, IfOk, List, None, OnOk, Some, map, option_map, string_bytes};
 ghost use Rattle.std.specs.Str.{IsAscii};
 ghost use Rattle.rustsec_lock.specs.Names.{name_cmp};
 ghost use Rattle.rustsec_texts.specs.IdOrder.{id_order};
@@ -14,6 +14,7 @@ use crate::export::members::ECOSYSTEM;
 use crate::reference::OsvReference;
 use rustsec_advisory::Address;
 use rustsec_texts::Id;
+use rustsec_values::Items;
 use rustsec_versions::{ErrorKind, Result, refused_text};
 use std::alloc::{AllocError, Global};
 
@@ -30,6 +31,20 @@ fn is_crate(affected: &OsvAffected) -> bool
     affected.package.ecosystem.as_str() == ECOSYSTEM
 }
 
+/// Appends the name of an affected package, if it is one of crates.io.
+fn add_name(
+    alloc: Global,
+    member: &OsvAffected,
+    names: &mut Vec<String>,
+) -> std::result::Result<(), AllocError>
+    ensures { OnOk result (map string_bytes names.new.items ≡ map string_bytes names.old.items ++ crate_names (member.now ∷ [])) }
+{
+    if is_crate(member) {
+        names.push(String::from_str(alloc, member.package.name.as_str())?)?;
+    }
+    Ok(())
+}
+
 /// The names of the affected packages of crates.io, in the order of the document.
 fn crate_names(
     alloc: Global,
@@ -39,9 +54,7 @@ fn crate_names(
 {
     let mut names = Vec::new(alloc);
     for member in members {
-        if is_crate(member) {
-            names.push(String::from_str(alloc, member.package.name.as_str())?)?;
-        }
+        add_name(alloc, member, &mut names)?;
     }
     Ok(names)
 }
@@ -74,17 +87,33 @@ fn linked_id(alloc: Global, address: &Address) -> Result<Id>
     }
 }
 
+/// Whether an address begins as the pages of RustSec's advisories do.
+fn is_page(address: &str) -> bool
+    ensures { result ≡ is_page address.now }
+{
+    address.starts_with(PAGE)
+}
+
+/// Appends the ID in a reference, if this is a page of RustSec's advisories.
+fn add_id(alloc: Global, reference: &OsvReference, ids: &mut Items<Id>) -> Result<()>
+    ensures ok { OnOk result ((more : List IdValue) × (linked_ids (reference.now ∷ []) ≡ Some more) × (ids.new ≡ ids.old ++ more)) }
+    ensures err { IfErr result (IsRefusal ErrorKind.Parse (linked_ids (reference.now ∷ []) ≡ None)) }
+{
+    if is_page(reference.url.as_str()) {
+        let id = linked_id(alloc, &reference.url)?;
+        ids.push(id)?;
+    }
+    Ok(())
+}
+
 /// The IDs in the references that are pages of RustSec's advisories, in the order of the document.
-fn linked_ids(alloc: Global, references: &[OsvReference]) -> Result<Vec<Id>>
-    ensures ok { IfOk result (λ v. linked_ids references.now ≡ Some v.items) }
+fn linked_ids(alloc: Global, references: &[OsvReference]) -> Result<Items<Id>>
+    ensures ok { IfOk result (λ v. linked_ids references.now ≡ Some v) }
     ensures err { IfErr result (IsRefusal ErrorKind.Parse (linked_ids references.now ≡ None)) }
 {
-    let mut ids = Vec::new(alloc);
+    let mut ids = Items::new(alloc);
     for reference in references {
-        if reference.url.as_str().starts_with(PAGE) {
-            let id = linked_id(alloc, &reference.url)?;
-            ids.push(id).map_err(|_| AllocError)?;
-        }
+        add_id(alloc, reference, &mut ids)?;
     }
     Ok(ids)
 }
@@ -133,7 +162,7 @@ impl OsvAdvisory {
         ensures err { IfErr result (IsRefusal ErrorKind.Parse (linked_ids self.now.references ≡ None)) }
     {
         let ids = linked_ids(alloc, self.references.as_slice())?;
-        let distinct = distinct_ids(ids)?;
+        let distinct = distinct_ids(Vec::from(ids))?;
         Ok(distinct)
     }
 }

@@ -3,7 +3,7 @@
 ghost use Rattle.std.specs.Prelude.{◌≡◌, ◌++◌, ◌∷◌, [], IfErr, IfOk, None, OnOk, Some, map, option_to_list};
 ghost use Rattle.rustsec_advisory.specs.Addresses.{address_of};
 ghost use Rattle.rustsec_versions.specs.Failure.{IsRefusal};
-ghost use Rattle.rustsec_osv.specs.References.{advisory_page, has, kind_of, own_pages, package_page, reference_of};
+ghost use Rattle.rustsec_osv.specs.References.{advisory_page, has, is_advisory, is_package, is_report, kind_of, own_pages, package_page, reference_of};
 
 use crate::reference::{OsvReference, OsvReferenceKind};
 use rustsec_advisory::Address;
@@ -21,16 +21,38 @@ fn has(part: &str, text: &str) -> bool
     text.contains(part)
 }
 
+/// Whether an address is that of a report at a forge.
+fn is_report(address: &str) -> bool
+    ensures { result ≡ is_report address.now }
+{
+    let is_forge = has("://github.com/", address) || has("://gitlab.", address);
+    is_forge && has("/issues/", address)
+}
+
+/// Whether an address is that of an advisory.
+fn is_advisory(address: &str) -> bool
+    ensures { result ≡ is_advisory address.now }
+{
+    has("/advisories/", address) || has("://cve.mitre.org/", address)
+}
+
+/// Whether an address is that of a package.
+fn is_package(address: &str) -> bool
+    ensures { result ≡ is_package address.now }
+{
+    has("://crates.io/crates/", address)
+}
+
 /// What an address leads to, by the text that it prints.
+#[tactic(auto, unfolding(crate::specs::References::kind_of))]
 fn kind_of(address: &str) -> OsvReferenceKind
     ensures { result ≡ kind_of address.now }
 {
-    let is_forge = has("://github.com/", address) || has("://gitlab.", address);
-    if is_forge && has("/issues/", address) {
+    if is_report(address) {
         OsvReferenceKind::REPORT
-    } else if has("/advisories/", address) || has("://cve.mitre.org/", address) {
+    } else if is_advisory(address) {
         OsvReferenceKind::ADVISORY
-    } else if has("://crates.io/crates/", address) {
+    } else if is_package(address) {
         OsvReferenceKind::PACKAGE
     } else {
         OsvReferenceKind::WEB
