@@ -14,8 +14,8 @@ use Rattle.rustsec_osv.specs.declared.reference.OsvReference.{OsvReference}
 names-append : (xs ys : List OsvAffected) → crate_names (xs ++ ys) ≡ crate_names xs ++ crate_names ys
 names-append [] ys = refl
 names-append (x ∷ xs) ys = elim (cases_Bool (is_crate x)) [
-  | inl own ↦ rw (own, own) (ap (λ (ns : List (List ℕ)). x.«package».name ∷ ns) (names-append xs ys))
-  | inr other ↦ rw (other, other) (names-append xs ys)
+  | inl own ↦ rw own (ap (λ (ns : List (List ℕ)). x.«package».name ∷ ns) (names-append xs ys))
+  | inr other ↦ rw other (names-append xs ys)
 ]
 
 pub names-more : (xs : List OsvAffected) (i : ℕ) (x : OsvAffected) → i < length xs → x ≡ get_or xs i x

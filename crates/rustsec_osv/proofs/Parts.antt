@@ -57,14 +57,14 @@ stands (x ∷ a) b part = either-second (starts_with nat_eq (x ∷ (a ++ (part +
 
 found : (part text : List ℕ) → has part text ≡ true → HasSubslice text part
 unfolding has
-found part [] h = let there = begins-rest [] part h in ([], (there.0, there.1))
+found part [] h = let there = begins-rest [] part h in ([], there.0, there.1)
 found part (b ∷ text) h = elim (cases_Bool (starts_with nat_eq (b ∷ text) part)) [
-  | inl here ↦ let there = begins-rest (b ∷ text) part here in ([], (there.0, there.1))
+  | inl here ↦ let there = begins-rest (b ∷ text) part here in ([], there.0, there.1)
   | inr later ↦ further part b text (found part text (rw later at h))
 ]
   where
     further : (part : List ℕ) (b : ℕ) (text : List ℕ) → HasSubslice text part → HasSubslice (b ∷ text) part
-    further part b text (a, c, e) = (b ∷ a, (c, ap (λ bs. b ∷ bs) e))
+    further part b text (a, c, e) = (b ∷ a, c, ap (λ bs. b ∷ bs) e)
 
 stands-in : (part text : List ℕ) → HasSubslice text part → has part text ≡ true
 stands-in part text (a, b, e) = rw e (stands a b part)

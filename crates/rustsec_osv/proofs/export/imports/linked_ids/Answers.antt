@@ -1,4 +1,5 @@
-use Rattle.std.proofs.Common.{inl, inr, ⊎_elim}
+use Rattle.std.proofs.lemmas.Result.{err_from_is_err_and}
+use Rattle.rustsec_versions.proofs.Refusals.{refused_by}
 use Rattle.rustsec_osv.proofs.Links.{linked-more, linked-nil, linked-stop}
 use Rattle.rustsec_osv.proofs.export.imports.linked_ids.Goals as goal
 
@@ -12,5 +13,7 @@ loop-reference-preserved c =
 
 pub returns-in_err-add_id-clause-err : goal.returns-in_err-add_id-clause-err
 returns-in_err-add_id-clause-err c =
-    ⊎_elim (λ p. inl (p.0, linked-stop _ c.loop-reference.reference-index c.reference-item.result c.loop-reference-test.true c.reference-item.is p.1)) inr
-    c.in_err-add_id.ensures.err
+    let p = err_from_is_err_and c.from_residual.result c.from_residual.ensures.1 in
+    rw (p.1, p.2) (refused_by _ c.in_err-add_id.field-0.0
+    (λ none. linked-stop _ c.loop-reference.reference-index c.reference-item.result c.loop-reference-test.true c.reference-item.is none)
+    c.in_err-add_id.ensures.err)
