@@ -1,0 +1,5 @@
+pub mod AffectedAgain
+pub mod DocumentsAgain
+pub mod EventLists
+pub mod EventsAgain
+pub mod ReadLists

@@ -1,3 +1,4 @@
+pub mod DocumentAgain
 pub mod DocumentEvents
 pub mod DocumentKinds
 pub mod Documents
