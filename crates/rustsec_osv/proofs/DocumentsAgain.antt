@@ -47,10 +47,50 @@ ids-again : (ids : List IdValue) → All IsIdAgain ids → every (text id_of) (l
 ids-again = every-again (text id_of) id_tree IsIdAgain (λ id h. h)
 
 -- a document with these two keys, each there or left out
-with-keys : (d : Document) (v : Option Parts) (w : Option (List ℕ)) → d.schema_version ≡ v → d.withdrawn ≡ w → IsDocumentAgain d
-    → IfThere IsValid v → read_document (document_tree d) ≡ Some d
-with-keys d v w v-is w-is h valid = ?
+abbrev keyed : Document → Option Parts → Option (List ℕ) → Document
+keyed d v w = record { schema_version = v; withdrawn = w; id = d.id; modified = d.modified; published = d.published; aliases = d.aliases; related = d.related; summary = d.summary; details = d.details; severity = d.severity; affected = d.affected; references = d.references; database_specific = d.database_specific }
+
+keyed-again : (d : Document) (v : Option Parts) (w : Option (List ℕ)) → IsDocumentAgain d → IfThere IsValid v
+    → read_document (document_tree (keyed d v w)) ≡ Some (keyed d v w)
+keyed-again d None None h valid = rw (
+  h.id,
+  ids-again d.aliases h.aliases,
+  ids-again d.related h.related,
+  every-again read_severity severity_tree IsSeverityAgain severity-again d.severity h.severity,
+  every-again read_affected affected_tree IsAffectedAgain affected-again d.affected h.affected,
+  every-again read_reference reference_tree IsReferenceAgain reference-again d.references h.references,
+  license-again d.database_specific,
+) refl
+keyed-again d None (Some w) h valid = rw (
+  h.id,
+  ids-again d.aliases h.aliases,
+  ids-again d.related h.related,
+  every-again read_severity severity_tree IsSeverityAgain severity-again d.severity h.severity,
+  every-again read_affected affected_tree IsAffectedAgain affected-again d.affected h.affected,
+  every-again read_reference reference_tree IsReferenceAgain reference-again d.references h.references,
+  license-again d.database_specific,
+) refl
+keyed-again d (Some v) None h valid = rw (
+  version-again v valid,
+  h.id,
+  ids-again d.aliases h.aliases,
+  ids-again d.related h.related,
+  every-again read_severity severity_tree IsSeverityAgain severity-again d.severity h.severity,
+  every-again read_affected affected_tree IsAffectedAgain affected-again d.affected h.affected,
+  every-again read_reference reference_tree IsReferenceAgain reference-again d.references h.references,
+  license-again d.database_specific,
+) refl
+keyed-again d (Some v) (Some w) h valid = rw (
+  version-again v valid,
+  h.id,
+  ids-again d.aliases h.aliases,
+  ids-again d.related h.related,
+  every-again read_severity severity_tree IsSeverityAgain severity-again d.severity h.severity,
+  every-again read_affected affected_tree IsAffectedAgain affected-again d.affected h.affected,
+  every-again read_reference reference_tree IsReferenceAgain reference-again d.references h.references,
+  license-again d.database_specific,
+) refl
 
 -- a document is read again
 pub document-again : (d : Document) → IsDocumentAgain d → read_document (document_tree d) ≡ Some d
-document-again d h = with-keys d d.schema_version d.withdrawn refl refl h h.schema_version
+document-again d h = keyed-again d d.schema_version d.withdrawn h h.schema_version
