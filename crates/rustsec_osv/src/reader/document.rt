@@ -158,7 +158,7 @@ fn license_at(alloc: Global, fields: &Map<String, Value>) -> Result<MainOsvDatab
 }
 
 /// The keys that say which document it is, and of when.
-fn stamp(alloc: Global, fields: &Map<String, Value>) -> Result<Stamp>
+fn stamp_of(alloc: Global, fields: &Map<String, Value>) -> Result<Stamp>
     ensures ok { IfOk result (λ s. read_stamp (members_view fields.now.entries) ≡ Some s) }
     ensures err { IfErr result (IsRefusal ErrorKind.Parse (read_stamp (members_view fields.now.entries) ≡ None)) }
 {
@@ -177,7 +177,7 @@ fn stamp(alloc: Global, fields: &Map<String, Value>) -> Result<Stamp>
 }
 
 /// The keys that tell of the fault.
-fn content(alloc: Global, fields: &Map<String, Value>) -> Result<Content>
+fn content_of(alloc: Global, fields: &Map<String, Value>) -> Result<Content>
     ensures ok { IfOk result (λ c. read_content (members_view fields.now.entries) ≡ Some c) }
     ensures err { IfErr result (IsRefusal ErrorKind.Parse (read_content (members_view fields.now.entries) ≡ None)) }
 {
@@ -194,7 +194,7 @@ fn content(alloc: Global, fields: &Map<String, Value>) -> Result<Content>
 }
 
 /// The keys that lead elsewhere.
-fn links(alloc: Global, fields: &Map<String, Value>) -> Result<Links>
+fn links_of(alloc: Global, fields: &Map<String, Value>) -> Result<Links>
     ensures ok { IfOk result (λ l. read_links (members_view fields.now.entries) ≡ Some l) }
     ensures err { IfErr result (IsRefusal ErrorKind.Parse (read_links (members_view fields.now.entries) ≡ None)) }
 {
@@ -244,9 +244,9 @@ impl OsvAdvisory {
         ensures err { IfErr result (IsRefusal ErrorKind.Parse (read_document (view tree.now) ≡ None)) }
     {
         let fields = fields_of(alloc, tree)?;
-        let stamp = stamp(alloc, fields)?;
-        let content = content(alloc, fields)?;
-        let links = links(alloc, fields)?;
+        let stamp = stamp_of(alloc, fields)?;
+        let content = content_of(alloc, fields)?;
+        let links = links_of(alloc, fields)?;
         Ok(document_of(stamp, content, links))
     }
 }

@@ -128,7 +128,7 @@ fn add(events: &mut Vec<OsvTimelineEvent>, event: OsvTimelineEvent) -> Result<()
 }
 
 /// The events of trees, in order.
-fn events(alloc: Global, trees: &Vec<Value>) -> Result<Vec<OsvTimelineEvent>>
+fn events_of(alloc: Global, trees: &Vec<Value>) -> Result<Vec<OsvTimelineEvent>>
     ensures ok { IfOk result (λ xs. read_all read_event (list_of (items_view trees.now.items)) ≡ Some (map event_of xs.items)) }
     ensures err { IfErr result (IsRefusal ErrorKind.Parse (read_all read_event (list_of (items_view trees.now.items)) ≡ None)) }
 {
@@ -166,7 +166,7 @@ impl FromTree for Events {
     fn from_tree(alloc: Global, tree: &Value) -> Result<Events> {
         match tree.as_array() {
             Some(trees) => {
-                let list = events(alloc, trees)?;
+                let list = events_of(alloc, trees)?;
                 Ok(Events { list })
             }
             None => Err(refused(alloc, "a list was expected")),
