@@ -1,5 +1,6 @@
 -- The trees of a member of `affected` are read as that member.
-use Rattle.std.proofs.Common.{◌≡◌, ℕ, List, All, Option, Some, None, refl, ap, ⊤}
+use Rattle.std.proofs.Common.{◌≡◌, ℕ, List, All, Option, Some, None, refl, ap}
+use Rattle.std.specs.Prelude.{⊤}
 use Rattle.rustsec_json.specs.Fields.{every, or_null, text}
 use Rattle.rustsec_json.specs.Trees.{list_tree, optional_tree, text_tree}
 use Rattle.serde_json.specs.Data.{string}

@@ -12,9 +12,9 @@ use Rattle.rustsec_osv.specs.ReaderAffected.{read_event}
 use Rattle.rustsec_osv.specs.declared.timeline.OsvTimelineEvent.{OsvTimelineEvent}
 
 -- a list seen twice
-pub map-map : {A B C : Type 0} (f : A → B) (g : B → C) (xs : List A) → map g (map f xs) ≡ map (λ x. g (f x)) xs
-map-map f g [] = refl
-map-map f g (x ∷ xs) = ap (λ ys. g (f x) ∷ ys) (map-map f g xs)
+pub map_map : {A B C : Type 0} (f : A → B) (g : B → C) (xs : List A) → map g (map f xs) ≡ map (λ x. g (f x)) xs
+map_map f g [] = refl
+map_map f g (x ∷ xs) = ap (λ ys. g (f x) ∷ ys) (map_map f g xs)
 
 -- one more event that was read
 pub events-more : (f : Data → Option Event) (vs : List Value) (i : ℕ) (v : Value) (es : List OsvTimelineEvent) (e : OsvTimelineEvent)

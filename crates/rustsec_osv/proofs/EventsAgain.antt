@@ -1,5 +1,6 @@
 -- The tree of an event is read as that event.
-use Rattle.std.proofs.Common.{◌≡◌, ℕ, zero, suc, cond, ◌+◌, ◌≤◌, ◌==◌, List, [], ◌∷◌, ◌++◌, count_by, Bool, true, false, Ok, Option, Some, None, refl, ap, arith, rules}
+use Rattle.std.proofs.Common.{◌≡◌, ◌<◌, inl, inr, ℕ, zero, suc, cond, ◌+◌, ◌≤◌, ◌==◌, List, [], ◌∷◌, ◌++◌, count_by, Bool, true, false, Ok, Option, Some, None, refl, ap, arith, rules}
+use Rattle.std.proofs.lemmas.Bool.{cases_Bool, eqb-true}
 use Rattle.std.proofs.lemmas.List.Sums.{sum_by-append, sum_by-cons}
 use Rattle.std.specs.Fmt.{decimal}
 use Rattle.std.specs.Prelude.{if◌then◌else◌}
@@ -24,10 +25,15 @@ dots-more xs rest n h = rw (sum_by-append one xs (46 ∷ rest), sum_by-cons one 
 two-dots : (v : Parts) → 2 ≤ dots (parts_text v)
 two-dots v = dots-more (decimal v.0) _ 1 (dots-more (decimal v.1) _ 0 (omega arith))
 
+-- a number above another is not it
+above : (n k : ℕ) → k < n → (n == k) ≡ false
+above n k h = elim (cases_Bool (n == k)) [
+  | inl e ↦ let same = eqb-true n k e in absurd (omega arith)
+  | inr e ↦ e
+]
+
 not-short : (n : ℕ) (a b c : List ℕ) → 2 ≤ n → (if n == 0 then a else (if n == 1 then b else c)) ≡ c
-not-short zero a b c h = absurd (omega (arith, h))
-not-short (suc zero) a b c h = absurd (omega (arith, h))
-not-short (suc (suc n)) a b c h = refl
+not-short n a b c h = rw (above n 0 (omega arith), above n 1 (omega arith)) refl
 
 -- so it is no short form
 pub in_full-version : (v : Parts) → in_full (parts_text v) ≡ parts_text v

@@ -5,7 +5,7 @@ ghost use Rattle.serde_json.specs.Events.{members_len};
 ghost use Rattle.serde_json.specs.View.{items_view, members_view, view};
 ghost use Rattle.rustsec_json.specs.Fields.{list_of};
 ghost use Rattle.rustsec_osv.specs.DocumentEvents.{event_of};
-ghost use Rattle.rustsec_osv.specs.ReaderAffected.{dots, event_in, event_version, in_full, read_event};
+ghost use Rattle.rustsec_osv.specs.ReaderAffected.{dots, event_in, event_version, in_full, read_event, version_of};
 ghost use Rattle.rustsec_values.specs.Reading.{read_all};
 ghost use Rattle.rustsec_versions.specs.Failure.{IsMemory, IsOfKind, IsRefusal};
 ghost use Rattle.semver.specs.Identifiers.{parts_of};
@@ -26,7 +26,8 @@ fn dots(text: &str) -> usize
     ensures { result ≡ dots text.now }
 {
     let mut dots = 0;
-    for byte in text.as_bytes() {
+    let bytes = text.as_bytes();
+    for byte in bytes {
         if *byte == b'.' {
             dots += 1;
         }

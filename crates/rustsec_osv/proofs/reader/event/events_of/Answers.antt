@@ -5,7 +5,7 @@ use Rattle.rustsec_osv.proofs.EventLists.{events-more, events-start}
 use Rattle.rustsec_osv.proofs.reader.event.events_of.Goals as goal
 
 pub loop-tree-init : goal.loop-tree-init
-loop-tree-init c = rw c.new-read.ensures events-start
+loop-tree-init c = rw c.new-read.ensures.items events-start
 
 pub returns-in-Err-clause-err : goal.returns-in-Err-clause-err
 returns-in-Err-clause-err c =
