@@ -47,7 +47,7 @@ ids-again : (ids : List IdValue) → All IsIdAgain ids → every (text id_of) (l
 ids-again = every-again (text id_of) id_tree IsIdAgain (λ id h. h)
 
 -- a document with these two keys, each there or left out
-abbrev keyed : Document → Option Parts → Option (List ℕ) → Document
+abbrev pub keyed : Document → Option Parts → Option (List ℕ) → Document
 keyed d v w = record { schema_version = v; withdrawn = w; id = d.id; modified = d.modified; published = d.published; aliases = d.aliases; related = d.related; summary = d.summary; details = d.details; severity = d.severity; affected = d.affected; references = d.references; database_specific = d.database_specific }
 
 keyed-again : (d : Document) (v : Option Parts) (w : Option (List ℕ)) → IsDocumentAgain d → IfThere IsValid v

@@ -85,3 +85,7 @@ pub record IsDocumentAgain (d : Document) : Type 0 where
   pub severity : All IsSeverityAgain d.severity
   pub affected : All IsAffectedAgain d.affected
   pub references : All IsReferenceAgain d.references
+
+-- a document whose events have valid versions, whatever else stands in it
+abbrev pub AreEventsValid : Document → Type 0
+AreEventsValid d = All (λ (a : OsvAffected). IfThere (All IsRangeAgain) a.ranges) d.affected

@@ -1,13 +1,13 @@
 -- The tree of an OSV document (OSV schema, top level): a row for each key.
 use Rattle.std.specs.Prelude.{ℕ, List, [], ◌∷◌, ◌++◌, codes}
-use Rattle.serde_json.specs.Data.{Data, string}
+use Rattle.serde_json.specs.Data.{Data, Members, no_members, object, string}
 use Rattle.rustsec_json.specs.Trees.{list_tree, optional_tree, text_tree}
 use Rattle.rustsec_lock.specs.Cvss.{base_text}
 use Rattle.rustsec_texts.specs.Ids.{IdValue}
 use Rattle.rustsec_osv.specs.DocumentKinds.{reference_kind_name}
 use Rattle.rustsec_osv.specs.Documents.{Document}
 use Rattle.rustsec_osv.specs.TreeAffected.{affected_tree, version_tree}
-use Rattle.rustsec_osv.specs.TreeObjects.{Row, object_of, row_if}
+use Rattle.rustsec_osv.specs.TreeObjects.{Row, object_of, row_if, with_rows}
 use Rattle.rustsec_osv.specs.declared.document.MainOsvDatabaseSpecific.{MainOsvDatabaseSpecific}
 use Rattle.rustsec_osv.specs.declared.reference.OsvReference.{OsvReference}
 use Rattle.rustsec_osv.specs.declared.severity.OsvSeverity.{OsvSeverity}
@@ -42,6 +42,10 @@ list_rows d = (codes "aliases", list_tree id_tree d.aliases) ∷ (codes "related
     ∷ (codes "severity", list_tree severity_tree d.severity) ∷ (codes "affected", list_tree affected_tree d.affected)
     ∷ (codes "references", list_tree reference_tree d.references) ∷ (codes "database_specific", license_tree d.database_specific) ∷ []
 
+-- all keys of a document
+abbrev pub document_members : Document → Members
+document_members d = with_rows no_members (list_rows d ++ text_rows d)
+
 -- a document
 abbrev pub document_tree : Document → Data
-document_tree d = object_of (list_rows d ++ text_rows d)
+document_tree d = object (document_members d)

@@ -1,3 +1,4 @@
+use Rattle.std.proofs.Common.{refl}
 use Rattle.serde_json.proofs.Views.{members_len-members_view}
 use Rattle.rustsec_osv.proofs.reader.event.is_lone.Goals as goal
 
