@@ -1,7 +1,7 @@
 // Trees of OSV documents, read and printed again.
 
 use crate::fixtures::kind_of;
-use rustsec_osv::OsvAdvisory;
+use rustsec_osv::{OsvAdvisory, OsvAffected, OsvEcosystemSpecific, OsvJsonRange};
 use rustsec_versions::ErrorKind;
 use serde_json::Value;
 use std::alloc::Global;
@@ -192,5 +192,79 @@ fn says(alloc: Global, parts: &Parts) -> Result<bool, Fail> {
 #[test]
 fn osv_accessors(rt: HostRuntime) -> Result<(), Fail> {
     assert!(rt; says(rt.alloc(), &(EVENTS, NAMES, TAIL))?);
+    Ok(())
+}
+
+/// Whether copies of a range and of its events are like them.
+fn range_is_copied(alloc: Global, range: &OsvJsonRange) -> Result<bool, Fail> {
+    let copy = range.clone(alloc)?;
+    for event in &copy.events {
+        let _event = event.clone(alloc)?;
+    }
+    Ok(copy.kind == range.kind && copy.events.len() == 2)
+}
+
+/// Whether copies of what an ecosystem adds are like it.
+fn ecosystem_is_copied(alloc: Global, ecosystem: &OsvEcosystemSpecific) -> Result<bool, Fail> {
+    let copy = ecosystem.clone(alloc)?;
+    match &copy.affects {
+        Some(affects) => Ok(affects.clone(alloc)?.arch.is_empty()),
+        None => Ok(false),
+    }
+}
+
+/// Whether copies of a member of `affected` are like it.
+fn affected_is_copied(alloc: Global, affected: &OsvAffected) -> Result<bool, Fail> {
+    let copy = affected.clone(alloc)?;
+    let package = copy.package.clone(alloc)?;
+    let database = copy.database_specific.clone(alloc)?;
+    Ok(package.name.as_str() == "base" && database.categories.is_empty())
+}
+
+/// Whether copies of the parts of a member of `affected` are like them.
+fn inner_parts_are_copied(alloc: Global, affected: &OsvAffected) -> Result<bool, Fail> {
+    let (Some(ecosystem), Some(ranges)) = (&affected.ecosystem_specific, &affected.ranges) else {
+        return Ok(false);
+    };
+    match ranges.get(0) {
+        Some(range) => {
+            Ok(ecosystem_is_copied(alloc, ecosystem)? && range_is_copied(alloc, range)?)
+        }
+        None => Ok(false),
+    }
+}
+
+/// Whether copies of references, vectors and a license are like them.
+fn outer_parts_are_copied(alloc: Global, document: &OsvAdvisory) -> Result<bool, Fail> {
+    for severity in &document.severity {
+        let _severity = severity.clone(alloc)?;
+    }
+    let license = document.database_specific.clone(alloc)?;
+    match document.references.get(0) {
+        Some(reference) => Ok(
+            reference.clone(alloc)?.url == reference.url && license.license.is_some(),
+        ),
+        None => Ok(false),
+    }
+}
+
+/// Whether copies of all parts of a document are like them.
+fn parts_are_copied(alloc: Global, parts: &Parts) -> Result<bool, Fail> {
+    let tree = tree_of(alloc, parts)?;
+    let document = OsvAdvisory::from_value(alloc, &tree)?;
+    match document.affected.get(0) {
+        Some(affected) => Ok(
+            affected_is_copied(alloc, affected)?
+                && inner_parts_are_copied(alloc, affected)?
+                && outer_parts_are_copied(alloc, &document)?,
+        ),
+        None => Ok(false),
+    }
+}
+
+#[test]
+fn osv_copies(rt: HostRuntime) -> Result<(), Fail> {
+    let tail = r#""severity":[{"score":"CVSS:4.0/x","type":"CVSS_V4"}],"summary":"T"}"#;
+    assert!(rt; parts_are_copied(rt.alloc(), &(EVENTS, NAMES, tail))?);
     Ok(())
 }
