@@ -1,7 +1,8 @@
 -- An OSV document, as contracts see it: the version of the schema by its parts, all else by the fields.
-use Rattle.std.specs.Prelude.{ℕ, List, Option}
+use Rattle.std.specs.Prelude.{ℕ, List, map, Option}
 use Rattle.semver.specs.Parse.{Parts}
 use Rattle.rustsec_texts.specs.Ids.{IdValue}
+use Rattle.rustsec_osv.specs.DocumentEvents.{JsonRange}
 use Rattle.rustsec_osv.specs.declared.affected.OsvAffected.{OsvAffected}
 use Rattle.rustsec_osv.specs.declared.document.MainOsvDatabaseSpecific.{MainOsvDatabaseSpecific}
 use Rattle.rustsec_osv.specs.declared.reference.OsvReference.{OsvReference}
@@ -22,3 +23,7 @@ pub record Document : Type 0 where
   pub affected : List OsvAffected
   pub references : List OsvReference
   pub database_specific : MainOsvDatabaseSpecific
+
+-- the ranges of its members of `affected`, in order
+abbrev pub ranges_of : Document → List (Option (List JsonRange))
+ranges_of d = map (λ (a : OsvAffected). a.ranges) d.affected

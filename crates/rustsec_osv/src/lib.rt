@@ -5,9 +5,11 @@ mod affected;
 mod document;
 mod export;
 mod ranges;
+mod reader;
 mod reference;
 mod severity;
 mod timeline;
+mod trees;
 
 pub use crate::affected::{
     OsvAffected, OsvDatabaseSpecific, OsvEcosystemSpecific, OsvEcosystemSpecificAffected,

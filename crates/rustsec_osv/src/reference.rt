@@ -2,11 +2,11 @@
 
 ghost use Rattle.std.specs.Prelude.{◌≡◌, IfErr, IfOk, None, Some};
 ghost use Rattle.rustsec_osv.specs.DocumentKinds.{reference_kind_name, reference_kind_of};
-ghost use Rattle.rustsec_versions.specs.Failure.{IsMemory};
+ghost use Rattle.rustsec_versions.specs.Failure.{IsMemory, IsRefusal};
 
 use rustsec_advisory::Address;
-use rustsec_values::{ExactClone, Named};
-use rustsec_versions::Result;
+use rustsec_values::{ExactClone, Named, value_named};
+use rustsec_versions::{ErrorKind, Result, refused_text};
 use std::alloc::{AllocError, Global};
 
 /// What a reference leads to.
@@ -38,6 +38,29 @@ impl OsvReferenceKind {
             OsvReferenceKind::FIX => "FIX",
             OsvReferenceKind::PACKAGE => "PACKAGE",
             OsvReferenceKind::WEB => "WEB",
+        }
+    }
+
+    /// The kind of a word.
+    ///
+    /// # Errors
+    ///
+    /// `Parse` if no kind has the word; `OutOfMemory` in its place if there is no memory for the message.
+    pub fn from_str(alloc: Global, text: &str) -> Result<OsvReferenceKind>
+        ensures ok { IfOk result (λ k. reference_kind_of text.now ≡ Some k) }
+        ensures err { IfErr result (IsRefusal ErrorKind.Parse (reference_kind_of text.now ≡ None)) }
+
+        // Any error, of memory too, means that the text is none of the words.
+        ensures none { IfErr result (λ e. reference_kind_of text.now ≡ None) }
+    {
+        match value_named(text) {
+            Some(value) => Ok(value),
+            None => Err(refused_text(
+                alloc,
+                "no kind of references has the name",
+                text,
+                "`ADVISORY`, `ARTICLE`, `REPORT`, `FIX`, `PACKAGE` or `WEB`",
+            )),
         }
     }
 }

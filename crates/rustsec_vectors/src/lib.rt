@@ -40,6 +40,8 @@ mod lockfiles;
 #[cfg(test)]
 mod lookups;
 #[cfg(test)]
+mod osv_documents;
+#[cfg(test)]
 mod packages;
 #[cfg(test)]
 mod platforms;
