@@ -77,14 +77,18 @@ split None rest ys e = cc e
 split (Some y) None ys e = cc e
 split (Some y) (Some zs) ys e = (y, zs, refl, refl, sym (some-same _ _ e))
 
+-- a member whose events have valid versions
+abbrev IsValidMember : OsvAffected → Type 0
+IsValidMember a = IfThere (All IsRangeAgain) a.ranges
+
 -- of all members, in order
-all-kept : (xs ys : List OsvAffected) → All (λ (a : OsvAffected). IfThere (All IsRangeAgain) a.ranges) xs → read_all read_affected (map affected_tree xs) ≡ Some ys
+all-kept : (xs ys : List OsvAffected) → All IsValidMember xs → read_all read_affected (map affected_tree xs) ≡ Some ys
     → map ranges ys ≡ map ranges xs
 unfolding read_all
 all-kept [] ys h e = rw (sym (some-same _ _ e)) refl
 all-kept (x ∷ xs) ys h e =
     let p = split _ _ ys e in
-    rw p.4 (rw (ranges-kept x p.0 (All-head _ x xs h) p.2, all-kept xs p.1 (All-tail _ x xs h) p.3) refl)
+    rw p.4 (rw (ranges-kept x p.0 (All-head IsValidMember x xs h) p.2, all-kept xs p.1 (All-tail IsValidMember x xs h) p.3) refl)
 
 -- the members of a document that was read
 links-affected : (ms : Members) (l : Links) → read_links ms ≡ Some l → defaulted [] (every read_affected) (codes "affected") ms ≡ Some l.affected
