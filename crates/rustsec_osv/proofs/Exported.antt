@@ -1,5 +1,5 @@
 -- What was exported is the document of the definition, and its events are those of its one range.
-use Rattle.std.proofs.Common.{◌≡◌, ◌++◌, ◌⊎◌, ℕ, List, [], Option, Some, Ok, Err, append-nil, refl, sym, subst, inl, inr}
+use Rattle.std.proofs.Common.{◌≡◌, ◌++◌, ◌⊎◌, ℕ, List, [], Option, Some, Ok, Err, append-nil, sym, subst, inl, inr}
 use Rattle.std.specs.Prelude.{IfErr, IfOk, None, Result}
 use Rattle.rustsec_advisory.specs.declared.advisory.Advisory.{Advisory}
 use Rattle.rustsec_advisory.specs.declared.affected.Affected.{Affected}

@@ -14,9 +14,7 @@ ghost use Rattle.rustsec_osv.specs.declared.reference.OsvReference.{OsvReference
 use crate::affected::{OsvAffected, OsvPackage};
 use crate::document::{MainOsvDatabaseSpecific, OsvAdvisory};
 use crate::export::events::range_of;
-use crate::export::members::{
-    affected_of, database_of, noon, noon_of, package_of, severities_of,
-};
+use crate::export::members::{affected_of, database_of, noon, noon_of, package_of, severities_of};
 use crate::export::references::{own_pages, with_addresses};
 use crate::ranges::OsvJsonRange;
 use crate::reference::OsvReference;
@@ -52,11 +50,11 @@ fn texts_of(
     modified: &str,
 ) -> std::result::Result<Texts, AllocError>
     ensures { IfOk result (λ t. t ≡ record {
-          modified = modified.now;
-          published = noon metadata.now.date;
-          withdrawn = option_map noon metadata.now.withdrawn;
-          license = license_name metadata.now.license;
-        }) }
+      modified = modified.now;
+      published = noon metadata.now.date;
+      withdrawn = option_map noon metadata.now.withdrawn;
+      license = license_name metadata.now.license;
+    }) }
 {
     let modified = Text::from_str(alloc, modified)?;
     let published = noon(alloc, &metadata.date)?;
@@ -73,11 +71,11 @@ fn texts_of(
 /// What is made of an advisory for its document.
 fn made_of(alloc: Global, metadata: &Metadata, modified: &str) -> Result<Made>
     ensures texts { IfOk result (λ m. m.texts ≡ record {
-          modified = modified.now;
-          published = noon metadata.now.date;
-          withdrawn = option_map noon metadata.now.withdrawn;
-          license = license_name metadata.now.license;
-        }) }
+      modified = modified.now;
+      published = noon metadata.now.date;
+      withdrawn = option_map noon metadata.now.withdrawn;
+      license = license_name metadata.now.license;
+    }) }
     ensures severity { IfOk result (λ m. m.severity ≡ map severity_of (option_to_list metadata.now.cvss)) }
     ensures of_crate { IfOk result (λ m. m.«package» ≡ package_of metadata.now.«package») }
     ensures pages { IfOk result (λ m. own_pages metadata.now.«package» metadata.now.id.text ≡ Some m.pages) }
@@ -105,20 +103,20 @@ fn document_of(
     affected: Items<OsvAffected>,
 ) -> OsvAdvisory
     ensures { result ≡ record {
-          schema_version = None;
-          id = subject.id;
-          modified = texts.modified;
-          published = texts.published;
-          withdrawn = texts.withdrawn;
-          aliases = subject.aliases;
-          related = subject.related;
-          summary = named.0;
-          details = named.1;
-          severity = severity;
-          affected = affected;
-          references = references;
-          database_specific = record { license = Some texts.license };
-        } }
+      schema_version = None;
+      id = subject.id;
+      modified = texts.modified;
+      published = texts.published;
+      withdrawn = texts.withdrawn;
+      aliases = subject.aliases;
+      related = subject.related;
+      summary = named.0;
+      details = named.1;
+      severity = severity;
+      affected = affected;
+      references = references;
+      database_specific = record { license = Some texts.license };
+    } }
 {
     let Texts {
         modified,
@@ -162,20 +160,20 @@ fn with_parts(
     range: OsvJsonRange,
 ) -> std::result::Result<OsvAdvisory, AllocError>
     ensures { IfOk result (λ d. d ≡ record {
-          schema_version = None;
-          id = parts.subject.id;
-          modified = made.texts.modified;
-          published = made.texts.published;
-          withdrawn = made.texts.withdrawn;
-          aliases = parts.subject.aliases;
-          related = parts.subject.related;
-          summary = parts.title;
-          details = parts.description;
-          severity = made.severity;
-          affected = member_of made.«package» (database_of parts.kinds) affected range ∷ [];
-          references = made.pages ++ map reference_of (option_to_list parts.origin.url ++ parts.origin.references);
-          database_specific = record { license = Some made.texts.license };
-        }) }
+      schema_version = None;
+      id = parts.subject.id;
+      modified = made.texts.modified;
+      published = made.texts.published;
+      withdrawn = made.texts.withdrawn;
+      aliases = parts.subject.aliases;
+      related = parts.subject.related;
+      summary = parts.title;
+      details = parts.description;
+      severity = made.severity;
+      affected = member_of made.«package» (database_of parts.kinds) affected range ∷ [];
+      references = made.pages ++ map reference_of (option_to_list parts.origin.url ++ parts.origin.references);
+      database_specific = record { license = Some made.texts.license };
+    }) }
 {
     let Made {
         texts,

@@ -35,10 +35,7 @@ fn least_version(alloc: Global) -> std::result::Result<Version, AllocError>
 }
 
 /// Where a range begins: at the least version if its introduction is missing.
-fn beginning(
-    alloc: Global,
-    introduced: Option<Version>,
-) -> std::result::Result<Version, AllocError>
+fn beginning(alloc: Global, introduced: Option<Version>) -> std::result::Result<Version, AllocError>
     ensures { IfOk result (λ v. parts_of v ≡ beginning (option_map parts_of introduced)) }
 {
     match introduced {
