@@ -44,6 +44,10 @@ mod lockfiles;
 #[cfg(test)]
 mod lookups;
 #[cfg(test)]
+mod osv_documents;
+#[cfg(test)]
+mod osv_export;
+#[cfg(test)]
 mod packages;
 #[cfg(test)]
 mod platforms;
