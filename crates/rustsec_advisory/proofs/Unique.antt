@@ -1,4 +1,4 @@
--- A text has at most one advisory, and one list of faults.
+-- A text has at most one advisory, and one list of lint errors.
 use Rattle.std.proofs.Common.{◌≡◌, ◌∙◌, ℕ, Bool, List, [], ◌∷◌, ◌⊎◌, Option, Some, None, Ordering, Less, IsPermutation}
 use Rattle.std.proofs.Common.{refl, sym, ap, subst, inl, inr, ⊎_elim}
 use Rattle.std.specs.Cmp.{IsTotalOrder, tied_itself}
@@ -17,7 +17,7 @@ use Rattle.rustsec_texts.specs.Parts.{FileParts}
 use Rattle.rustsec_texts.specs.Paths.{path_order, path_total}
 use Rattle.rustsec_advisory.specs.Advisory.{AreVersions, IsAdvisory, IsAdvisoryWith, IsAffectedAt, IsOfDocument, document_text}
 use Rattle.rustsec_advisory.specs.Affected.{AreFunctions, AreFunctionsAt, Function, IsAffected}
-use Rattle.rustsec_advisory.specs.Faults.{Fault, lint_faults}
+use Rattle.rustsec_advisory.specs.LintErrors.{LintError, lint_errors}
 use Rattle.rustsec_advisory.specs.Lints.{Lints}
 use Rattle.rustsec_advisory.specs.Metadata.{IsMetadata}
 use Rattle.rustsec_advisory.specs.declared.advisory.Advisory.{Advisory}
@@ -202,11 +202,11 @@ with_document_unique text d e a b h k =
 pub advisory_unique : (text : List ℕ) (a b : Advisory) → IsAdvisory text a → IsAdvisory text b → a ≡ b
 advisory_unique text a b h k = with_document_unique text h.0 k.0 a b h.1 k.1
 
--- with the faults that a linter finds in it
-pub lints_unique : (text : List ℕ) (draft : Option Bool) (a b : Advisory) (fs gs : List Fault) → Lints text draft a fs
+-- with the lint errors that a linter finds in it
+pub lints_unique : (text : List ℕ) (draft : Option Bool) (a b : Advisory) (fs gs : List LintError) → Lints text draft a fs
     → Lints text draft b gs → (a ≡ b) × (fs ≡ gs)
 lints_unique text draft a b fs gs h k =
     let document = document_unique text h.document k.document a b h.is_advisory k.is_advisory in
     let advisory = with_document_unique text h.document k.document a b h.is_advisory k.is_advisory in
-    let faults : lint_faults draft h.document a ≡ lint_faults draft k.document b = λ i. lint_faults draft (document i) (advisory i) in
-    (advisory, h.faults_are ∙ faults ∙ sym k.faults_are)
+    let errors : lint_errors draft h.document a ≡ lint_errors draft k.document b = λ i. lint_errors draft (document i) (advisory i) in
+    (advisory, h.errors_are ∙ errors ∙ sym k.errors_are)

@@ -2,10 +2,9 @@ pub mod Addresses
 pub mod Requirements
 pub mod FileRefusals
 pub mod Affected
-pub mod Groups
+pub mod FieldGroups
 pub mod Metadata
 pub mod Advisory
-pub mod Faults
+pub mod LintErrors
 pub mod Lints
-pub mod Decided
-pub use Rattle.rustsec_files.specs.Paths
+pub mod EqualityLaws

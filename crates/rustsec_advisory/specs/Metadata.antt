@@ -11,7 +11,7 @@ use Rattle.rustsec_texts.specs.Ids.{id_of}
 use Rattle.rustsec_texts.specs.Informational.{informational_of}
 use Rattle.rustsec_texts.specs.Licenses.{default_license, license_of}
 use Rattle.rustsec_advisory.specs.Addresses.{address_of}
-use Rattle.rustsec_advisory.specs.Groups.{kinds_of, origin_of, subject_of, terms_of}
+use Rattle.rustsec_advisory.specs.FieldGroups.{kinds_of, origin_of, subject_of, terms_of}
 use Rattle.rustsec_advisory.specs.declared.metadata.Kinds.{Kinds}
 use Rattle.rustsec_advisory.specs.declared.metadata.Metadata.{Metadata}
 use Rattle.rustsec_advisory.specs.declared.metadata.Origin.{Origin}
@@ -19,7 +19,7 @@ use Rattle.rustsec_advisory.specs.declared.metadata.Subject.{Subject}
 use Rattle.rustsec_advisory.specs.declared.metadata.Terms.{Terms}
 use Rattle.rustsec_toml.specs.Fields.{defaulted, every, optional, required, text}
 
--- what the table says of the fault: its names, its package and its day
+-- what the table says of the vulnerability: its names, its package and its day
 pub record IsSubject (table : Members) (s : Subject) : Type 0 where
   pub id : required (text id_of) (codes "id") table ≡ Some s.id
   pub name : required (text name_of) (codes "package") table ≡ Some s.name
@@ -27,7 +27,7 @@ pub record IsSubject (table : Members) (s : Subject) : Type 0 where
   pub aliases : defaulted [] (every (text id_of)) (codes "aliases") table ≡ Some s.aliases
   pub related : defaulted [] (every (text id_of)) (codes "related") table ≡ Some s.related
 
--- how it sorts the fault
+-- how it sorts the vulnerability
 pub record AreKinds (table : Members) (k : Kinds) : Type 0 where
   pub collection : optional (text collection_of) (codes "collection") table ≡ Some k.collection
   pub categories : defaulted [] (every (text (λ t. Some (category_of t)))) (codes "categories") table ≡ Some k.categories

@@ -271,7 +271,7 @@ impl ExactClone for Advisory {
 }
 
 impl ExactEq for Advisory {
-    ghost use Rattle.rustsec_advisory.specs.Decided.{advisory_decides};
+    ghost use Rattle.rustsec_advisory.specs.EqualityLaws.{advisory_decides};
 
     ghost decides = { advisory_decides };
 }

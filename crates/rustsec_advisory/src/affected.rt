@@ -95,7 +95,7 @@ impl ExactClone for Affected {
 }
 
 impl ExactEq for Affected {
-    ghost use Rattle.rustsec_advisory.specs.Decided.{affected_decides};
+    ghost use Rattle.rustsec_advisory.specs.EqualityLaws.{affected_decides};
 
     ghost decides = { affected_decides };
 }

@@ -4,8 +4,8 @@
 mod address;
 mod advisory;
 mod affected;
-mod faults;
 mod front_matter;
+mod lint_rules;
 pub mod linter;
 pub mod metadata;
 mod requirements;

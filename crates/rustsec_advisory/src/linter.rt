@@ -4,7 +4,7 @@ ghost use Rattle.std.specs.Prelude.{◌≡◌, ◌⊎◌, ℕ, List, IfErr, IfOk
 ghost use Rattle.std.specs.Fmt.{DisplaysOnOk};
 ghost use Rattle.std.specs.Option.{option_copied};
 ghost use Rattle.rustsec_advisory.specs.Advisory.{IsAdvisory};
-ghost use Rattle.rustsec_advisory.specs.Faults.{Fault, fault_text, kind_text, message_text, section_text};
+ghost use Rattle.rustsec_advisory.specs.LintErrors.{LintError, lint_error_text, kind_text, message_text, section_text};
 ghost use Rattle.rustsec_advisory.specs.Lints.{Lints};
 ghost use Rattle.rustsec_files.specs.Paths.{is_draft, is_markdown};
 ghost use Rattle.rustsec_advisory.specs.declared.advisory.Advisory as given;
@@ -13,7 +13,7 @@ ghost use Rattle.rustsec_versions.specs.Failure.{IsMemory, IsOfKind, IsRefusal};
 ghost use Rattle.rustsec_versions.specs.declared.error.ErrorKind.TheVariants as failure;
 
 use crate::advisory::{self, Advisory};
-use crate::faults;
+use crate::lint_rules;
 use rustsec_files::{path, reading};
 use rustsec_values::{ExactClone, ExactEq, Items, Text};
 use rustsec_versions::{Result, refused_text};
@@ -107,7 +107,7 @@ impl ExactClone for ErrorKind {
 }
 
 impl ExactEq for ErrorKind {
-    ghost use Rattle.rustsec_advisory.specs.Decided.{kind_decides};
+    ghost use Rattle.rustsec_advisory.specs.EqualityLaws.{kind_decides};
 
     ghost decides = { kind_decides };
 }
@@ -146,9 +146,9 @@ impl Drop for Error {
 }
 
 impl Model for Error {
-    ghost use Rattle.rustsec_advisory.specs.Faults.{Fault};
+    ghost use Rattle.rustsec_advisory.specs.LintErrors.{LintError};
 
-    ghost Value = { Fault };
+    ghost Value = { LintError };
 
     ghost view = { λ e. record { kind = e.kind; section = e.section; message = e.message } };
 
@@ -254,9 +254,9 @@ impl ExactClone for Error {
 }
 
 impl ExactEq for Error {
-    ghost use Rattle.rustsec_advisory.specs.Decided.{fault_decides};
+    ghost use Rattle.rustsec_advisory.specs.EqualityLaws.{lint_error_decides};
 
-    ghost decides = { fault_decides };
+    ghost decides = { lint_error_decides };
 }
 
 /// Writes where a lint error stands.
@@ -280,7 +280,7 @@ fn write_message<W: fmt::Write>(f: &mut fmt::Formatter<W>, message: &Option<Text
 }
 
 impl fmt::Display for Error {
-    ghost output = { λ e. Some (fault_text e) };
+    ghost output = { λ e. Some (lint_error_text e) };
 
     fn fmt<W: fmt::Write>(&self, f: &mut fmt::Formatter<W>) -> fmt::Result {
         fmt::Display::fmt(&self.kind, f)?;
@@ -314,12 +314,12 @@ impl Linter {
     /// `Parse` where the text is no advisory; else `OutOfMemory`.
     pub fn lint_string(alloc: Global, text: &str, draft: Option<bool>) -> Result<Linter>
         ensures ok { IfOk result (λ l. Lints text.now draft l.advisory l.errors) }
-        ensures only { IfOk result (λ l. (b : given.Advisory) (fs : List Fault)
+        ensures only { IfOk result (λ l. (b : given.Advisory) (fs : List LintError)
             → Lints text.now draft b fs → (b ≡ l.advisory) × (fs ≡ l.errors)) }
         ensures err { IfErr result (IsRefusal failure.Parse ((a : given.Advisory) → ¬ IsAdvisory text.now a)) }
     {
         let (advisory, document) = advisory::read(alloc, text)?;
-        let errors = faults::of_document(alloc, draft, &advisory, &document)?;
+        let errors = lint_rules::of_document(alloc, draft, &advisory, &document)?;
         Ok(Linter { advisory, errors })
     }
 

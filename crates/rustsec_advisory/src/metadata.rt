@@ -1,7 +1,7 @@
 // What an advisory says of itself.
 
 ghost use Rattle.std.specs.Prelude.{◌≡◌, IfErr, IfOk};
-ghost use Rattle.rustsec_advisory.specs.Groups.{kinds_of, origin_of, subject_of, terms_of};
+ghost use Rattle.rustsec_advisory.specs.FieldGroups.{kinds_of, origin_of, subject_of, terms_of};
 ghost use Rattle.rustsec_versions.specs.Failure.{IsMemory};
 
 use crate::address::Address;
@@ -327,7 +327,7 @@ impl ExactClone for Metadata {
 }
 
 impl ExactEq for Metadata {
-    ghost use Rattle.rustsec_advisory.specs.Decided.{metadata_decides};
+    ghost use Rattle.rustsec_advisory.specs.EqualityLaws.{metadata_decides};
 
     ghost decides = { metadata_decides };
 }

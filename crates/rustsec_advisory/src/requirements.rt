@@ -11,19 +11,11 @@ ghost use Rattle.rustsec_versions.specs.Failure.{IsRefusal};
 ghost use Rattle.rustsec_versions.specs.Views.{comparators_of};
 
 use rustsec_toml::Section;
-use rustsec_versions::{ErrorKind, Result, refused_text};
+use rustsec_versions::{ErrorKind, Result, is_out_of_memory, refused_text};
 use semver::VersionReq;
 use std::alloc::{AllocError, Global};
 use toml::Value;
 use toml::value::Array;
-
-/// Whether an error of `semver` is out of memory.
-fn is_memory(e: semver::Error) -> bool
-    ensures memory { e ≡ memory_error → result ≡ true }
-    ensures only { result ≡ true → e ≡ memory_error }
-{
-    e == semver::Error::from(AllocError)
-}
 
 /// The requirement of a text, none if the text is refused. A refusal is never out of memory.
 fn parsed(alloc: Global, text: &str) -> std::result::Result<Option<VersionReq>, AllocError>
@@ -32,7 +24,7 @@ fn parsed(alloc: Global, text: &str) -> std::result::Result<Option<VersionReq>, 
 {
     match VersionReq::parse(alloc, text) {
         Ok(req) => Ok(Some(req)),
-        Err(e) if is_memory(e) => Err(AllocError),
+        Err(e) if is_out_of_memory(e) => Err(AllocError),
         Err(_) => Ok(None),
     }
 }

@@ -8,6 +8,7 @@ ghost use Rattle.rustsec_versions.specs.Views.{comparators_of};
 ghost use Rattle.rustsec_commands.specs.Line.{by_word, line_says, lines_of, without_return};
 ghost use Rattle.rustsec_commands.specs.Views.{line_view};
 
+use rustsec_versions::is_out_of_memory;
 use semver::{Version, VersionReq};
 use std::alloc::{AllocError, Global};
 use std::str;
@@ -38,20 +39,13 @@ fn without_return(line: &[u8]) -> &[u8]
     }
 }
 
-/// Whether an error of `semver` says that memory ran out.
-fn is_memory(e: semver::Error) -> bool
-    ensures { e ≡ memory_error → result ≡ true }
-{
-    e == semver::Error::from(AllocError)
-}
-
 /// The requirement of a text, if it is one.
 fn requirement(alloc: Global, text: &str) -> Result<Option<VersionReq>, AllocError>
     ensures { IfOk result (λ o. option_map comparators_of o ≡ value_of (req_of text.now)) }
 {
     match VersionReq::parse(alloc, text) {
         Ok(req) => Ok(Some(req)),
-        Err(e) if is_memory(e) => Err(AllocError),
+        Err(e) if is_out_of_memory(e) => Err(AllocError),
         Err(_) => Ok(None),
     }
 }
@@ -62,7 +56,7 @@ fn version(alloc: Global, text: &str) -> Result<Option<Version>, AllocError>
 {
     match Version::parse(alloc, text) {
         Ok(version) => Ok(Some(version)),
-        Err(e) if is_memory(e) => Err(AllocError),
+        Err(e) if is_out_of_memory(e) => Err(AllocError),
         Err(_) => Ok(None),
     }
 }

@@ -1,7 +1,7 @@
 //! The command `lint`: the errors that a linter finds in an advisory's file.
 
 ghost use Rattle.std.specs.Prelude.{◌≡◌, ◌≢◌, IfOk, flat_map, string_bytes};
-ghost use Rattle.rustsec_commands.specs.Lint.{IsLintOutput, fault_line, faults_output, refused_as};
+ghost use Rattle.rustsec_commands.specs.Lint.{IsLintOutput, error_line, errors_output, refused_as};
 ghost use Rattle.rustsec_versions.specs.declared.error.ErrorKind.TheVariants as failure;
 
 use crate::output::Output;
@@ -13,7 +13,7 @@ use std::rt::Files;
 
 /// A line for each lint error.
 fn error_lines(alloc: Global, errors: &[linter::Error]) -> Result<String, AllocError>
-    ensures { IfOk result (λ t. string_bytes t ≡ flat_map fault_line errors.now) }
+    ensures { IfOk result (λ t. string_bytes t ≡ flat_map error_line errors.now) }
 {
     let mut text = String::new(alloc);
     for error in errors {
@@ -32,7 +32,7 @@ fn refused(alloc: Global, kind: ErrorKind) -> Result<Output, AllocError>
 
 /// The answer to an advisory: its lint errors.
 fn errors_output(alloc: Global, linter: &Linter) -> Result<Output, AllocError>
-    ensures { IfOk result (λ o. o ≡ faults_output linter.now.errors) }
+    ensures { IfOk result (λ o. o ≡ errors_output linter.now.errors) }
 {
     let errors = linter.errors();
     let text = error_lines(alloc, errors)?;

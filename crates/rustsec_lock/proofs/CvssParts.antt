@@ -1,5 +1,5 @@
 -- What stands behind a beginning, and the lone one of several parts.
-use Rattle.std.proofs.Common.{◌≡◌, ◌∙◌, ◌==◌, ℕ, ◌+◌, ◌<◌, ◌≤◌, ◌⊎◌, true, false, List, [], ◌∷◌, ◌++◌, Option, Some, None, option_map, is_some, map, filter_map, drop, get_or, length, nat_eq, refl, sym, ap, subst, add-one, drop-cons, append-nil, inl, inr}
+use Rattle.std.proofs.Common.{◌≡◌, ◌∙◌, ◌==◌, ℕ, ◌+◌, ◌<◌, ◌≤◌, true, false, List, [], ◌∷◌, ◌++◌, Option, Some, None, option_map, is_some, map, filter_map, drop, get_or, length, nat_eq, refl, sym, ap, subst, add-one, drop-cons, append-nil}
 use Rattle.std.proofs.lemmas.List.{drop_all, length-map}
 use Rattle.std.proofs.lemmas.Str.Pattern.{starts_text}
 use Rattle.std.specs.List.{starts_with}
@@ -8,8 +8,6 @@ use Rattle.std.specs.Str.{IsCharBoundary}
 use Rattle.std.specs.Str.Pattern.{FindsTextPrefix, StripsPrefix}
 use denote.Ref.{Bor}
 use Rattle.rustsec_values.specs.Reading.{only_if}
-use Rattle.rustsec_versions.specs.Failure.{Failure, IsRefusal, out_of_memory}
-use Rattle.rustsec_versions.specs.declared.error.ErrorKind.TheVariants as kind
 use Rattle.rustsec_lock.specs.Cvss.{base_of, behind, given, lone, metrics_of, parts_of}
 
 pub behind_from_strip : (p s : List ℕ) (r : Option (Bor (List ℕ)))

@@ -4,11 +4,12 @@ use Rattle.std.specs.List.{All}
 use Rattle.std.specs.Prelude.{ℕ, Result, Ok, Err, codes}
 use Rattle.std.proofs.lemmas.List.Elements.{All-cons, All-nil}
 use Rattle.semver.specs.Parse.{Parts, version_parts}
-use Rattle.toml.specs.Data.{Data, Members, as_table}
+use Rattle.toml.specs.Data.{Data, Members, as_str, as_table}
 use Rattle.rustsec_values.specs.Reading.{◌>>=◌, before, read_all, read_optional, value_of}
+use Rattle.rustsec_toml.specs.Fields.{optional, required}
 use Rattle.rustsec_versions.specs.Precedence.{IsVersion}
 use Rattle.rustsec_versions.proofs.Parsed.{IsVersion-read}
-use Rattle.rustsec_lock.specs.Lockfile.{AreValid, optional_text_at, package_in, package_of, text_at, version_of}
+use Rattle.rustsec_lock.specs.Lockfile.{AreValid, package_in, package_of, version_of}
 use Rattle.rustsec_lock.specs.Names.{name_of}
 use Rattle.rustsec_lock.specs.Package.{PackageValue}
 use Rattle.rustsec_lock.specs.Source.{Source, source_id_of}
@@ -30,24 +31,24 @@ version_of-valid text v h = IsVersion-read text v (value_of-ok (version_parts te
 
 abbrev checksum_last : Members → List ℕ → Parts → Option Source → Option PackageValue
 checksum_last ms name version source =
-    optional_text_at (codes "checksum") ms >>= λ checksum. Some (record { name = name; version = version; source = source; checksum = checksum })
+    optional as_str (codes "checksum") ms >>= λ checksum. Some (record { name = name; version = version; source = source; checksum = checksum })
 
 abbrev source_next : Members → List ℕ → Parts → Option PackageValue
-source_next ms name version = optional_text_at (codes "source") ms >>= read_optional source_id_of >>= checksum_last ms name version
+source_next ms name version = optional as_str (codes "source") ms >>= read_optional source_id_of >>= checksum_last ms name version
 
 abbrev version_next : Members → List ℕ → Option PackageValue
-version_next ms name = text_at (codes "version") ms >>= version_of >>= source_next ms name
+version_next ms name = required as_str (codes "version") ms >>= version_of >>= source_next ms name
 
 same-version : (a b : PackageValue) → Some a ≡ Some b → a.version ≡ b.version
 same-version a b h = cc h
 
 package_in-valid : (ms : Members) (p : PackageValue) → package_in ms ≡ Some p → IsVersion p.version
 package_in-valid ms p h =
-    let (name, (_, after_name)) = bound (text_at (codes "name") ms >>= name_of) (version_next ms) p h in
-    let (version, (read, after_version)) = bound (text_at (codes "version") ms >>= version_of) (source_next ms name) p after_name in
-    let (text, (_, is)) = bound (text_at (codes "version") ms) version_of version read in
-    let (source, (_, after_source)) = bound (optional_text_at (codes "source") ms >>= read_optional source_id_of) (checksum_last ms name version) p after_version in
-    let (checksum, (_, made)) = bound (optional_text_at (codes "checksum") ms) (λ checksum. Some (record { name = name; version = version; source = source; checksum = checksum })) p after_source in
+    let (name, (_, after_name)) = bound (required as_str (codes "name") ms >>= name_of) (version_next ms) p h in
+    let (version, (read, after_version)) = bound (required as_str (codes "version") ms >>= version_of) (source_next ms name) p after_name in
+    let (text, (_, is)) = bound (required as_str (codes "version") ms) version_of version read in
+    let (source, (_, after_source)) = bound (optional as_str (codes "source") ms >>= read_optional source_id_of) (checksum_last ms name version) p after_version in
+    let (checksum, (_, made)) = bound (optional as_str (codes "checksum") ms) (λ checksum. Some (record { name = name; version = version; source = source; checksum = checksum })) p after_source in
     rw (same-version _ p made) at (version_of-valid text version is)
 
 package_of-valid : (d : Data) (p : PackageValue) → package_of d ≡ Some p → IsVersion p.version

@@ -11,7 +11,6 @@ mod score;
 mod severity;
 mod source;
 mod source_order;
-mod toml_table;
 
 /// Packages and their names.
 pub mod package {

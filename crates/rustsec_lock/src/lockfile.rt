@@ -5,16 +5,19 @@ ghost use Rattle.semver.specs.Identifiers.{parts_of};
 ghost use Rattle.toml.specs.View.{array_view, table_view, view};
 ghost use Rattle.rustsec_values.specs.Reading.{read_all, read_optional};
 ghost use Rattle.rustsec_versions.specs.Failure.{IsMemory, IsOfKind, IsRefusal};
-ghost use Rattle.rustsec_lock.specs.Lockfile.{AreValid, NamesLockfile, list_of, lockfile_of, package_in, package_of, packages_of, version_of};
+ghost use Rattle.rustsec_toml.specs.Fields.{list_of};
+ghost use Rattle.rustsec_lock.specs.Lockfile.{AreValid, NamesLockfile, lockfile_of, package_in, package_of, packages_of, version_of};
 ghost use Rattle.rustsec_lock.specs.Source.{source_id_of};
 
 use crate::names::Name;
 use crate::packages::Package;
 use crate::source::SourceId;
-use crate::toml_table::{member, of_another_type, optional_text_at, text_at};
 use rustsec_files::reading::text_of_file;
+use rustsec_toml::Section;
 use rustsec_values::{ExactClone, Items, Text, beginning_of};
-use rustsec_versions::{Error, ErrorKind, Result, refused_at, refused_file, refused_text};
+use rustsec_versions::{
+    Error, ErrorKind, Result, is_out_of_memory, refused_at, refused_file, refused_text,
+};
 use semver::Version;
 use std::alloc::{AllocError, Global};
 use std::rt::Files;
@@ -39,12 +42,8 @@ fn version_of(alloc: Global, text: &str) -> Result<Version>
 {
     match Version::parse(alloc, text) {
         Ok(version) => Ok(version),
-        Err(e) => {
-            if e == semver::Error::from(AllocError) {
-                return Err(Error::from(AllocError));
-            }
-            Err(malformed_version(alloc, text, &e))
-        }
+        Err(e) if is_out_of_memory(e) => Err(Error::from(AllocError)),
+        Err(e) => Err(malformed_version(alloc, text, &e)),
     }
 }
 
@@ -81,10 +80,14 @@ fn package_in(alloc: Global, table: &Table) -> Result<Package>
     ensures ok { IfOk result (λ p. package_in (table_view table.now) ≡ Some p) }
     ensures err { IfErr result (IsRefusal ErrorKind.Parse (package_in (table_view table.now) ≡ None)) }
 {
-    let name = Name::from_str(alloc, text_at(alloc, table, "name")?)?;
-    let version = version_of(alloc, text_at(alloc, table, "version")?)?;
-    let source = source_of(alloc, optional_text_at(alloc, table, "source")?)?;
-    let checksum = copy_of(alloc, optional_text_at(alloc, table, "checksum")?)?;
+    let section = Section {
+        table,
+        name: "[[package]]",
+    };
+    let name = Name::from_str(alloc, section.string_at(alloc, "name")?)?;
+    let version = version_of(alloc, section.string_at(alloc, "version")?)?;
+    let source = source_of(alloc, section.optional_string_at(alloc, "source")?)?;
+    let checksum = copy_of(alloc, section.optional_string_at(alloc, "checksum")?)?;
     Ok(Package {
         name,
         version,
@@ -100,7 +103,7 @@ fn package_of(alloc: Global, value: &Value) -> Result<Package>
 {
     match value.as_table() {
         Some(table) => package_in(alloc, table),
-        None => Err(of_another_type(alloc, "package", value, "a table for each package")),
+        None => Err(refused_text(alloc, "not a package: found", value.type_str(), "a table")),
     }
 }
 
@@ -188,14 +191,16 @@ impl Lockfile {
         ensures valid { IfOk result (λ l. AreValid l.packages) }
         ensures err { IfErr result (IsRefusal ErrorKind.Parse (packages_of (table_view table.now) ≡ None)) }
     {
-        let Some(value) = member(table, "package") else {
+        let section = Section {
+            table,
+            name: "the lockfile",
+        };
+        let Some(value) = section.get("package") else {
             return Ok(Lockfile {
                 packages: Items::new(alloc),
             });
         };
-        let Some(array) = value.as_array() else {
-            return Err(of_another_type(alloc, "package", value, "an array of tables"));
-        };
+        let array = section.array_of(alloc, "package", value, "an array of tables")?;
         let packages = packages_in(alloc, array)?;
         Ok(Lockfile { packages })
     }

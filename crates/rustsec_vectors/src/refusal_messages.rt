@@ -28,27 +28,27 @@ const LOCKFILES: &[(&str, &str, bool)] = &[
     ("= 1", "the lockfile is no TOML document", true),
     (
         "package = 1",
-        "the key `package` holds a value of type integer, expected an array of tables",
+        "key `package` in the lockfile: found integer `1`, expected an array of tables",
         false,
     ),
     (
         "package = [\"a\"]",
-        "package 1: the key `package` holds a value of type string, expected a table for each package",
+        "package 1: not a package: found `string`, expected a table",
         false,
     ),
     (
         "[[package]]\nversion = \"1.0.0\"",
-        "package 1: the key `name` is missing, expected a string",
+        "package 1: key `name` is missing in [[package]]",
         false,
     ),
     (
         "[[package]]\nname = \"a\"\nversion = \"1.0.0\"\n[[package]]\nname = \"b\"",
-        "package 2, `b`: the key `version` is missing, expected a string",
+        "package 2, `b`: key `version` is missing in [[package]]",
         false,
     ),
     (
         "[[package]]\nname = \"a\"\nversion = 1",
-        "package 1, `a`: the key `version` holds a value of type integer, expected a string",
+        "package 1, `a`: key `version` in [[package]]: found integer `1`, expected a string",
         false,
     ),
     (

@@ -16,7 +16,8 @@ use std::alloc::{AllocError, Global};
 
 /// Whether an error of `semver` says that memory was refused.
 pub fn is_out_of_memory(e: semver::Error) -> bool
-    ensures { e ≡ memory_error → result ≡ true }
+    ensures memory { e ≡ memory_error → result ≡ true }
+    ensures only { result ≡ true → e ≡ memory_error }
 {
     e == semver::Error::from(AllocError)
 }

@@ -1,7 +1,8 @@
 use Rattle.std.proofs.Common.{◌≡◌, take, Some}
 use Rattle.toml.specs.View.{items_view}
 use Rattle.rustsec_values.specs.Reading.{read_all}
-use Rattle.rustsec_lock.specs.Lockfile.{list_of, package_of}
+use Rattle.rustsec_toml.specs.Fields.{list_of}
+use Rattle.rustsec_lock.specs.Lockfile.{package_of}
 use Rattle.rustsec_lock.proofs.lockfile.packages_in.Given as goal
 
 abbrev pub invariant-loop-value : goal.invariant-loop-value

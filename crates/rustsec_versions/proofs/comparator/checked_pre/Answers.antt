@@ -30,6 +30,6 @@ pub returns-in-Err-2-clause-err : goal.returns-in-Err-2-clause-err
 returns-in-Err-2-clause-err c =
     let same : c.in-Err.e ≡ c.in-Err-2.field-0 = cc in
     elim c.in-Err-2.ensures.err [
-      | inl memory ↦ cc (c.is_out_of_memory.ensures (same ∙ memory))
+      | inl memory ↦ cc (c.is_out_of_memory.ensures.memory (same ∙ memory))
       | inr refused ↦ let none = was_refused _ _ _ refused c.as_str.ensures in rw none (search rules)
     ]

@@ -11,4 +11,4 @@ returns-in_err-errors-clause-err c =
 pub returns-clause-only : goal.returns-clause-only
 returns-clause-only c b fs k =
     lints_unique _ _ b _ fs _ k
-    (record { document = _; is_advisory = c.in_ok-advisory.ensures.ok; faults_are = c.in_ok-errors.ensures.ok })
+    (record { document = _; is_advisory = c.in_ok-advisory.ensures.ok; errors_are = c.in_ok-errors.ensures.ok })

@@ -1,7 +1,0 @@
-use Rattle.std.proofs.Common.{◌≡◌, ◌++◌}
-use Rattle.rustsec_advisory.specs.Faults.{advisory_rows}
-use Rattle.rustsec_advisory.proofs.Members.{left}
-use Rattle.rustsec_advisory.proofs.faults.lint_advisory.Given as goal
-
-abbrev pub invariant-loop-key : goal.invariant-loop-key
-invariant-loop-key l = l.errors ++ left (advisory_rows l.draft l.metadata) l.key-iterator ≡ l.fn.errors ++ left (advisory_rows l.draft l.metadata) l.table.entries

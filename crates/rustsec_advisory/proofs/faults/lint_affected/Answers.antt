@@ -1,9 +1,0 @@
-use Rattle.std.proofs.Common.{◌≡◌, [], rules}
-use Rattle.rustsec_advisory.specs.Faults.{affected_rows}
-use Rattle.rustsec_advisory.proofs.Members.{walk-end}
-use Rattle.rustsec_advisory.proofs.faults.lint_affected.Goals as goal
-
-pub returns-clause-ok : goal.returns-clause-ok
-returns-clause-ok c =
-    let none : c.loop-key.key-iterator ≡ [] = search rules in
-    walk-end (λ e. affected_rows c.args.advisory.now e.0) c.loop-key.errors c.args.errors.now c.loop-key.key-iterator c.args.table.now.entries none c.loop-key.invariant
