@@ -32,3 +32,6 @@ filtered-again f r =
     let vulnerabilities = filter-again (λ (v : Vulnerability). applicable f v.affected) r.vulnerabilities.list in
     let warnings = kinds-again (λ (w : Warning). applicable f w.affected) r.warnings in
     λ i. record r { vulnerabilities = info_of (vulnerabilities i); warnings = warnings i }
+
+pub again-from : (f : BinaryFormat) (old new : Report) → new ≡ filtered f old → filtered f new ≡ new
+again-from f old new e = rw e (filtered-again f old)

@@ -1,5 +1,6 @@
 -- Warnings that are gathered kind by kind are each kind with its warnings, in the order of kinds.
-use Rattle.std.proofs.Common.{◌≡◌, List, [], ◌∷◌, map, refl}
+use Rattle.std.proofs.Common.{◌≡◌, ◌≤◌, ◌∙◌, ℕ, List, [], ◌∷◌, map, ap, drop, length, refl, sym}
+use Rattle.std.proofs.lemmas.List.{drop_all}
 use Rattle.rustsec_texts.specs.WarningKinds.{warning_kinds}
 use Rattle.rustsec_texts.specs.declared.warning_kind.WarningKind.{WarningKind}
 use Rattle.rustsec_texts.specs.declared.warning_kind.WarningKind.TheVariants as kind
@@ -36,3 +37,9 @@ each (w ∷ a) (x ∷ b) (y ∷ c) (z ∷ d) = refl
 pub all_gathered : (s : Settings) (vs : List Vulnerability) → gathered (warnings_of_kind s vs) [] warning_kinds ≡ warnings_by_kind s vs
 unfolding warnings_by_kind
 all_gathered s vs = each (warnings_of_kind s vs kind.Notice) (warnings_of_kind s vs kind.Unmaintained) (warnings_of_kind s vs kind.Unsound) (warnings_of_kind s vs kind.Yanked)
+
+-- when no kind is left
+pub finished : (s : Settings) (vs : List Vulnerability) (es : List (WarningKind × List Warning)) (ks : List WarningKind) (i : ℕ) → length ks ≤ i → ks ≡ warning_kinds
+    → gathered (warnings_of_kind s vs) es (drop i ks) ≡ gathered (warnings_of_kind s vs) [] ks → es ≡ warnings_by_kind s vs
+finished s vs es ks i past is h =
+    ap (gathered (warnings_of_kind s vs) es) (sym (drop_all i ks past)) ∙ (h ∙ (ap (gathered (warnings_of_kind s vs) []) is ∙ all_gathered s vs))

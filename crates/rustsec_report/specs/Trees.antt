@@ -1,5 +1,5 @@
 -- The JSON tree of a report. Each object is a map, so its keys stand in the order of their bytes.
-use Rattle.std.specs.Prelude.{ℕ, List, [], ◌∷◌, map, codes}
+use Rattle.std.specs.Prelude.{ℕ, List, [], ◌∷◌, ◌++◌, map, codes}
 use Rattle.semver.specs.Identifiers.{parts_text}
 use Rattle.semver.specs.Parse.{Held}
 use Rattle.serde_json.specs.Data.{Data, Members, boolean, no_members, number, object, put, string, unsigned}
@@ -115,8 +115,11 @@ terms m =
     ∷ []
 
 -- all eighteen keys
+unfoldable pub metadata_entries : Metadata → List Entry
+metadata_entries m = subject m ++ (kinds m ++ (origin m ++ terms m))
+
 unfoldable pub metadata_tree : Metadata → Data
-metadata_tree m = object (with_members (with_members (with_members (with_members no_members (subject m)) (kinds m)) (origin m)) (terms m))
+metadata_tree m = object_of (metadata_entries m)
 
 -- ---- packages, vulnerabilities, warnings
 

@@ -3,7 +3,7 @@
 ghost use Rattle.std.specs.Prelude.{◌≡◌, IfOk, OnOk};
 ghost use Rattle.serde_json.specs.View.{members_view, view};
 ghost use Rattle.rustsec_json.specs.Trees.{optional_tree};
-ghost use Rattle.rustsec_report.specs.Trees.{affected_entries, affected_tree, functions, kinds, metadata_tree, object_of, origin, package_entries, package_tree, subject, terms, versions_entries, versions_tree, with_members};
+ghost use Rattle.rustsec_report.specs.Trees.{affected_entries, affected_tree, functions, kinds, metadata_entries, metadata_tree, object_of, origin, package_entries, package_tree, subject, terms, versions_entries, versions_tree, with_members};
 
 use crate::object::{Members, put_tree, put_value, requirements_tree};
 use rustsec_advisory::{Affected, Metadata};
@@ -15,6 +15,7 @@ use serde_json::Value;
 use std::alloc::{AllocError, Global};
 
 /// Sets the key of each function, its path, to its requirements.
+#[tactic(auto, unfolding(crate::specs::Trees::with_members))]
 fn put_functions(
     alloc: Global,
     members: &mut Members,
@@ -43,6 +44,7 @@ fn functions_tree(
 }
 
 /// Sets the keys of what is affected.
+#[tactic(auto, unfolding(crate::specs::Trees::with_members))]
 fn put_affected(alloc: Global, members: &mut Members, affected: &Affected) -> Result<(), AllocError>
     ensures { OnOk result (members_view members.new.entries
         ≡ with_members (members_view members.old.entries) (affected_entries affected.now)) }
@@ -66,6 +68,7 @@ pub(crate) fn affected_tree(alloc: Global, affected: &Option<Affected>) -> Resul
 }
 
 /// Sets the keys of two lists of requirements.
+#[tactic(auto, unfolding(crate::specs::Trees::with_members))]
 fn put_versions(alloc: Global, members: &mut Members, versions: &Versions) -> Result<(), AllocError>
     ensures { OnOk result (members_view members.new.entries
         ≡ with_members (members_view members.old.entries) (versions_entries versions.now)) }
@@ -86,6 +89,7 @@ pub(crate) fn versions_tree(alloc: Global, versions: &Versions) -> Result<Value,
 }
 
 /// Sets the keys of an advisory's names, package and days.
+#[tactic(auto, unfolding(crate::specs::Trees::with_members))]
 fn put_subject(alloc: Global, members: &mut Members, metadata: &Metadata) -> Result<(), AllocError>
     ensures { OnOk result (members_view members.new.entries
         ≡ with_members (members_view members.old.entries) (subject metadata.now)) }
@@ -98,6 +102,7 @@ fn put_subject(alloc: Global, members: &mut Members, metadata: &Metadata) -> Res
 }
 
 /// Sets the keys of how an advisory is sorted.
+#[tactic(auto, unfolding(crate::specs::Trees::with_members))]
 fn put_kinds(alloc: Global, members: &mut Members, metadata: &Metadata) -> Result<(), AllocError>
     ensures { OnOk result (members_view members.new.entries
         ≡ with_members (members_view members.old.entries) (kinds metadata.now)) }
@@ -110,6 +115,7 @@ fn put_kinds(alloc: Global, members: &mut Members, metadata: &Metadata) -> Resul
 }
 
 /// Sets the keys of where more is found.
+#[tactic(auto, unfolding(crate::specs::Trees::with_members))]
 fn put_origin(alloc: Global, members: &mut Members, metadata: &Metadata) -> Result<(), AllocError>
     ensures { OnOk result (members_view members.new.entries
         ≡ with_members (members_view members.old.entries) (origin metadata.now)) }
@@ -120,6 +126,7 @@ fn put_origin(alloc: Global, members: &mut Members, metadata: &Metadata) -> Resu
 }
 
 /// Sets the keys of an advisory's texts and terms.
+#[tactic(auto, unfolding(crate::specs::Trees::with_members))]
 fn put_terms(alloc: Global, members: &mut Members, metadata: &Metadata) -> Result<(), AllocError>
     ensures { OnOk result (members_view members.new.entries
         ≡ with_members (members_view members.old.entries) (terms metadata.now)) }
@@ -137,10 +144,10 @@ fn put_terms(alloc: Global, members: &mut Members, metadata: &Metadata) -> Resul
 }
 
 /// Sets all keys of what an advisory says of itself.
+#[tactic(auto, unfolding(crate::specs::Trees::with_members, crate::specs::Trees::metadata_entries))]
 fn put_metadata(alloc: Global, members: &mut Members, metadata: &Metadata) -> Result<(), AllocError>
     ensures { OnOk result (members_view members.new.entries
-        ≡ with_members (with_members (with_members (with_members (members_view members.old.entries)
-        (subject metadata.now)) (kinds metadata.now)) (origin metadata.now)) (terms metadata.now)) }
+        ≡ with_members (members_view members.old.entries) (metadata_entries metadata.now)) }
 {
     put_subject(alloc, members, metadata)?;
     put_kinds(alloc, members, metadata)?;
@@ -149,6 +156,7 @@ fn put_metadata(alloc: Global, members: &mut Members, metadata: &Metadata) -> Re
 }
 
 /// The tree of what an advisory says of itself.
+#[tactic(auto, unfolding(crate::specs::Trees::metadata_tree))]
 pub(crate) fn metadata_tree(alloc: Global, metadata: &Metadata) -> Result<Value, AllocError>
     ensures { IfOk result (λ v. view v ≡ metadata_tree metadata.now) }
 {
@@ -158,6 +166,7 @@ pub(crate) fn metadata_tree(alloc: Global, metadata: &Metadata) -> Result<Value,
 }
 
 /// Sets the keys of a package.
+#[tactic(auto, unfolding(crate::specs::Trees::with_members))]
 fn put_package(alloc: Global, members: &mut Members, package: &Package) -> Result<(), AllocError>
     ensures { OnOk result (members_view members.new.entries
         ≡ with_members (members_view members.old.entries) (package_entries «package».now)) }

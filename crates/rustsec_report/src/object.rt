@@ -18,6 +18,7 @@ use std::alloc::{AllocError, Global};
 pub(crate) type Members = Map<String, Value>;
 
 /// Sets a key to a tree.
+#[tactic(auto, unfolding(crate::specs::Trees::with_members))]
 pub(crate) fn put_tree(
     alloc: Global,
     members: &mut Members,

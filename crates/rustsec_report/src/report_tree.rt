@@ -22,6 +22,7 @@ use serde_json::Value;
 use std::alloc::{AllocError, Global};
 
 /// Sets the keys of a vulnerability.
+#[tactic(auto, unfolding(crate::specs::Trees::with_members))]
 fn put_vulnerability(
     alloc: Global,
     members: &mut Members,
@@ -41,6 +42,7 @@ fn put_vulnerability(
 }
 
 /// The tree of a vulnerability.
+#[tactic(auto, unfolding(crate::specs::Trees::vulnerability_tree))]
 fn vulnerability_tree(
     alloc: Global,
     vulnerability: &Vulnerability,
@@ -90,6 +92,7 @@ fn optional_versions_tree(
 }
 
 /// Sets the keys of a warning.
+#[tactic(auto, unfolding(crate::specs::Trees::with_members))]
 fn put_warning(
     alloc: Global,
     members: &mut Members,
@@ -115,6 +118,7 @@ impl ToTree for Warning {
 
     ghost tree = { warning_tree };
 
+    #[tactic(auto, unfolding(crate::specs::Trees::warning_tree))]
     fn to_tree(&self, alloc: Global) -> std::result::Result<Value, AllocError> {
         let mut members = Members::new(alloc);
         put_warning(alloc, &mut members, self)?;
@@ -123,6 +127,7 @@ impl ToTree for Warning {
 }
 
 /// Sets the key of each kind of warnings to their list.
+#[tactic(auto, unfolding(crate::specs::Trees::with_members))]
 fn put_warnings(
     alloc: Global,
     members: &mut Members,
@@ -160,6 +165,7 @@ fn severity_tree(
 }
 
 /// Sets the keys of settings.
+#[tactic(auto, unfolding(crate::specs::Trees::with_members))]
 fn put_settings(
     alloc: Global,
     members: &mut Members,
@@ -187,6 +193,7 @@ fn settings_tree(alloc: Global, settings: &Settings) -> std::result::Result<Valu
 }
 
 /// The tree of what is said of a lockfile.
+#[tactic(auto, unfolding(crate::specs::Trees::with_members))]
 fn lockfile_tree(alloc: Global, info: LockfileInfo) -> std::result::Result<Value, AllocError>
     ensures { IfOk result (λ v. view v ≡ lockfile_tree info) }
 {
@@ -197,6 +204,7 @@ fn lockfile_tree(alloc: Global, info: LockfileInfo) -> std::result::Result<Value
 }
 
 /// Sets the keys of the vulnerabilities.
+#[tactic(auto, unfolding(crate::specs::Trees::with_members))]
 fn put_info(
     alloc: Global,
     members: &mut Members,
@@ -224,6 +232,7 @@ fn vulnerabilities_tree(
 }
 
 /// Sets the keys of a report.
+#[tactic(auto, unfolding(crate::specs::Trees::with_members))]
 fn put_report(
     alloc: Global,
     members: &mut Members,
@@ -248,6 +257,7 @@ impl Report {
     /// # Errors
     ///
     /// `OutOfMemory` alone.
+    #[tactic(auto, unfolding(crate::specs::Trees::report_tree))]
     pub fn to_value(&self, alloc: Global) -> Result<Value>
         ensures ok { IfOk result (λ v. view v ≡ report_tree self.now) }
         ensures err { IfErr result IsMemory }

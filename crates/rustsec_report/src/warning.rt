@@ -112,14 +112,21 @@ impl Warning {
     }
 }
 
+/// A copy of a value that may be missing.
+fn copy_of<T: ExactClone>(value: &Option<T>) -> std::result::Result<Option<T>, AllocError>
+    ensures { IfOk result (λ copy. copy ≡ value.now) }
+{
+    Clone::clone(value)
+}
+
 impl Clone for Warning {
     ghost is_clone = { λ a b. b ≡ a };
 
     fn clone(&self) -> std::result::Result<Warning, AllocError> {
         let package = Clone::clone(&self.package)?;
-        let advisory = Clone::clone(&self.advisory)?;
-        let affected = Clone::clone(&self.affected)?;
-        let versions = Clone::clone(&self.versions)?;
+        let advisory = copy_of(&self.advisory)?;
+        let affected = copy_of(&self.affected)?;
+        let versions = copy_of(&self.versions)?;
         Ok(Warning {
             kind: self.kind,
             package,
