@@ -1,6 +1,6 @@
 -- A report holds no withdrawn and no ignored advisory; its vulnerabilities are by no informational one, and its warnings
 -- by such ones alone.
-use Rattle.std.proofs.Common.{◌≡◌, Bool, true, false, not, List, [], ◌∷◌, map, Option, Some, None, option_and_then, refl, ap, is_some, if◌then◌else◌}
+use Rattle.std.proofs.Common.{◌≡◌, Bool, true, false, not, List, [], ◌∷◌, map, Option, Some, None, option_and_then, refl, ap, subst, sym, is_some, if◌then◌else◌}
 use Rattle.std.proofs.lemmas.List.Elements.{All-nil, All-append, All-filter, All-map, All-weaker, filter_passes}
 use Rattle.std.specs.Bool.{beq}
 use Rattle.std.specs.Cmp.{first_so, second_so}
@@ -20,6 +20,7 @@ use Rattle.rustsec_query.specs.Selects.{as_informational, as_withdrawn, selects}
 use Rattle.rustsec_query.specs.declared.vulnerability.Vulnerability.{Vulnerability}
 use Rattle.rustsec_report.specs.Held.{HoldsWhatItShould, IsInForce, IsVulnerability, IsWarning}
 use Rattle.rustsec_report.specs.Report.{as_warning, found, gives, has_some, informational_query, is_among, is_wanted, present, query_of, report_of, vulnerabilities, wanted_kind, warnings, warnings_by_kind, warnings_of_kind, without}
+use Rattle.rustsec_report.specs.declared.report.Report.{Report}
 use Rattle.rustsec_report.specs.declared.settings.Settings.{Settings}
 use Rattle.rustsec_report.specs.declared.warning.Warning.{Warning}
 
@@ -133,3 +134,7 @@ warnings-all advisories packages s =
 
 pub report-held : (advisories : List Advisory) (packages : List PackageValue) (s : Settings) → HoldsWhatItShould (report_of advisories packages s)
 report-held advisories packages s = record { vulnerabilities = vulnerabilities-all advisories packages s; warnings = warnings-all advisories packages s }
+
+-- the same of a report that is this one
+pub held-of : (r : Report) (advisories : List Advisory) (packages : List PackageValue) (s : Settings) → r ≡ report_of advisories packages s → HoldsWhatItShould r
+held-of r advisories packages s e = subst HoldsWhatItShould (sym e) (report-held advisories packages s)

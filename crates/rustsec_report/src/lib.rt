@@ -5,6 +5,7 @@
 mod advisory_tree;
 mod binary_format;
 mod filter;
+mod generate;
 mod info;
 mod object;
 mod report;
@@ -15,8 +16,9 @@ mod warnings;
 
 pub use crate::binary_format::BinaryFormat;
 pub use crate::filter::filter_report_by_binary_type;
+pub use crate::generate::find_warnings;
 pub use crate::info::{LockfileInfo, VulnerabilityInfo};
 pub use crate::report::Report;
 pub use crate::settings::Settings;
 pub use crate::warning::Warning;
-pub use crate::warnings::{WarningInfo, warnings_of, without_ignored};
+pub use crate::warnings::WarningInfo;

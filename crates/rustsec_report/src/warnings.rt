@@ -34,7 +34,10 @@ impl<'a> Test<Vulnerability> for NotAmong<'a> {
 }
 
 /// The vulnerabilities whose advisory is none of the ignored ones, in order. This takes no memory.
-pub fn without_ignored(mut found: Items<Vulnerability>, ignored: &Items<Id>) -> Items<Vulnerability>
+pub(crate) fn without_ignored(
+    mut found: Items<Vulnerability>,
+    ignored: &Items<Id>,
+) -> Items<Vulnerability>
     ensures { result ≡ without ignored.now found }
 {
     let test = NotAmong { ids: ignored };
@@ -131,11 +134,7 @@ fn warnings_by_kind(
 }
 
 /// The warnings that settings ask for, of what a query for informational advisories found.
-///
-/// # Errors
-///
-/// `OutOfMemory` alone.
-pub fn warnings_of(
+pub(crate) fn warnings_of(
     alloc: Global,
     found: Items<Vulnerability>,
     settings: &Settings,
