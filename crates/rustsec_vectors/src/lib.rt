@@ -64,6 +64,8 @@ mod refusal_messages;
 #[cfg(test)]
 mod refused_requirements;
 #[cfg(test)]
+mod reports;
+#[cfg(test)]
 mod sampled_commands;
 #[cfg(test)]
 mod sources;

@@ -1,0 +1,4 @@
+pub mod Again
+pub mod ByKind
+pub mod Held
+pub mod Members
