@@ -1,6 +1,5 @@
 -- What is loaded from files, one file after another.
 use Rattle.std.proofs.Common.{◌≡◌, ◌∙◌, ◌⊎◌, ◌+◌, ◌<◌, ◌++◌, ℕ, suc, Bool, true, false, cond, List, [], ◌∷◌, Option, Some, None, inl, inr, get_or, length, take, drop, not, refl, subst, sym, ap, arith}
-use Rattle.std.specs.List.{AllPairs, AllZip, filter, list_any}
 use Rattle.std.proofs.lemmas.List.{append-nil, take-append-drop, take_more}
 use Rattle.std.proofs.lemmas.List.Elements.{filter-append}
 use Rattle.std.proofs.lemmas.List.Folds.{list_any_at}
@@ -11,7 +10,7 @@ use Rattle.rustsec_versions.specs.Refusals.{of_file}
 use Rattle.rustsec_versions.specs.declared.error.ErrorKind.TheVariants as kind
 use Rattle.rustsec_advisory.specs.declared.advisory.Advisory.{Advisory}
 use Rattle.rustsec_database.specs.Filing.{IsFiled}
-use Rattle.rustsec_database.specs.Loaded.{AreFiled, AreLoaded, HaveOwnIds, IsAdded, IsAtFault, IsFault, IsFirstFault, has_id, is_known, is_stored, place_of_one, with_one}
+use Rattle.rustsec_database.specs.Loaded.{AreFiled, AreLoaded, HaveOwnIds, IsAdded, IsAtFault, IsFault, IsFirstFault, has_id, is_known, is_stored}
 use Rattle.rustsec_folders.specs.declared.source_file.SourceFile.{SourceFile}
 use Rattle.rustsec_database.proofs.Places.{is-false}
 
