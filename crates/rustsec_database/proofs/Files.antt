@@ -1,6 +1,5 @@
 -- What is loaded from files, one file after another.
 use Rattle.std.proofs.Common.{◌≡◌, ◌∙◌, ◌⊎◌, ◌+◌, ◌<◌, ◌++◌, ℕ, suc, Bool, true, false, cond, List, [], ◌∷◌, Option, Some, None, inl, inr, get_or, length, take, drop, not, refl, subst, sym, ap, arith}
-use Rattle.std.specs.List.{AllPairs, AllZip, filter, list_any}
 use Rattle.std.proofs.lemmas.List.{append-nil, take-append-drop, take_more}
 use Rattle.std.proofs.lemmas.List.Elements.{filter-append}
 use Rattle.std.proofs.lemmas.List.Folds.{list_any_at}
@@ -11,7 +10,7 @@ use Rattle.rustsec_versions.specs.Refusals.{of_file}
 use Rattle.rustsec_versions.specs.declared.error.ErrorKind.TheVariants as kind
 use Rattle.rustsec_advisory.specs.declared.advisory.Advisory.{Advisory}
 use Rattle.rustsec_database.specs.Filing.{IsFiled}
-use Rattle.rustsec_database.specs.Loaded.{AreFiled, AreLoaded, HaveOwnIds, IsAdded, IsAtFault, IsFault, IsFirstFault, has_id, is_known, is_stored, place_of_one, with_one}
+use Rattle.rustsec_database.specs.Loaded.{AreFiled, AreLoaded, HaveOwnIds, IsAdded, IsAtFault, IsFault, IsFirstFault, has_id, is_known, is_stored}
 use Rattle.rustsec_database.specs.declared.source_file.SourceFile.{SourceFile}
 use Rattle.rustsec_database.proofs.Places.{is-false}
 
@@ -58,7 +57,7 @@ pub loaded-step : (files : List SourceFile) (i : ℕ) (f : SourceFile) (loaded m
     → f ≡ get_or files i f → AreLoaded (take i files) loaded → IsAdded loaded f.path f.text place more → AreLoaded (take (i + 1) files) more
 loaded-step files i f loaded more place l is h one =
     let longer : take i files ++ f ∷ [] ≡ take (i + 1) files =
-        ap (λ x. take i files ++ x ∷ []) is ∙ sym (take_more files i f l) in
+    ap (λ x. take i files ++ x ∷ []) is ∙ sym (take_more files i f l) in
     subst (λ fs. AreLoaded fs more) longer (loaded-more (take i files) f loaded more place h one)
 
 -- the first file that is at fault behind others without fault

@@ -1,5 +1,5 @@
 -- Maps from names to slots, by what contracts see of them.
-use Rattle.std.proofs.Common.{◌≡◌, ◌∙◌, ◌<◌, ℕ, Bool, true, false, cond, List, [], ◌∷◌, Option, Some, None, Ok, Err, length, map, nat_eq, refl, subst, sym, ap}
+use Rattle.std.proofs.Common.{◌≡◌, ◌∙◌, ◌<◌, ℕ, Bool, true, false, cond, List, [], ◌∷◌, Option, Some, None, Ok, Err, length, nat_eq, refl, subst, sym, ap}
 use Rattle.std.specs.Prelude.{IfSome, IsSome, OnErr, Result}
 use Rattle.std.specs.BTreeMap as tree
 use Rattle.std.specs.BTreeMap.{BTreeMap, UpdatesBy, is_at}

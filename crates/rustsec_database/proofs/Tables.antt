@@ -1,10 +1,10 @@
 -- The tables of a database, when an advisory more is stored.
-use Rattle.std.proofs.Common.{◌≡◌, ◌∙◌, ◌+◌, ◌++◌, ◌&&◌, ℕ, Bool, true, false, cond, List, [], ◌∷◌, Option, Some, None, length, nat_eq, refl, subst, sym, ap, arith}
+use Rattle.std.proofs.Common.{◌≡◌, ◌∙◌, ◌+◌, ◌++◌, ◌&&◌, ℕ, Bool, true, false, cond, List, [], ◌∷◌, Option, Some, length, nat_eq, refl, subst, sym, ap, arith}
 use Rattle.std.specs.BTreeMap as tree
 use Rattle.std.specs.BTreeMap.{BTreeMap, Updates}
 use Rattle.std.specs.Cmp.{first_so, second_so}
 use Rattle.std.specs.Cmp.Lexicographic.{bytes_decides, pointwise}
-use Rattle.std.specs.List.{filter, list_any, position_from, slice_get}
+use Rattle.std.specs.List.{filter, list_any, position_from}
 use Rattle.std.specs.Option.{option_eq}
 use denote.Enum.Bare.{sameb}
 use Rattle.rustsec_texts.specs.IdOrder.{id_decides, id_eq, id_order, id_ties}
@@ -17,7 +17,7 @@ use Rattle.rustsec_query.specs.Selects.{as_informational, as_withdrawn, has_name
 use Rattle.rustsec_database.specs.Loaded.{has_id, is_known}
 use Rattle.rustsec_database.specs.Places.{IsIndexOf, IsTableOf, at_places, is_under, places_from}
 use Rattle.rustsec_database.specs.Slots.{slots_at, with_slot}
-use Rattle.rustsec_database.proofs.Places.{first-last, first-other, is-false, narrow, nowhere, places-below, places-in, places-out, taken}
+use Rattle.rustsec_database.proofs.Places.{first-last, first-other, is-false, narrow, places-below, places-in, places-out, taken}
 use Rattle.rustsec_database.proofs.Slots.{with_slot-last}
 
 -- ---- the table of IDs

@@ -1,5 +1,5 @@
 -- Places in a list of advisories: what the tables of a database hold. No public contract's meaning rests on these words.
-use Rattle.std.specs.Prelude.{◌≡◌, ◌&&◌, ◌+◌, ℕ, Bool, List, [], ◌∷◌, Option, Some, if◌then◌else◌, nat_eq, slice_get}
+use Rattle.std.specs.Prelude.{◌≡◌, ◌&&◌, ◌+◌, ℕ, Bool, List, [], ◌∷◌, Some, if◌then◌else◌, nat_eq, slice_get}
 use Rattle.std.specs.BTreeMap as tree
 use Rattle.std.specs.BTreeMap.{BTreeMap}
 use Rattle.std.specs.Cmp.Lexicographic.{pointwise}

@@ -64,10 +64,7 @@ impl Entries {
 
     /// Stores an advisory behind the others, or changes nothing. All memory is taken before the first
     /// change.
-    fn store(
-        &mut self,
-        advisory: Advisory,
-    ) -> std::result::Result<Slot, AllocError>
+    fn store(&mut self, advisory: Advisory) -> std::result::Result<Slot, AllocError>
         requires { is_known self.old advisory ≡ false }
         ensures ok { OnOk result (self.new ≡ self.old ++ advisory ∷ []) }
         ensures slot { IfOk result (λ slot. slot ≡ length self.old) }
@@ -125,12 +122,7 @@ impl Entries {
     /// # Errors
     ///
     /// `Io` if the file cannot be read or is no UTF-8; then as `load_text`.
-    pub fn load_file<R: Files>(
-        &mut self,
-        rt: &R,
-        alloc: Global,
-        path: &str,
-    ) -> Result<Option<Slot>>
+    pub fn load_file<R: Files>(&mut self, rt: &R, alloc: Global, path: &str) -> Result<Option<Slot>>
         ensures ok { IfOk result (λ slot. (text : List ℕ) × IsAdded self.old path.now text slot self.new) }
         ensures kept { OnErr result (self.new ≡ self.old) }
         ensures err { IfErr result (λ e. (IsOfKind ErrorKind.Io e × IsReadFailure path.now e)

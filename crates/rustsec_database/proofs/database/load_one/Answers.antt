@@ -12,6 +12,7 @@ returns-in_ok-index_both-in-Some-clause-indexed c =
 
 pub returns-in-None-clause-indexed : goal.returns-in-None-clause-indexed
 returns-in-None-clause-indexed c =
-    let same = added-none c.args.entries.now c.load_text.new.self c.in_ok-added.added c.in_ok-added.ensures.ok c.in-None.is in
-    (λ h. subst (λ (l : List Advisory). IsIndexOf collection.Crates l c.args.crates.now) (sym same) h,
-    λ h. subst (λ (l : List Advisory). IsIndexOf collection.Rust l c.args.rust.now) (sym same) h)
+    let same = added-none c.args.entries.now c.load_text.new.self c.in_ok-added.added c.in_ok-added.ensures.ok c.in-None.is in (
+      λ h. subst (λ (l : List Advisory). IsIndexOf collection.Crates l c.args.crates.now) (sym same) h,
+      λ h. subst (λ (l : List Advisory). IsIndexOf collection.Rust l c.args.rust.now) (sym same) h,
+    )

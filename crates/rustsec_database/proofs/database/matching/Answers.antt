@@ -12,12 +12,12 @@ loop-slot-preserved c =
     let n = c.slot-item.result in
     let xs = c.args.entries.now in
     elim c.match-get.branch [
-      in-Some+then-matches+in_ok-push w ↦ ap (λ v. map (λ a. a.now) v.items) w.found-is ∙ (ap (map (λ a. a.now)) w.in_ok-push.ensures.items
+      | in-Some+then-matches+in_ok-push w ↦ ap (λ v. map (λ a. a.now) v.items) w.found-is ∙ (ap (map (λ a. a.now)) w.in_ok-push.ensures.items
           ∙ found-more test places i n xs c.loop-slot.found.items w.in-Some.advisory c.loop-slot-test.true c.slot-item.is c.loop-slot.invariant
           w.in-Some.ensures (sym w.matches.ensures ∙ w.if-matches.true))
-    | in-Some+else-matches w ↦ ap (λ v. map (λ a. a.now) v.items) w.found-is
+      | in-Some+else-matches w ↦ ap (λ v. map (λ a. a.now) v.items) w.found-is
           ∙ found-other test places i n xs c.loop-slot.found.items w.in-Some.advisory.now c.loop-slot-test.true c.slot-item.is c.loop-slot.invariant
           w.in-Some.ensures (sym w.matches.ensures ∙ w.if-matches.false)
-    | in_default w ↦ ap (λ v. map (λ a. a.now) v.items) w.found-is
+      | in_default w ↦ ap (λ v. map (λ a. a.now) v.items) w.found-is
           ∙ found-none test places i n xs c.loop-slot.found.items c.loop-slot-test.true c.slot-item.is c.loop-slot.invariant w.in_default.ensures
     ]

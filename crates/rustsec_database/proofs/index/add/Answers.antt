@@ -1,4 +1,4 @@
-use Rattle.std.proofs.Common.{◌≡◌, ◌∙◌, refl, sym}
+use Rattle.std.proofs.Common.{◌∙◌, refl, sym}
 use Rattle.rustsec_database.proofs.Slots.{found-place, found-there, has-there, insert-is, lacks, with_slot-there}
 use Rattle.rustsec_database.proofs.index.add.Goals as goal
 

@@ -1,5 +1,5 @@
 use Rattle.std.proofs.Common.{◌∙◌, ap}
-use Rattle.std.specs.List.{find, position_from}
+use Rattle.std.specs.List.{position_from}
 use Rattle.rustsec_database.specs.Loaded.{has_id}
 use Rattle.rustsec_database.proofs.Places.{found-at, none-at}
 use Rattle.rustsec_database.proofs.entries.Entries.find_by_id.Goals as goal

@@ -1,7 +1,7 @@
 use Rattle.std.proofs.Common.{◌∙◌, ◌<◌, length, ap, cond, nat_eq, not, refl, subst, sym}
 use Rattle.std.specs.Cmp.Lexicographic.{pointwise}
 use Rattle.std.specs.List.{list_any}
-use Rattle.rustsec_database.specs.Indexes.{names, shown}
+use Rattle.rustsec_database.specs.Indexes.{shown}
 use Rattle.rustsec_database.specs.Slots.{Rises, slots_at, with_slot}
 use Rattle.rustsec_database.proofs.Indexes.{found-slots, is-there, no-slots, on-err, put-seen, rise-found, rise-updated, slots_of, written}
 use Rattle.rustsec_database.proofs.Slots.{rises-with, with_slot-some}

@@ -1,4 +1,4 @@
-use Rattle.std.proofs.Common.{◌∷◌, [], arith, refl, subst, sym}
+use Rattle.std.proofs.Common.{◌∷◌, [], arith, subst, sym}
 use Rattle.rustsec_database.specs.Slots.{Rises}
 use Rattle.rustsec_database.proofs.Indexes.{put-seen, rise-updated}
 use Rattle.rustsec_database.proofs.Slots.{rises-one}
