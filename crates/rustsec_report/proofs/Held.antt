@@ -18,7 +18,7 @@ use Rattle.rustsec_query.specs.Pairs.{Pair, as_vulnerability, finds, is_audited,
 use Rattle.rustsec_query.specs.Query.{Asked, of_package}
 use Rattle.rustsec_query.specs.Selects.{as_informational, as_withdrawn, selects}
 use Rattle.rustsec_query.specs.declared.vulnerability.Vulnerability.{Vulnerability}
-use Rattle.rustsec_report.specs.Held.{HoldsWhatItShould, IsInForce, IsVulnerability, IsWarning}
+use Rattle.rustsec_report.specs.Held.{ListsWhatIsInForce, IsInForce, IsVulnerability, IsWarning}
 use Rattle.rustsec_report.specs.Report.{as_warning, found, gives, has_some, informational_query, is_among, is_wanted, present, query_of, report_of, vulnerabilities, wanted_kind, warnings, warnings_by_kind, warnings_of_kind, without}
 use Rattle.rustsec_report.specs.declared.report.Report.{Report}
 use Rattle.rustsec_report.specs.declared.settings.Settings.{Settings}
@@ -132,9 +132,9 @@ warnings-all advisories packages s =
     All-map Q as_vulnerability (pairs advisories packages (informational_query s)) (pairs-all (λ (pair : Pair). Q (as_vulnerability pair)) advisories (informational_query s) each packages) in
     by_kind-all s _ (without-all s Q (found advisories packages (informational_query s)) all)
 
-pub report-held : (advisories : List Advisory) (packages : List PackageValue) (s : Settings) → HoldsWhatItShould (report_of advisories packages s)
+pub report-held : (advisories : List Advisory) (packages : List PackageValue) (s : Settings) → ListsWhatIsInForce (report_of advisories packages s)
 report-held advisories packages s = record { vulnerabilities = vulnerabilities-all advisories packages s; warnings = warnings-all advisories packages s }
 
 -- the same of a report that is this one
-pub held-of : (r : Report) (advisories : List Advisory) (packages : List PackageValue) (s : Settings) → r ≡ report_of advisories packages s → HoldsWhatItShould r
-held-of r advisories packages s e = subst HoldsWhatItShould (sym e) (report-held advisories packages s)
+pub held-of : (r : Report) (advisories : List Advisory) (packages : List PackageValue) (s : Settings) → r ≡ report_of advisories packages s → ListsWhatIsInForce r
+held-of r advisories packages s e = subst ListsWhatIsInForce (sym e) (report-held advisories packages s)

@@ -31,7 +31,7 @@ pub record IsWarning (s : Settings) (k : WarningKind) (w : Warning) : Type 0 whe
   pub gives : kind_of_warnings informational ≡ Some k
   pub has_kind : w.kind ≡ k
 
--- all vulnerabilities and all warnings of a report are such
-pub record HoldsWhatItShould (r : Report) : Type 0 where
+-- a report all of whose vulnerabilities and warnings are such
+pub record ListsWhatIsInForce (r : Report) : Type 0 where
   pub vulnerabilities : All (IsVulnerability r.settings) r.vulnerabilities.list
   pub warnings : All (λ e. All (IsWarning r.settings e.0) e.1) r.warnings

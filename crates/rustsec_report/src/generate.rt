@@ -2,7 +2,7 @@
 
 ghost use Rattle.std.specs.Prelude.{◌≡◌, IfErr, IfOk};
 ghost use Rattle.rustsec_versions.specs.Failure.{IsMemory};
-ghost use Rattle.rustsec_report.specs.Held.{HoldsWhatItShould};
+ghost use Rattle.rustsec_report.specs.Held.{ListsWhatIsInForce};
 ghost use Rattle.rustsec_report.specs.Report.{info_of, report_of, vulnerabilities, warnings};
 
 use crate::info::{LockfileInfo, VulnerabilityInfo};
@@ -70,7 +70,7 @@ impl Report {
 
         // No advisory in it is withdrawn or ignored; those of vulnerabilities are not informational,
         // those of warnings are.
-        ensures holds { IfOk result HoldsWhatItShould }
+        ensures holds { IfOk result ListsWhatIsInForce }
         ensures err { IfErr result IsMemory }
     {
         let vulnerabilities = find_vulnerabilities(alloc, database, lockfile, settings)?;
