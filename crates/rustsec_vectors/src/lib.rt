@@ -18,6 +18,8 @@ mod commands;
 #[cfg(test)]
 mod cvss;
 #[cfg(test)]
+mod databases;
+#[cfg(test)]
 mod dates;
 #[cfg(test)]
 mod fakes;

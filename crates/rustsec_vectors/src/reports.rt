@@ -75,7 +75,14 @@ fn notice(alloc: Global, system: OS) -> Result<Warning, Fail> {
     };
     let mut affected = Affected::default(alloc);
     affected.os.push(system)?;
-    Ok(Warning::new(alloc, WarningKind::Notice, &package, None, Some(affected), None)?)
+    Ok(Warning::new(
+        alloc,
+        WarningKind::Notice,
+        &package,
+        None,
+        Some(affected),
+        None,
+    )?)
 }
 
 /// The notice alone, by its kind.
@@ -145,8 +152,10 @@ fn filter_keeps_empty_kind(rt: HostRuntime) -> Result<(), Fail> {
 /// A file of an advisory for `base`, patched from version 2 on.
 fn file(alloc: Global, id: &str, extra: &str) -> Result<SourceFile, Fail> {
     let path = format!(in alloc; "crates/base/{id}.md")?;
-    let text = format!(in alloc; "```toml\n[advisory]\nid = \"{id}\"\npackage = \"base\"\n\
-        date = \"2001-02-03\"\n{extra}\n[versions]\npatched = [\">= 2.0.0\"]\n```\n\n# T\n\nD\n")?;
+    let text = format!(in alloc;
+        "```toml\n[advisory]\nid = \"{id}\"\npackage = \"base\"\n\
+        date = \"2001-02-03\"\n{extra}\n[versions]\npatched = [\">= 2.0.0\"]\n```\n\n# T\n\nD\n"
+    )?;
     Ok(SourceFile {
         path: Text::from(path),
         text: Text::from(text),
