@@ -10,3 +10,4 @@ pub mod Links
 pub mod Parts
 pub mod ReadLists
 pub mod RisingEvents
+pub mod ValidEvents

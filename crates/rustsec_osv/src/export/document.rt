@@ -6,6 +6,7 @@ ghost use Rattle.rustsec_texts.specs.Licenses.{license_name};
 ghost use Rattle.rustsec_versions.specs.Failure.{IsRefusal};
 ghost use Rattle.rustsec_versions.specs.Lists.{affected};
 ghost use Rattle.rustsec_versions.specs.Precedence.{IsVersion};
+ghost use Rattle.rustsec_osv.specs.DocumentAgain.{AreEventsValid};
 ghost use Rattle.rustsec_osv.specs.Events.{events_say};
 ghost use Rattle.rustsec_osv.specs.Export.{IsDocument, IsStarAlone, database_of, document_events, document_with, member_of, noon, package_of, severity_of};
 ghost use Rattle.rustsec_osv.specs.References.{own_pages, reference_of, references_of};
@@ -231,6 +232,9 @@ impl OsvAdvisory {
 
         // The document's events call a valid version affected exactly if the advisory does.
         ensures events { IfOk result (λ d. (v : Parts) → IsVersion v → events_say (document_events d) v ≡ affected advisory.versions v) }
+
+        // The versions of the events are valid, so each event is read again from its tree.
+        ensures valid { IfOk result AreEventsValid }
         ensures err { IfErr result (λ e. IsRefusal ErrorKind.BadParam (IsStarAlone advisory.versions) e
             ⊎ IsRefusal ErrorKind.Parse ((¬ IsStarAlone advisory.versions) × (references_of advisory.metadata ≡ None)) e) }
     {
