@@ -1,6 +1,5 @@
 -- Values that were sorted and of which neighbours were compared are the distinct ones, in order.
-use Rattle.std.proofs.Common.{◌≡◌, ◌∙◌, Bool, true, false, cond, List, [], ◌∷◌, Ordering, Less, map, refl, sym, ap, IsPermutation}
-use Rattle.std.specs.Prelude.{Contains, Decides}
+use Rattle.std.proofs.Common.{◌≡◌, ◌∙◌, Bool, true, false, cond, List, [], ◌∷◌, Ordering, Less, map, refl, ap, IsPermutation}
 use Rattle.std.specs.Cmp.{IsEquivalence, IsTotalOrder, on_total}
 use Rattle.std.specs.List.{AllByRecursion, dedup, dedup_from}
 use Rattle.std.specs.List.Retain.{DiffersFromLast, IsFiltered}

@@ -1,5 +1,6 @@
 -- The exported document of an advisory that a text is: its tree is read as an equal document.
 use Rattle.std.proofs.Common.{◌≡◌, ◌∙◌, inl, inr, ℕ, List, [], ◌∷◌, All, map, Option, Some, None, codes, option_to_list, refl, ap, sym, subst}
+use Rattle.std.specs.Prelude.{Err, IfOk, Ok, Result}
 use Rattle.std.proofs.lemmas.List.Elements.{All-cons, All-head, All-nil}
 use Rattle.toml.specs.Data.{Data, Members, get_member}
 use Rattle.rustsec_toml.specs.Fields.{text}
@@ -16,6 +17,7 @@ use Rattle.rustsec_advisory.specs.Metadata.{IsMetadata}
 use Rattle.rustsec_advisory.specs.declared.advisory.Advisory.{Advisory}
 use Rattle.rustsec_advisory.specs.declared.affected.Affected.{Affected}
 use Rattle.rustsec_advisory.specs.declared.metadata.Metadata.{Metadata}
+use Rattle.rustsec_versions.specs.Failure.{Failure}
 use Rattle.rustsec_osv.specs.DocumentAgain.{AreEventsValid, IfThere, IsAffectedAgain, IsAffectsAgain, IsDatabaseAgain, IsDocumentAgain, IsIdAgain, IsRangeAgain, IsReferenceAgain, IsSeverityAgain}
 use Rattle.rustsec_osv.specs.DocumentEvents.{JsonRange}
 use Rattle.rustsec_osv.specs.Documents.{Document}
@@ -103,3 +105,9 @@ export-again t a modified d h x valid refs =
 pub exported-again : (t : List ℕ) (a : Advisory) (modified : List ℕ) (d : Document) → IsAdvisory t a → IsDocument a modified d → AreEventsValid d
     → All IsReferenceAgain d.references → read_document (document_tree d) ≡ Some d
 exported-again t a modified d h x valid refs = document-again d (export-again t a modified d h x valid refs)
+
+-- so it is with what the export answers
+pub exported-read : (a : Advisory) (modified : List ℕ) (r : Result Document Failure) → IfOk r (IsDocument a modified) → IfOk r AreEventsValid
+    → IfOk r (λ d. (t : List ℕ) → IsAdvisory t a → All IsReferenceAgain d.references → read_document (document_tree d) ≡ Some d)
+exported-read a modified (Ok d) x valid = λ t h refs. exported-again t a modified d h x valid refs
+exported-read a modified (Err f) x valid = tt

@@ -13,3 +13,4 @@ pub mod ReadLists
 pub mod RisingEvents
 pub mod TablesAgain
 pub mod TextsAgain
+pub mod ValidEvents

@@ -1,16 +1,16 @@
 -- The events of rising ranges say what the ranges say.
-use Rattle.std.proofs.Common.{◌≡◌, ◌&&◌, ◌||◌, ◌++◌, Bool, true, false, cond, List, [], ◌∷◌, Option, Some, None, length, refl, sym, ap, ◌∙◌, arith, inl, inr}
-use Rattle.std.specs.Prelude.{filter, flat_map}
-use Rattle.std.specs.List.{AllAdjacentBelow, list_all, list_any}
+use Rattle.std.proofs.Common.{◌≡◌, ◌&&◌, ◌++◌, Bool, true, false, cond, List, [], ◌∷◌, Option, Some, None, length, refl, sym, ◌∙◌, inl, inr}
+use Rattle.std.specs.Prelude.{filter}
+use Rattle.std.specs.List.{AllAdjacentBelow, list_all}
 use Rattle.std.proofs.lemmas.Bool.{cases_Bool}
 use Rattle.semver.specs.Parse.{Parts}
 use Rattle.rustsec_versions.specs.Precedence.{IsVersion, is_at_most, is_below}
-use Rattle.rustsec_versions.specs.Ranges.{Range, in_range, in_ranges, is_followed, is_from, is_in_order, is_till as till}
+use Rattle.rustsec_versions.specs.Ranges.{Range, in_ranges, is_followed, is_from, is_in_order}
 use Rattle.rustsec_versions.specs.Requirement.{least_of}
-use Rattle.rustsec_versions.proofs.PrecedenceLaws.{at_most-not_below, at_most-trans, below-at_most, below-not_at_most, below-weak, not_at_most}
+use Rattle.rustsec_versions.proofs.PrecedenceLaws.{at_most-not_below, below-at_most, below-not_at_most, below-weak, not_at_most}
 use Rattle.rustsec_versions.proofs.RangeList.{AllFollowed, followed-to}
-use Rattle.rustsec_osv.specs.DocumentEvents.{Event, fixed, introduced, last_affected}
-use Rattle.rustsec_osv.specs.Events.{beginning, ends_introduced, events_of, events_of_range, events_say, fix, is_introduction, is_till}
+use Rattle.rustsec_osv.specs.DocumentEvents.{Event}
+use Rattle.rustsec_osv.specs.Events.{beginning, ends_introduced, events_of, events_say, is_introduction, is_till}
 use Rattle.rustsec_osv.proofs.LeastVersion.{least-at_most}
 
 -- ---- events one by one

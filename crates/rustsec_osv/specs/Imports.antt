@@ -1,6 +1,6 @@
 -- What is read out of a document: the crates that it names, and the IDs of RustSec's advisories that it refers to.
 -- It carries meaning: public contracts cite it.
-use Rattle.std.specs.Prelude.{◌≡◌, ◌↔◌, ℕ, Bool, Contains, List, codes, drop, filter, length, map, nat_eq, nat_le, Option, Some, take}
+use Rattle.std.specs.Prelude.{◌↔◌, ℕ, Bool, Contains, List, codes, drop, filter, length, map, nat_eq, nat_le, Option, Some, take}
 use Rattle.std.specs.Cmp.Lexicographic.{pointwise}
 use Rattle.std.specs.List.{starts_with}
 use Rattle.std.specs.List.Sorted.{IsStrictlySortedBy}

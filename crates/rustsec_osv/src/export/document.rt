@@ -6,7 +6,11 @@ ghost use Rattle.rustsec_texts.specs.Licenses.{license_name};
 ghost use Rattle.rustsec_versions.specs.Failure.{IsRefusal};
 ghost use Rattle.rustsec_versions.specs.Lists.{affected};
 ghost use Rattle.rustsec_versions.specs.Precedence.{IsVersion};
+ghost use Rattle.rustsec_osv.specs.DocumentAgain.{AreEventsValid, IsReferenceAgain};
+ghost use Rattle.rustsec_advisory.specs.Advisory.{IsAdvisory};
 ghost use Rattle.rustsec_osv.specs.Events.{events_say};
+ghost use Rattle.rustsec_osv.specs.ReaderDocument.{read_document};
+ghost use Rattle.rustsec_osv.specs.TreeDocument.{document_tree};
 ghost use Rattle.rustsec_osv.specs.Export.{IsDocument, IsStarAlone, database_of, document_events, document_with, member_of, noon, package_of, severity_of};
 ghost use Rattle.rustsec_osv.specs.References.{own_pages, reference_of, references_of};
 ghost use Rattle.rustsec_osv.specs.declared.reference.OsvReference.{OsvReference};
@@ -14,9 +18,7 @@ ghost use Rattle.rustsec_osv.specs.declared.reference.OsvReference.{OsvReference
 use crate::affected::{OsvAffected, OsvPackage};
 use crate::document::{MainOsvDatabaseSpecific, OsvAdvisory};
 use crate::export::events::range_of;
-use crate::export::members::{
-    affected_of, database_of, noon, noon_of, package_of, severities_of,
-};
+use crate::export::members::{affected_of, database_of, noon, noon_of, package_of, severities_of};
 use crate::export::references::{own_pages, with_addresses};
 use crate::ranges::OsvJsonRange;
 use crate::reference::OsvReference;
@@ -52,11 +54,11 @@ fn texts_of(
     modified: &str,
 ) -> std::result::Result<Texts, AllocError>
     ensures { IfOk result (λ t. t ≡ record {
-          modified = modified.now;
-          published = noon metadata.now.date;
-          withdrawn = option_map noon metadata.now.withdrawn;
-          license = license_name metadata.now.license;
-        }) }
+      modified = modified.now;
+      published = noon metadata.now.date;
+      withdrawn = option_map noon metadata.now.withdrawn;
+      license = license_name metadata.now.license;
+    }) }
 {
     let modified = Text::from_str(alloc, modified)?;
     let published = noon(alloc, &metadata.date)?;
@@ -73,11 +75,11 @@ fn texts_of(
 /// What is made of an advisory for its document.
 fn made_of(alloc: Global, metadata: &Metadata, modified: &str) -> Result<Made>
     ensures texts { IfOk result (λ m. m.texts ≡ record {
-          modified = modified.now;
-          published = noon metadata.now.date;
-          withdrawn = option_map noon metadata.now.withdrawn;
-          license = license_name metadata.now.license;
-        }) }
+      modified = modified.now;
+      published = noon metadata.now.date;
+      withdrawn = option_map noon metadata.now.withdrawn;
+      license = license_name metadata.now.license;
+    }) }
     ensures severity { IfOk result (λ m. m.severity ≡ map severity_of (option_to_list metadata.now.cvss)) }
     ensures of_crate { IfOk result (λ m. m.«package» ≡ package_of metadata.now.«package») }
     ensures pages { IfOk result (λ m. own_pages metadata.now.«package» metadata.now.id.text ≡ Some m.pages) }
@@ -105,20 +107,20 @@ fn document_of(
     affected: Items<OsvAffected>,
 ) -> OsvAdvisory
     ensures { result ≡ record {
-          schema_version = None;
-          id = subject.id;
-          modified = texts.modified;
-          published = texts.published;
-          withdrawn = texts.withdrawn;
-          aliases = subject.aliases;
-          related = subject.related;
-          summary = named.0;
-          details = named.1;
-          severity = severity;
-          affected = affected;
-          references = references;
-          database_specific = record { license = Some texts.license };
-        } }
+      schema_version = None;
+      id = subject.id;
+      modified = texts.modified;
+      published = texts.published;
+      withdrawn = texts.withdrawn;
+      aliases = subject.aliases;
+      related = subject.related;
+      summary = named.0;
+      details = named.1;
+      severity = severity;
+      affected = affected;
+      references = references;
+      database_specific = record { license = Some texts.license };
+    } }
 {
     let Texts {
         modified,
@@ -162,20 +164,20 @@ fn with_parts(
     range: OsvJsonRange,
 ) -> std::result::Result<OsvAdvisory, AllocError>
     ensures { IfOk result (λ d. d ≡ record {
-          schema_version = None;
-          id = parts.subject.id;
-          modified = made.texts.modified;
-          published = made.texts.published;
-          withdrawn = made.texts.withdrawn;
-          aliases = parts.subject.aliases;
-          related = parts.subject.related;
-          summary = parts.title;
-          details = parts.description;
-          severity = made.severity;
-          affected = member_of made.«package» (database_of parts.kinds) affected range ∷ [];
-          references = made.pages ++ map reference_of (option_to_list parts.origin.url ++ parts.origin.references);
-          database_specific = record { license = Some made.texts.license };
-        }) }
+      schema_version = None;
+      id = parts.subject.id;
+      modified = made.texts.modified;
+      published = made.texts.published;
+      withdrawn = made.texts.withdrawn;
+      aliases = parts.subject.aliases;
+      related = parts.subject.related;
+      summary = parts.title;
+      details = parts.description;
+      severity = made.severity;
+      affected = member_of made.«package» (database_of parts.kinds) affected range ∷ [];
+      references = made.pages ++ map reference_of (option_to_list parts.origin.url ++ parts.origin.references);
+      database_specific = record { license = Some made.texts.license };
+    }) }
 {
     let Made {
         texts,
@@ -233,6 +235,14 @@ impl OsvAdvisory {
 
         // The document's events call a valid version affected exactly if the advisory does.
         ensures events { IfOk result (λ d. (v : Parts) → IsVersion v → events_say (document_events d) v ≡ affected advisory.versions v) }
+
+        // The versions of the events are valid, so each event is read again from its tree.
+        ensures valid { IfOk result AreEventsValid }
+
+        // If the advisory is that of a text, and its addresses are read again, as each `Address` is, then the
+        // document's tree is read as this document.
+        ensures again { IfOk result (λ d. (t : List ℕ) → IsAdvisory t advisory → All IsReferenceAgain d.references
+            → read_document (document_tree d) ≡ Some d) }
         ensures err { IfErr result (λ e. IsRefusal ErrorKind.BadParam (IsStarAlone advisory.versions) e
             ⊎ IsRefusal ErrorKind.Parse ((¬ IsStarAlone advisory.versions) × (references_of advisory.metadata ≡ None)) e) }
     {

@@ -1,4 +1,4 @@
-use Rattle.std.proofs.Common.{◌≡◌, ◌++◌, ◌∙◌, ◌∷◌, [], List, ℕ, ap, sym}
+use Rattle.std.proofs.Common.{◌++◌, ◌∙◌, ◌∷◌, [], List, ℕ, ap, sym}
 use Rattle.rustsec_osv.specs.Imports.{crate_names}
 use Rattle.rustsec_osv.proofs.Links.{names-more}
 use Rattle.rustsec_osv.proofs.export.imports.crate_names.Goals as goal
