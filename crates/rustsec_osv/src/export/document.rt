@@ -1,6 +1,6 @@
 // The document of an advisory.
 
-ghost use Rattle.std.specs.Prelude.{◌≡◌, ◌⊎◌, ◌++◌, ◌∷◌, [], IfErr, IfOk, List, None, Some, map, option_map, option_to_list};
+ghost use Rattle.std.specs.Prelude.{◌≡◌, ◌⊎◌, ◌++◌, ◌∷◌, ℕ, [], All, IfErr, IfOk, List, None, Some, map, option_map, option_to_list};
 ghost use Rattle.semver.specs.Parse.{Parts};
 ghost use Rattle.rustsec_texts.specs.Licenses.{license_name};
 ghost use Rattle.rustsec_versions.specs.Failure.{IsRefusal};
