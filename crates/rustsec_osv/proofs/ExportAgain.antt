@@ -1,5 +1,5 @@
 -- The exported document of an advisory that a text is: its tree is read as an equal document.
-use Rattle.std.proofs.Common.{◌≡◌, ◌∙◌, inl, inr, ℕ, List, [], ◌∷◌, All, map, Option, Some, None, codes, option_to_list, refl, ap, sym, subst}
+use Rattle.std.proofs.Common.{◌≡◌, inl, inr, ℕ, List, [], All, map, Option, Some, None, codes, option_to_list, sym, subst}
 use Rattle.std.specs.Prelude.{Err, IfOk, Ok, Result}
 use Rattle.std.proofs.lemmas.List.Elements.{All-cons, All-head, All-nil}
 use Rattle.toml.specs.Data.{Data, Members, get_member}
@@ -11,14 +11,14 @@ use Rattle.rustsec_lock.specs.declared.cvss.Cvss.TheVariants as cvss
 use Rattle.rustsec_texts.specs.Categories.{category_name, category_of}
 use Rattle.rustsec_texts.specs.Ids.{id_of}
 use Rattle.rustsec_texts.specs.Informational.{informational_name, informational_of}
-use Rattle.rustsec_advisory.specs.Advisory.{IsAdvisory, IsAffectedAt, IsOfDocument}
+use Rattle.rustsec_advisory.specs.Advisory.{IsAdvisory, IsAffectedAt}
 use Rattle.rustsec_advisory.specs.FieldGroups.{kinds_of}
 use Rattle.rustsec_advisory.specs.Metadata.{IsMetadata}
 use Rattle.rustsec_advisory.specs.declared.advisory.Advisory.{Advisory}
 use Rattle.rustsec_advisory.specs.declared.affected.Affected.{Affected}
 use Rattle.rustsec_advisory.specs.declared.metadata.Metadata.{Metadata}
 use Rattle.rustsec_versions.specs.Failure.{Failure}
-use Rattle.rustsec_osv.specs.DocumentAgain.{AreEventsValid, IfThere, IsAffectedAgain, IsAffectsAgain, IsDatabaseAgain, IsDocumentAgain, IsIdAgain, IsRangeAgain, IsReferenceAgain, IsSeverityAgain}
+use Rattle.rustsec_osv.specs.DocumentAgain.{AreEventsValid, IfThere, IsAffectedAgain, IsAffectsAgain, IsDocumentAgain, IsIdAgain, IsRangeAgain, IsReferenceAgain, IsSeverityAgain}
 use Rattle.rustsec_osv.specs.DocumentEvents.{JsonRange}
 use Rattle.rustsec_osv.specs.Documents.{Document}
 use Rattle.rustsec_osv.specs.Export.{IsDocument, affects_of, database_of, document_with, member_of, package_of, severity_of}

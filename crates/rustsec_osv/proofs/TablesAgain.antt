@@ -1,9 +1,9 @@
 -- What the tables of an advisory's document are read as is read again.
-use Rattle.std.proofs.Common.{◌≡◌, ◌∙◌, ℕ, List, [], ◌∷◌, All, map, Option, Some, None, codes, refl, ap, sym, subst}
+use Rattle.std.proofs.Common.{◌≡◌, ℕ, List, [], ◌∷◌, All, map, Option, Some, None, refl, ap, sym, subst}
 use Rattle.std.proofs.lemmas.List.Elements.{All-cons, All-head, All-nil, All-tail}
 use Rattle.std.proofs.lemmas.Map.Views.{All-map-IsPermutation}
 use Rattle.std.specs.Map.{keys_of}
-use Rattle.toml.specs.Data.{Data, Members, as_array, as_str, as_table, get_member}
+use Rattle.toml.specs.Data.{Data, Members, as_array, as_str}
 use Rattle.semver.specs.Parse.{Held}
 use Rattle.rustsec_toml.specs.Fields.{every, list_of, text, value_or}
 use Rattle.rustsec_values.specs.Reading.{◌>>=◌, before, read_all, read_optional}

@@ -1,11 +1,11 @@
 -- What a text is read as is read again from the text that it prints.
-use Rattle.std.proofs.Common.{◌≡◌, ◌∙◌, ◌==◌, ℕ, Bool, true, false, cond, List, [], ◌∷◌, ◌++◌, length, Option, Some, None, codes, find, option_map, if◌then◌else◌, refl, ap, sym, subst}
+use Rattle.std.proofs.Common.{◌≡◌, ◌∙◌, ◌==◌, ℕ, Bool, true, false, cond, List, [], ◌∷◌, length, Option, Some, None, codes, option_map, if◌then◌else◌, refl, ap, sym, subst}
 use Rattle.std.specs.Cmp.Lexicographic.{bytes_decides}
 use Rattle.std.specs.Prelude.{unwrap_or}
 use Rattle.std.specs.Str.{bytes_eq}
 use Rattle.rustsec_values.specs.ClosedTables.{value_named}
 use Rattle.rustsec_values.specs.Reading.{◌>>=◌, only_if}
-use Rattle.rustsec_lock.specs.Cvss.{base_of, base_text, behind, cvss_of, cvss_text, kept_vector, metric, metrics_of, or_else, parts_of}
+use Rattle.rustsec_lock.specs.Cvss.{base_of, behind, cvss_of, cvss_text, metric, metrics_of, or_else, parts_of}
 use Rattle.rustsec_lock.specs.Metrics.{attack_complexity_letter, attack_complexity_values, attack_vector_letter, attack_vector_values, availability_letter, availability_values, confidentiality_letter, confidentiality_values, integrity_letter, integrity_values, privileges_required_letter, privileges_required_values, scope_letter, scope_values, user_interaction_letter, user_interaction_values}
 use Rattle.rustsec_lock.specs.declared.cvss.Cvss.{Cvss}
 use Rattle.rustsec_lock.specs.declared.cvss.Cvss.TheVariants as cvss
@@ -16,7 +16,7 @@ use Rattle.rustsec_texts.specs.declared.category.Category.TheVariants as categor
 use Rattle.rustsec_texts.specs.Ids.{IdValue, has_year, id_of, id_with, is_placeholder, kind_of_id, year_of_kind}
 use Rattle.rustsec_texts.specs.Informational.{informational_kinds, informational_name, informational_of}
 use Rattle.rustsec_texts.specs.declared.informational.Informational.TheVariants as informational
-use Rattle.rustsec_texts.specs.Paths.{path_of, path_text}
+use Rattle.rustsec_texts.specs.Paths.{path_of}
 use Rattle.rustsec_texts.proofs.Colons.{is_path-path_of, path_of-path_text}
 use Rattle.rustsec_osv.specs.DocumentAgain.{IsIdAgain, IsPathAgain}
 

@@ -1,12 +1,12 @@
 -- The events of the ranges that requirements leave have valid versions.
-use Rattle.std.proofs.Common.{◌≡◌, ◌<◌, ◌^◌, ◌++◌, List, [], ◌∷◌, Option, Some, None, arith, refl, sym, subst}
+use Rattle.std.proofs.Common.{◌≡◌, ◌++◌, List, [], ◌∷◌, Option, Some, None, arith, refl, subst}
 use Rattle.std.specs.Prelude.{All, filter_map}
 use Rattle.std.specs.List.{AllByRecursion, cons_option}
 use Rattle.std.proofs.lemmas.List.Elements.{All-cons, All-from_recursion, All-head, All-nil, All-tail}
 use Rattle.std.proofs.lemmas.List.Sorted.{All-permutation}
 use Rattle.std.proofs.lemmas.Option.{none-some, same_Some}
 use Rattle.semver.specs.Grammar.{IsValid}
-use Rattle.semver.specs.Parse.{Held, Parts}
+use Rattle.semver.specs.Parse.{Parts}
 use Rattle.rustsec_versions.specs.Interval.{Endpoint, Interval, exclusive, inclusive, unbounded}
 use Rattle.rustsec_versions.specs.Lists.{Lists, intervals}
 use Rattle.rustsec_versions.specs.Ranges.{AreRanges, Range, lower_cut, lower_cuts, upper_cut, upper_cuts}
@@ -15,7 +15,7 @@ use Rattle.rustsec_versions.proofs.Clashes.{AllSound, intervals-sound}
 use Rattle.rustsec_versions.proofs.LeastAbove.{successor-valid}
 use Rattle.rustsec_versions.proofs.Sound.{IsSound, IsSoundEnd}
 use Rattle.rustsec_osv.specs.DocumentAgain.{IsEventAgain}
-use Rattle.rustsec_osv.specs.DocumentEvents.{Event, fixed, introduced}
+use Rattle.rustsec_osv.specs.DocumentEvents.{fixed, introduced}
 use Rattle.rustsec_osv.specs.Events.{events_of}
 
 sound-valid : (v : Parts) → IsSound v → IsValid v
