@@ -3,6 +3,7 @@
 
 mod affected;
 mod document;
+mod export;
 mod ranges;
 mod reader;
 mod reference;

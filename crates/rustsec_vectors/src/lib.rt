@@ -42,6 +42,8 @@ mod lookups;
 #[cfg(test)]
 mod osv_documents;
 #[cfg(test)]
+mod osv_export;
+#[cfg(test)]
 mod packages;
 #[cfg(test)]
 mod platforms;
