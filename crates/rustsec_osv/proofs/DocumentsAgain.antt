@@ -1,18 +1,16 @@
 -- The tree of a document is read as an equal document.
-use Rattle.std.proofs.Common.{◌≡◌, ◌∙◌, ◌⊎◌, inl, inr, ℕ, List, All, Option, Some, None, codes, refl, ap}
-use Rattle.rustsec_json.specs.Fields.{every, optional, text}
-use Rattle.rustsec_json.specs.Trees.{list_tree, optional_tree, text_tree}
-use Rattle.serde_json.specs.Data.{Data, Members, no_members, string}
+use Rattle.std.proofs.Common.{◌≡◌, inl, inr, ℕ, List, All, Option, Some, None, refl}
+use Rattle.rustsec_json.specs.Fields.{every, text}
+use Rattle.rustsec_json.specs.Trees.{list_tree}
 use Rattle.semver.specs.Grammar.{IsValid}
 use Rattle.semver.specs.Parse.{Parts}
-use Rattle.rustsec_lock.specs.Cvss.{base_text, cvss_of}
 use Rattle.rustsec_texts.specs.Ids.{IdValue, id_of}
 use Rattle.rustsec_osv.specs.DocumentAgain.{IfThere, IsAffectedAgain, IsDocumentAgain, IsIdAgain, IsReferenceAgain, IsSeverityAgain}
 use Rattle.rustsec_osv.specs.DocumentKinds.{reference_kind_name, reference_kind_of}
 use Rattle.rustsec_osv.specs.Documents.{Document}
-use Rattle.rustsec_osv.specs.ReaderAffected.{any_text, read_affected, version_of}
-use Rattle.rustsec_osv.specs.ReaderDocument.{read_document, read_license, read_reference, read_severity, severity_of}
-use Rattle.rustsec_osv.specs.TreeAffected.{affected_tree, version_tree}
+use Rattle.rustsec_osv.specs.ReaderAffected.{read_affected}
+use Rattle.rustsec_osv.specs.ReaderDocument.{read_document, read_license, read_reference, read_severity}
+use Rattle.rustsec_osv.specs.TreeAffected.{affected_tree}
 use Rattle.rustsec_osv.specs.TreeDocument.{document_tree, id_tree, license_tree, reference_tree, severity_tree}
 use Rattle.rustsec_osv.specs.declared.document.MainOsvDatabaseSpecific.{MainOsvDatabaseSpecific}
 use Rattle.rustsec_osv.specs.declared.reference.OsvReference.{OsvReference}
@@ -22,7 +20,7 @@ use Rattle.rustsec_osv.specs.declared.severity.OsvSeverity.{OsvSeverity}
 use Rattle.rustsec_osv.specs.declared.severity.OsvSeverity.TheVariants as severity
 use Rattle.rustsec_osv.proofs.AffectedAgain.{affected-again, text-again}
 use Rattle.rustsec_osv.proofs.EventsAgain.{version-again}
-use Rattle.rustsec_osv.proofs.ReadLists.{every-again, null-again}
+use Rattle.rustsec_osv.proofs.ReadLists.{every-again}
 
 severity-again : (s : OsvSeverity) → IsSeverityAgain s → read_severity (severity_tree s) ≡ Some s
 severity-again (severity.CVSS_V3 base) (inl h) = rw h refl

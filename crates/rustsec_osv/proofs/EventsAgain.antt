@@ -1,12 +1,12 @@
 -- The tree of an event is read as that event.
-use Rattle.std.proofs.Common.{◌≡◌, ◌<◌, inl, inr, ℕ, zero, suc, cond, ◌+◌, ◌≤◌, ◌==◌, List, [], ◌∷◌, ◌++◌, count_by, Bool, true, false, Ok, Option, Some, None, refl, ap, arith, rules}
+use Rattle.std.proofs.Common.{◌≡◌, ◌<◌, inl, inr, ℕ, cond, ◌+◌, ◌≤◌, ◌==◌, List, ◌∷◌, ◌++◌, false, Some, refl, arith}
 use Rattle.std.proofs.lemmas.Bool.{cases_Bool, eqb-true}
 use Rattle.std.proofs.lemmas.List.Sums.{sum_by-append, sum_by-cons}
 use Rattle.std.specs.Fmt.{decimal}
 use Rattle.std.specs.Prelude.{if◌then◌else◌}
 use Rattle.semver.specs.Grammar.{IsValid}
-use Rattle.semver.specs.Identifiers.{marked, parts_text}
-use Rattle.semver.specs.Parse.{Parts, version_parts}
+use Rattle.semver.specs.Identifiers.{parts_text}
+use Rattle.semver.specs.Parse.{Parts}
 use Rattle.semver.proofs.Grammar.{version_parts-complete}
 use Rattle.rustsec_osv.specs.DocumentAgain.{IsEventAgain}
 use Rattle.rustsec_osv.specs.DocumentEvents.{Event, fixed, introduced, last_affected}

@@ -1,7 +1,7 @@
 -- Whatever document is read of the tree of one with valid versions: its ranges, with their events, are the same.
 use Rattle.std.proofs.Common.{◌≡◌, ◌∙◌, ℕ, List, [], ◌∷◌, All, map, Option, Some, None, codes, refl, ap, sym}
 use Rattle.std.proofs.lemmas.List.Elements.{All-head, All-tail}
-use Rattle.serde_json.specs.Data.{Data, Members, no_members, object}
+use Rattle.serde_json.specs.Data.{Members, object}
 use Rattle.rustsec_json.specs.Fields.{defaulted, every, or_null, text}
 use Rattle.rustsec_json.specs.Trees.{list_tree, optional_tree, text_tree}
 use Rattle.rustsec_values.specs.Reading.{◌>>=◌, before, read_all}
@@ -15,9 +15,7 @@ use Rattle.rustsec_osv.specs.ReaderDocument.{document_of, read_content, read_doc
 use Rattle.rustsec_osv.specs.TreeAffected.{affected_tree, database_tree, ecosystem_tree, package_tree, range_tree}
 use Rattle.rustsec_osv.specs.TreeDocument.{document_members, document_tree}
 use Rattle.rustsec_osv.specs.declared.affected.OsvAffected.{OsvAffected}
-use Rattle.rustsec_osv.specs.declared.reader.document.Content.{Content}
 use Rattle.rustsec_osv.specs.declared.reader.document.Links.{Links}
-use Rattle.rustsec_osv.specs.declared.reader.document.Stamp.{Stamp}
 use Rattle.rustsec_osv.proofs.AffectedAgain.{range-again}
 use Rattle.rustsec_osv.proofs.DocumentsAgain.{keyed}
 use Rattle.rustsec_osv.proofs.ReadLists.{every-again, list_of-items, null-again}

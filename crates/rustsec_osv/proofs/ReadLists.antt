@@ -1,12 +1,12 @@
 -- Lists of trees, and trees that may be null, read again.
-use Rattle.std.proofs.Common.{◌≡◌, ◌∙◌, ℕ, List, [], ◌∷◌, ◌++◌, All, map, Option, Some, None, refl, ap, arith}
+use Rattle.std.proofs.Common.{◌≡◌, List, [], ◌∷◌, All, map, Option, Some, None, refl, ap}
 use Rattle.std.proofs.lemmas.List.Elements.{All-head, All-tail}
-use Rattle.serde_json.specs.Data.{Data, Items}
+use Rattle.serde_json.specs.Data.{Data}
 use Rattle.serde_json.specs.Find.{as_null}
 use Rattle.serde_json.specs.View.{items_of}
 use Rattle.rustsec_json.specs.Fields.{every, list_of, or_null}
 use Rattle.rustsec_json.specs.Trees.{list_tree, optional_tree}
-use Rattle.rustsec_values.specs.Reading.{before, read_all}
+use Rattle.rustsec_values.specs.Reading.{read_all}
 use Rattle.rustsec_osv.specs.DocumentAgain.{IfThere}
 
 -- the items of a list of trees

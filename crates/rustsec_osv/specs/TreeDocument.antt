@@ -1,5 +1,5 @@
 -- The tree of an OSV document (OSV schema, top level): a row for each key.
-use Rattle.std.specs.Prelude.{ℕ, List, [], ◌∷◌, ◌++◌, codes}
+use Rattle.std.specs.Prelude.{List, [], ◌∷◌, ◌++◌, codes}
 use Rattle.serde_json.specs.Data.{Data, Members, no_members, object, string}
 use Rattle.rustsec_json.specs.Trees.{list_tree, optional_tree, text_tree}
 use Rattle.rustsec_lock.specs.Cvss.{base_text}

@@ -136,11 +136,7 @@ const CRATES: &str =
 /// The document of an advisory's text.
 fn exported(alloc: Global, text: &str) -> Result<OsvAdvisory, Fail> {
     let advisory = Advisory::from_str(alloc, text)?;
-    Ok(OsvAdvisory::from_rustsec(
-        alloc,
-        advisory,
-        "2020-01-01T00:00:00Z",
-    )?)
+    Ok(OsvAdvisory::from_rustsec(alloc, advisory, "2020-01-01T00:00:00Z")?)
 }
 
 /// Whether the document of an advisory's text prints as wanted.
@@ -200,7 +196,13 @@ fn kind_with(alloc: Global, address: &str) -> Result<Option<OsvReferenceKind>, F
     let key = format!(in alloc; "references = [\"{address}\"]\ndate =")?;
     let text = changed(alloc, SHORT, "date =", &key)?;
     let document = exported(alloc, &text)?;
-    Ok(document.references.as_slice().last().map(|reference| reference.kind))
+    Ok(
+        document
+            .references
+            .as_slice()
+            .last()
+            .map(|reference| reference.kind),
+    )
 }
 
 /// Checks what addresses lead to.
