@@ -18,6 +18,8 @@ mod commands;
 #[cfg(test)]
 mod cvss;
 #[cfg(test)]
+mod databases;
+#[cfg(test)]
 mod dates;
 #[cfg(test)]
 mod fakes;
@@ -27,6 +29,10 @@ mod file_contents;
 mod fixes;
 #[cfg(test)]
 mod fixtures;
+#[cfg(test)]
+mod folders;
+#[cfg(test)]
+mod folders_in_memory;
 #[cfg(test)]
 mod function_paths;
 #[cfg(test)]
@@ -59,6 +65,8 @@ mod readme;
 mod refusal_messages;
 #[cfg(test)]
 mod refused_requirements;
+#[cfg(test)]
+mod reports;
 #[cfg(test)]
 mod sampled_commands;
 #[cfg(test)]

@@ -136,18 +136,14 @@ const CRATES: &str =
 /// The document of an advisory's text.
 fn exported(alloc: Global, text: &str) -> Result<OsvAdvisory, Fail> {
     let advisory = Advisory::from_str(alloc, text)?;
-    Ok(OsvAdvisory::from_rustsec(
-        alloc,
-        advisory,
-        "2020-01-01T00:00:00Z",
-    )?)
+    Ok(OsvAdvisory::from_rustsec(alloc, advisory, "2020-01-01T00:00:00Z")?)
 }
 
 /// Whether the document of an advisory's text prints as wanted.
 fn prints(alloc: Global, text: &str, wanted: &str) -> Result<bool, Fail> {
     let document = exported(alloc, text)?;
     let tree = document.to_value(alloc)?;
-    Ok(tree.to_string(alloc)? == wanted)
+    Ok(tree.to_string(alloc)?.as_str() == wanted)
 }
 
 /// Whether the document of the short advisory changes with it.
@@ -200,7 +196,13 @@ fn kind_with(alloc: Global, address: &str) -> Result<Option<OsvReferenceKind>, F
     let key = format!(in alloc; "references = [\"{address}\"]\ndate =")?;
     let text = changed(alloc, SHORT, "date =", &key)?;
     let document = exported(alloc, &text)?;
-    Ok(document.references.as_slice().last().map(|reference| reference.kind))
+    Ok(
+        document
+            .references
+            .as_slice()
+            .last()
+            .map(|reference| reference.kind),
+    )
 }
 
 /// Checks what addresses lead to.
@@ -251,7 +253,7 @@ fn link_refusal(alloc: Global, lists: &str) -> Result<Option<ErrorKind>, Fail> {
 fn imports(alloc: Global, lists: &str, wanted: &Option<&str>) -> Result<bool, Fail> {
     match wanted {
         Some(wanted) => match imported(alloc, lists)? {
-            Some(found) => Ok(found == *wanted),
+            Some(found) => Ok(found.as_str() == *wanted),
             None => Ok(false),
         },
         None => Ok(link_refusal(alloc, lists)? == Some(ErrorKind::Parse)),
@@ -288,7 +290,7 @@ fn crate_names(alloc: Global, lists: &str) -> Result<String, Fail> {
 
 /// Whether a document has these crates.
 fn has_crates(alloc: Global, lists: &str, wanted: &str) -> Result<bool, Fail> {
-    Ok(crate_names(alloc, lists)? == wanted)
+    Ok(crate_names(alloc, lists)?.as_str() == wanted)
 }
 
 #[test]
