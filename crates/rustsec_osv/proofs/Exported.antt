@@ -1,16 +1,20 @@
 -- What was exported is the document of the definition, and its events are those of its one range.
-use Rattle.std.proofs.Common.{◌≡◌, ◌++◌, ◌⊎◌, ℕ, List, [], Option, Some, Ok, Err, append-nil, sym, subst, inl, inr}
-use Rattle.std.specs.Prelude.{IfErr, IfOk, None, Result}
+use Rattle.std.proofs.Common.{◌≡◌, ◌++◌, ◌⊎◌, ◌∷◌, ℕ, List, [], Option, Some, Ok, Err, append-nil, refl, sym, subst, inl, inr}
+use Rattle.std.specs.Prelude.{All, IfErr, IfOk, None, Result}
+use Rattle.std.proofs.lemmas.List.Elements.{All-cons, All-nil}
+use Rattle.rustsec_advisory.specs.FieldGroups.{kinds_of}
 use Rattle.rustsec_advisory.specs.declared.advisory.Advisory.{Advisory}
 use Rattle.rustsec_advisory.specs.declared.affected.Affected.{Affected}
 use Rattle.rustsec_advisory.specs.declared.metadata.Metadata.{Metadata}
 use Rattle.rustsec_versions.specs.Failure.{Failure, IsRefusal}
 use Rattle.rustsec_versions.specs.Lists.{Lists}
 use Rattle.rustsec_versions.specs.declared.error.ErrorKind.TheVariants as kind
+use Rattle.rustsec_osv.specs.DocumentAgain.{AreEventsValid, IfThere, IsRangeAgain}
 use Rattle.rustsec_osv.specs.DocumentEvents.{Event, JsonRange}
 use Rattle.rustsec_osv.specs.Documents.{Document}
-use Rattle.rustsec_osv.specs.Export.{IsDocument, IsRangeOf, IsStarAlone, document_events, document_with}
+use Rattle.rustsec_osv.specs.Export.{IsDocument, IsRangeOf, IsStarAlone, database_of, document_events, document_with, member_of, package_of}
 use Rattle.rustsec_osv.specs.References.{references_of}
+use Rattle.rustsec_osv.specs.declared.affected.OsvAffected.{OsvAffected}
 use Rattle.rustsec_osv.specs.declared.reference.OsvReference.{OsvReference}
 
 three : (es : List Event) → ((es ++ []) ++ []) ++ [] ≡ es
@@ -56,3 +60,21 @@ refused a range (Ok d) parts e is_range h = tt
 refused a range (Err f) parts e is_range h =
     subst (λ (p : Metadata × Option Affected × Lists). IsRangeOf p.2 range → IsRefusal kind.Parse (references_of p.0 ≡ None) f
     → IsRefusedFor a.versions a.metadata f) (sym e) (λ is_range h. one-refused a.versions a.metadata f is_range.some h) is_range h
+
+-- ---- valid events
+
+member-valid : (a : OsvAffected) (range : JsonRange) → a.ranges ≡ Some (range ∷ []) → IsRangeAgain range → IfThere (All IsRangeAgain) a.ranges
+member-valid a range e valid = rw e (All-cons IsRangeAgain range [] valid (All-nil IsRangeAgain))
+
+made-valid : (m : Metadata) (a : Option Affected) (modified : List ℕ) (references : List OsvReference) (range : JsonRange) → IsRangeAgain range
+    → AreEventsValid (document_with m a modified references range)
+made-valid m a modified references range valid =
+    let member = member_of (package_of m.«package») (database_of (kinds_of m)) a range in
+    All-cons (λ (x : OsvAffected). IfThere (All IsRangeAgain) x.ranges) member [] (member-valid member range refl valid)
+    (All-nil (λ (x : OsvAffected). IfThere (All IsRangeAgain) x.ranges))
+
+pub exported-valid : (modified : List ℕ) (range : JsonRange) (r : Result Document Failure) (parts : Metadata × Option Affected × Lists)
+    → IsRangeAgain range → IfOk r (IsMade parts modified range) → IfOk r AreEventsValid
+exported-valid modified range (Ok d) parts valid made =
+    subst AreEventsValid (sym made.2) (made-valid parts.0 parts.1 modified made.0 range valid)
+exported-valid modified range (Err f) parts valid made = tt

@@ -4,9 +4,13 @@ pub mod DocumentsAgain
 pub mod EventLists
 pub mod EventsAgain
 pub mod EventsKept
+pub mod ExportAgain
 pub mod Exported
 pub mod LeastVersion
 pub mod Links
 pub mod Parts
 pub mod ReadLists
 pub mod RisingEvents
+pub mod TablesAgain
+pub mod TextsAgain
+pub mod ValidEvents

@@ -143,7 +143,7 @@ fn exported(alloc: Global, text: &str) -> Result<OsvAdvisory, Fail> {
 fn prints(alloc: Global, text: &str, wanted: &str) -> Result<bool, Fail> {
     let document = exported(alloc, text)?;
     let tree = document.to_value(alloc)?;
-    Ok(tree.to_string(alloc)? == wanted)
+    Ok(tree.to_string(alloc)?.as_str() == wanted)
 }
 
 /// Whether the document of the short advisory changes with it.
@@ -253,7 +253,7 @@ fn link_refusal(alloc: Global, lists: &str) -> Result<Option<ErrorKind>, Fail> {
 fn imports(alloc: Global, lists: &str, wanted: &Option<&str>) -> Result<bool, Fail> {
     match wanted {
         Some(wanted) => match imported(alloc, lists)? {
-            Some(found) => Ok(found == *wanted),
+            Some(found) => Ok(found.as_str() == *wanted),
             None => Ok(false),
         },
         None => Ok(link_refusal(alloc, lists)? == Some(ErrorKind::Parse)),
@@ -290,7 +290,7 @@ fn crate_names(alloc: Global, lists: &str) -> Result<String, Fail> {
 
 /// Whether a document has these crates.
 fn has_crates(alloc: Global, lists: &str, wanted: &str) -> Result<bool, Fail> {
-    Ok(crate_names(alloc, lists)? == wanted)
+    Ok(crate_names(alloc, lists)?.as_str() == wanted)
 }
 
 #[test]

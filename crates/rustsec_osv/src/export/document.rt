@@ -1,12 +1,16 @@
 // The document of an advisory.
 
-ghost use Rattle.std.specs.Prelude.{◌≡◌, ◌⊎◌, ◌++◌, ◌∷◌, [], IfErr, IfOk, List, None, Some, map, option_map, option_to_list};
+ghost use Rattle.std.specs.Prelude.{◌≡◌, ◌⊎◌, ◌++◌, ◌∷◌, ℕ, [], All, IfErr, IfOk, List, None, Some, map, option_map, option_to_list};
 ghost use Rattle.semver.specs.Parse.{Parts};
 ghost use Rattle.rustsec_texts.specs.Licenses.{license_name};
 ghost use Rattle.rustsec_versions.specs.Failure.{IsRefusal};
 ghost use Rattle.rustsec_versions.specs.Lists.{affected};
 ghost use Rattle.rustsec_versions.specs.Precedence.{IsVersion};
+ghost use Rattle.rustsec_osv.specs.DocumentAgain.{AreEventsValid, IsReferenceAgain};
+ghost use Rattle.rustsec_advisory.specs.Advisory.{IsAdvisory};
 ghost use Rattle.rustsec_osv.specs.Events.{events_say};
+ghost use Rattle.rustsec_osv.specs.ReaderDocument.{read_document};
+ghost use Rattle.rustsec_osv.specs.TreeDocument.{document_tree};
 ghost use Rattle.rustsec_osv.specs.Export.{IsDocument, IsStarAlone, database_of, document_events, document_with, member_of, noon, package_of, severity_of};
 ghost use Rattle.rustsec_osv.specs.References.{own_pages, reference_of, references_of};
 ghost use Rattle.rustsec_osv.specs.declared.reference.OsvReference.{OsvReference};
@@ -231,6 +235,14 @@ impl OsvAdvisory {
 
         // The document's events call a valid version affected exactly if the advisory does.
         ensures events { IfOk result (λ d. (v : Parts) → IsVersion v → events_say (document_events d) v ≡ affected advisory.versions v) }
+
+        // The versions of the events are valid, so each event is read again from its tree.
+        ensures valid { IfOk result AreEventsValid }
+
+        // If the advisory is that of a text, and its addresses are read again, as each `Address` is, then the
+        // document's tree is read as this document.
+        ensures again { IfOk result (λ d. (t : List ℕ) → IsAdvisory t advisory → All IsReferenceAgain d.references
+            → read_document (document_tree d) ≡ Some d) }
         ensures err { IfErr result (λ e. IsRefusal ErrorKind.BadParam (IsStarAlone advisory.versions) e
             ⊎ IsRefusal ErrorKind.Parse ((¬ IsStarAlone advisory.versions) × (references_of advisory.metadata ≡ None)) e) }
     {

@@ -1,8 +1,13 @@
 // The trees of documents.
 
-ghost use Rattle.std.specs.Prelude.{◌≡◌, IfErr, IfOk, OnOk, codes, option_map};
+ghost use Rattle.std.specs.Prelude.{◌≡◌, IfErr, IfOk, OnOk, Some, codes, option_map};
 ghost use Rattle.serde_json.specs.View.{members_view, view};
-ghost use Rattle.rustsec_osv.specs.TreeAffected.{version_tree};
+ghost use Rattle.rustsec_osv.specs.DocumentAgain.{AreEventsValid, IsDocumentAgain, IsEventAgain};
+ghost use Rattle.rustsec_osv.specs.DocumentEvents.{Event};
+ghost use Rattle.rustsec_osv.specs.Documents.{Document, ranges_of};
+ghost use Rattle.rustsec_osv.specs.ReaderAffected.{read_event};
+ghost use Rattle.rustsec_osv.specs.ReaderDocument.{read_document};
+ghost use Rattle.rustsec_osv.specs.TreeAffected.{event_tree, version_tree};
 ghost use Rattle.rustsec_osv.specs.TreeDocument.{document_tree, list_rows, text_rows};
 ghost use Rattle.rustsec_osv.specs.TreeObjects.{row_if, with_rows};
 ghost use Rattle.rustsec_versions.specs.Failure.{IsMemory};
@@ -144,6 +149,16 @@ impl OsvAdvisory {
     pub fn to_value(&self, alloc: Global) -> rustsec_versions::Result<Value>
         ensures ok { IfOk result (λ v. view v ≡ document_tree self.now) }
         ensures err { IfErr result IsMemory }
+
+        // The tree of a document whose parts are read again from their texts is read as this document.
+        ensures again { IsDocumentAgain self.now → read_document (document_tree self.now) ≡ Some self.now }
+
+        // If its events have valid versions, whatever is read of the tree has the same ranges, in order.
+        ensures ranges { AreEventsValid self.now → (d : Document) → read_document (document_tree self.now) ≡ Some d
+            → ranges_of d ≡ ranges_of self.now }
+
+        // The object of an event of a valid version is read as that event.
+        ensures events { (e : Event) → IsEventAgain e → read_event (event_tree e) ≡ Some e }
     {
         let mut fields = Map::new(alloc);
         put_lists(self, alloc, &mut fields)?;

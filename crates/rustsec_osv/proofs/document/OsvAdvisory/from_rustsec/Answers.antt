@@ -1,4 +1,5 @@
-use Rattle.rustsec_osv.proofs.Exported.{exported, refused}
+use Rattle.rustsec_osv.proofs.ExportAgain.{exported-read}
+use Rattle.rustsec_osv.proofs.Exported.{exported, exported-valid, refused}
 use Rattle.rustsec_osv.proofs.document.OsvAdvisory.from_rustsec.Goals as goal
 
 pub returns-clause-ok : goal.returns-clause-ok
@@ -10,3 +11,11 @@ pub returns-clause-err : goal.returns-clause-err
 returns-clause-err c =
     refused c.args.advisory c.in_ok-range.range c.document_with.result c.into_parts-metadata.result c.into_parts-metadata.ensures
     c.in_ok-range.ensures.ok c.document_with.ensures.err
+
+pub returns-clause-valid : goal.returns-clause-valid
+returns-clause-valid c =
+    exported-valid c.args.modified.now c.in_ok-range.range c.document_with.result c.into_parts-metadata.result c.in_ok-range.ensures.valid
+    c.document_with.ensures.ok
+
+pub returns-clause-again : goal.returns-clause-again
+returns-clause-again c = exported-read c.args.advisory c.args.modified.now c.document_with.result (returns-clause-ok c) (returns-clause-valid c)

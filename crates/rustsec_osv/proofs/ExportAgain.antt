@@ -1,0 +1,113 @@
+-- The exported document of an advisory that a text is: its tree is read as an equal document.
+use Rattle.std.proofs.Common.{◌≡◌, inl, inr, ℕ, List, [], All, map, Option, Some, None, codes, option_to_list, sym, subst}
+use Rattle.std.specs.Prelude.{Err, IfOk, Ok, Result}
+use Rattle.std.proofs.lemmas.List.Elements.{All-cons, All-head, All-nil}
+use Rattle.toml.specs.Data.{Data, Members, get_member}
+use Rattle.rustsec_toml.specs.Fields.{text}
+use Rattle.rustsec_lock.specs.Cvss.{cvss_of, cvss_text}
+use Rattle.rustsec_lock.specs.Platforms.{arch_of, arch_text, arches, os_of, os_text, systems}
+use Rattle.rustsec_lock.specs.declared.cvss.Cvss.{Cvss}
+use Rattle.rustsec_lock.specs.declared.cvss.Cvss.TheVariants as cvss
+use Rattle.rustsec_texts.specs.Categories.{category_name, category_of}
+use Rattle.rustsec_texts.specs.Ids.{id_of}
+use Rattle.rustsec_texts.specs.Informational.{informational_name, informational_of}
+use Rattle.rustsec_advisory.specs.Advisory.{IsAdvisory, IsAffectedAt}
+use Rattle.rustsec_advisory.specs.FieldGroups.{kinds_of}
+use Rattle.rustsec_advisory.specs.Metadata.{IsMetadata}
+use Rattle.rustsec_advisory.specs.declared.advisory.Advisory.{Advisory}
+use Rattle.rustsec_advisory.specs.declared.affected.Affected.{Affected}
+use Rattle.rustsec_advisory.specs.declared.metadata.Metadata.{Metadata}
+use Rattle.rustsec_versions.specs.Failure.{Failure}
+use Rattle.rustsec_osv.specs.DocumentAgain.{AreEventsValid, IfThere, IsAffectedAgain, IsAffectsAgain, IsDocumentAgain, IsIdAgain, IsRangeAgain, IsReferenceAgain, IsSeverityAgain}
+use Rattle.rustsec_osv.specs.DocumentEvents.{JsonRange}
+use Rattle.rustsec_osv.specs.Documents.{Document}
+use Rattle.rustsec_osv.specs.Export.{IsDocument, affects_of, database_of, document_with, member_of, package_of, severity_of}
+use Rattle.rustsec_osv.specs.ReaderDocument.{read_document}
+use Rattle.rustsec_osv.specs.TreeDocument.{document_tree}
+use Rattle.rustsec_osv.specs.declared.affected.OsvAffected.{OsvAffected}
+use Rattle.rustsec_osv.specs.declared.reference.OsvReference.{OsvReference}
+use Rattle.rustsec_osv.proofs.DocumentsAgain.{document-again}
+use Rattle.rustsec_osv.proofs.TablesAgain.{functions-read, list-read, optional-read, text-read, through}
+use Rattle.rustsec_osv.proofs.TextsAgain.{category-again, cvss-again, id-again, informational-again, named-again}
+
+some-same : {A : Type 0} (a b : A) → Some a ≡ Some b → a ≡ b
+some-same a b h = cc h
+
+-- the vector
+severity-of : (o : Option Cvss) → IfThere (λ (v : Cvss). cvss_of (cvss_text v) ≡ Some v) o → All IsSeverityAgain (map severity_of (option_to_list o))
+severity-of None h = All-nil IsSeverityAgain
+severity-of (Some (cvss.CvssV30 b)) h = All-cons IsSeverityAgain _ [] (inl h) (All-nil IsSeverityAgain)
+severity-of (Some (cvss.CvssV31 b)) h = All-cons IsSeverityAgain _ [] (inr h) (All-nil IsSeverityAgain)
+severity-of (Some (cvss.CvssV40 t)) h = All-cons IsSeverityAgain _ [] h (All-nil IsSeverityAgain)
+
+-- the platforms and the functions
+affects-of : (o : Option Data) (a : Option Affected) → IsAffectedAt o a → IsAffectsAgain (affects_of a)
+affects-of None a h = subst (λ (x : Option Affected). IsAffectsAgain (affects_of x)) (sym h) (record {
+  arch = All-nil (λ x. arch_of (arch_text x) ≡ Some x);
+  os = All-nil (λ x. os_of (os_text x) ≡ Some x);
+  functions = All-nil _;
+})
+affects-of (Some d) a h = subst (λ (x : Option Affected). IsAffectsAgain (affects_of x)) (sym h.2.1.1) (record {
+  arch = list-read (text arch_of) (λ x. arch_of (arch_text x) ≡ Some x) (text-read arch_of (λ x. arch_of (arch_text x) ≡ Some x) (λ t x e. named-again arch_text t arches x e)) (get_member (codes "arch") h.0) h.1.arch h.2.1.0.arch;
+  os = list-read (text os_of) (λ x. os_of (os_text x) ≡ Some x) (text-read os_of (λ x. os_of (os_text x) ≡ Some x) (λ t x e. named-again os_text t systems x e)) (get_member (codes "os") h.0) h.1.os h.2.1.0.os;
+  functions = functions-read (get_member (codes "functions") h.0) h.1.functions h.2.1.0.functions;
+})
+
+-- a document of such metadata and such a range
+made : (title description modified : List ℕ) (table : Members) (m : Metadata) (o : Option Data) (a : Option Affected) (references : List OsvReference) (range : JsonRange)
+    → IsMetadata table title description m → IsAffectedAt o a → IsRangeAgain range → All IsReferenceAgain references
+    → IsDocumentAgain (document_with m a modified references range)
+made title description modified table m o a references range h w r refs =
+    let vectors : IfThere (λ (v : Cvss). cvss_of (cvss_text v) ≡ Some v) m.cvss =
+    optional-read (text cvss_of) (λ (v : Cvss). cvss_of (cvss_text v) ≡ Some v) (text-read cvss_of (λ (v : Cvss). cvss_of (cvss_text v) ≡ Some v) cvss-again) (get_member (codes "cvss") table) m.cvss h.kinds.cvss in
+    record {
+      schema_version = tt;
+      id = through (get_member (codes "id") table) (text id_of) IsIdAgain (text-read id_of IsIdAgain id-again) m.id h.subject.id;
+      aliases = list-read (text id_of) IsIdAgain (text-read id_of IsIdAgain id-again) (get_member (codes "aliases") table) m.aliases h.subject.aliases;
+      related = list-read (text id_of) IsIdAgain (text-read id_of IsIdAgain id-again) (get_member (codes "related") table) m.related h.subject.related;
+      severity = severity-of m.cvss vectors;
+      affected = All-cons IsAffectedAgain _ [] (record {
+        ecosystem_specific = record { affects = affects-of o a w; affected_functions = tt };
+        database_specific = record {
+          categories = list-read (text (λ t. Some (category_of t))) (λ x. category_of (category_name x) ≡ x)
+              (text-read (λ t. Some (category_of t)) (λ x. category_of (category_name x) ≡ x) (λ t x e. subst (λ y. category_of (category_name y) ≡ y) (some-same (category_of t) x e) (category-again t)))
+              (get_member (codes "categories") table) m.categories h.kinds.categories;
+          cvss = vectors;
+          informational = optional-read (text (λ t. Some (informational_of t))) (λ x. informational_of (informational_name x) ≡ x)
+              (text-read (λ t. Some (informational_of t)) (λ x. informational_of (informational_name x) ≡ x) (λ t x e. subst (λ y. informational_of (informational_name y) ≡ y) (some-same (informational_of t) x e) (informational-again t)))
+              (get_member (codes "informational") table) m.informational h.kinds.informational;
+        };
+        ranges = All-cons IsRangeAgain range [] r (All-nil IsRangeAgain);
+      }) (All-nil IsAffectedAgain);
+      references = refs;
+    }
+
+-- the one member of its `affected`
+abbrev exported-member : Metadata → Option Affected → JsonRange → OsvAffected
+exported-member m a range = member_of (package_of m.«package») (database_of (kinds_of m)) a range
+
+-- the range of a document whose events have valid versions
+exported-range : (m : Metadata) (a : Option Affected) (modified : List ℕ) (references : List OsvReference) (range : JsonRange)
+    → AreEventsValid (document_with m a modified references range) → IsRangeAgain range
+exported-range m a modified references range h =
+    All-head IsRangeAgain range [] (All-head (λ (x : OsvAffected). IfThere (All IsRangeAgain) x.ranges) (exported-member m a range) [] h)
+
+-- the parts of the document of an advisory that a text is are read again; each reference is, as each `Address`
+pub export-again : (t : List ℕ) (a : Advisory) (modified : List ℕ) (d : Document) → IsAdvisory t a → IsDocument a modified d → AreEventsValid d
+    → All IsReferenceAgain d.references → IsDocumentAgain d
+export-again t a modified d h x valid refs =
+    let of = h.1.is_of in
+    let same = x.is in
+    subst IsDocumentAgain (sym same) (made _ _ modified of.advisory_table a.metadata (get_member (codes "affected") h.0) a.affected x.references x.range of.metadata of.affected
+    (exported-range a.metadata a.affected modified x.references x.range (subst AreEventsValid same valid)) (subst (λ (y : Document). All IsReferenceAgain y.references) same refs))
+
+-- its tree is read as an equal document
+pub exported-again : (t : List ℕ) (a : Advisory) (modified : List ℕ) (d : Document) → IsAdvisory t a → IsDocument a modified d → AreEventsValid d
+    → All IsReferenceAgain d.references → read_document (document_tree d) ≡ Some d
+exported-again t a modified d h x valid refs = document-again d (export-again t a modified d h x valid refs)
+
+-- so it is with what the export answers
+pub exported-read : (a : Advisory) (modified : List ℕ) (r : Result Document Failure) → IfOk r (IsDocument a modified) → IfOk r AreEventsValid
+    → IfOk r (λ d. (t : List ℕ) → IsAdvisory t a → All IsReferenceAgain d.references → read_document (document_tree d) ≡ Some d)
+exported-read a modified (Ok d) x valid = λ t h refs. exported-again t a modified d h x valid refs
+exported-read a modified (Err f) x valid = tt
