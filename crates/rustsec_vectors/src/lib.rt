@@ -18,6 +18,8 @@ mod commands;
 #[cfg(test)]
 mod cvss;
 #[cfg(test)]
+mod databases;
+#[cfg(test)]
 mod dates;
 #[cfg(test)]
 mod fakes;
@@ -27,6 +29,10 @@ mod file_contents;
 mod fixes;
 #[cfg(test)]
 mod fixtures;
+#[cfg(test)]
+mod folders;
+#[cfg(test)]
+mod folders_in_memory;
 #[cfg(test)]
 mod function_paths;
 #[cfg(test)]
@@ -39,6 +45,10 @@ mod lint;
 mod lockfiles;
 #[cfg(test)]
 mod lookups;
+#[cfg(test)]
+mod osv_documents;
+#[cfg(test)]
+mod osv_export;
 #[cfg(test)]
 mod packages;
 #[cfg(test)]
@@ -55,6 +65,8 @@ mod readme;
 mod refusal_messages;
 #[cfg(test)]
 mod refused_requirements;
+#[cfg(test)]
+mod reports;
 #[cfg(test)]
 mod sampled_commands;
 #[cfg(test)]

@@ -1,0 +1,93 @@
+//! The RustSec advisory database, and audits of a `Cargo.lock` against it, under the paths where a user of
+//! the Rust crate `rustsec` looks. Each item stands in one of the crates below, with its contract; this
+//! crate has no code of its own but the version.
+#![tactic(auto)]
+
+/// The version of the Rust crate that these crates port.
+pub const VERSION: &str = "0.33.0";
+
+/// Advisories: their files, their fields and the linter.
+pub mod advisory {
+    /// Which platforms and functions an advisory affects.
+    pub mod affected {
+        pub use rustsec_advisory::Affected;
+        pub use rustsec_texts::{FunctionPath, Identifier};
+    }
+
+    pub use rustsec_advisory::linter;
+    pub use rustsec_advisory::{Address, Advisory, Affected, Linter, Metadata};
+    pub use rustsec_lock::Severity;
+    pub use rustsec_texts::{
+        Category, Date, FunctionPath, Id, IdKind, Identifier, Informational, Keyword, License, Parts,
+    };
+    pub use rustsec_versions::Versions;
+}
+
+/// Databases of advisories, and queries.
+pub mod database {
+    pub use rustsec_database::{Database, Iter};
+    pub use rustsec_query::Query;
+}
+
+/// Ranges of affected versions, and OSV documents.
+pub mod osv {
+    pub use rustsec_osv::{
+        MainOsvDatabaseSpecific, OsvAdvisory, OsvAffected, OsvDatabaseSpecific,
+        OsvEcosystemSpecific, OsvEcosystemSpecificAffected, OsvJsonRange, OsvPackage, OsvReference,
+        OsvReferenceKind, OsvSeverity, OsvTimelineEvent,
+    };
+    pub use rustsec_versions::{OsvRange, ranges_for_advisory};
+}
+
+/// Reports of what an audit found.
+pub mod report {
+    pub use rustsec_report::{
+        LockfileInfo, Report, Settings, VulnerabilityInfo, WarningInfo, find_warnings,
+    };
+}
+
+/// Reports on the packages that a binary holds.
+pub mod binary_scanning {
+    pub use rustsec_report::{BinaryFormat, filter_report_by_binary_type};
+}
+
+/// Look-ups in a registry.
+pub mod registry {
+    pub use rustsec_registry::CachedIndex;
+}
+
+/// What the database's repository says.
+pub mod repository {
+    /// Signatures of commits.
+    pub mod signature {
+        pub use rustsec_registry::Signature;
+    }
+}
+
+/// Packages of a lockfile.
+pub mod package {
+    pub use rustsec_lock::SourceId;
+    pub use rustsec_lock::package::{Name, Package};
+}
+
+/// Platforms.
+pub mod platforms {
+    pub use rustsec_lock::platforms::{Arch, OS};
+}
+
+pub use rustsec_advisory::Advisory;
+pub use rustsec_database::{Database, Entries, Index, Slot};
+pub use rustsec_fixer::{FixCommand, Fixer};
+pub use rustsec_folders::{FolderEntry, Folders, SourceFile};
+pub use rustsec_lock::{
+    AttackComplexity, AttackVector, Availability, Base, Confidentiality, Cvss, Integrity, Lockfile,
+    PrivilegesRequired, Scope, Severity, SourceId, SourceKind, UserInteraction,
+};
+pub use rustsec_query::Vulnerability;
+pub use rustsec_registry::{IndexVersion, Lookup};
+pub use rustsec_report::{Report, Warning};
+pub use rustsec_texts::{Collection, WarningKind};
+pub use rustsec_versions::{
+    Bound, Error, ErrorKind, Result, Steps, UnaffectedRange, requirement_text, successor,
+};
+pub use semver::{Version, VersionReq};

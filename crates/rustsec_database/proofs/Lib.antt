@@ -1,0 +1,6 @@
+pub mod Slots
+pub mod Indexes
+pub mod Places
+pub mod Tables
+pub mod Files
+pub mod Pairs

@@ -1,0 +1,121 @@
+-- The tables of a database, when an advisory more is stored.
+use Rattle.std.proofs.Common.{◌≡◌, ◌∙◌, ◌+◌, ◌++◌, ◌&&◌, ℕ, Bool, true, false, cond, List, [], ◌∷◌, Option, Some, length, nat_eq, refl, subst, sym, ap, arith}
+use Rattle.std.specs.BTreeMap as tree
+use Rattle.std.specs.BTreeMap.{BTreeMap, Updates}
+use Rattle.std.specs.Cmp.{first_so, second_so}
+use Rattle.std.specs.Cmp.Lexicographic.{bytes_decides, pointwise}
+use Rattle.std.specs.List.{filter, list_any, position_from}
+use Rattle.std.specs.Option.{option_eq}
+use denote.Enum.Bare.{sameb}
+use Rattle.rustsec_texts.specs.IdOrder.{id_decides, id_eq, id_order, id_ties}
+use Rattle.rustsec_texts.specs.Ids.{IdValue}
+use Rattle.rustsec_texts.specs.contracts.collection.Collection.{the_type as collection}
+use Rattle.rustsec_texts.specs.declared.collection.Collection.{Collection}
+use Rattle.rustsec_advisory.specs.declared.advisory.Advisory.{Advisory}
+use Rattle.rustsec_query.specs.Query.{Asked}
+use Rattle.rustsec_query.specs.Selects.{as_informational, as_withdrawn, has_name, has_source, has_version, if_there, in_collection, is_severe, of_year, on_arch, on_os, selects}
+use Rattle.rustsec_database.specs.Loaded.{has_id, is_known}
+use Rattle.rustsec_database.specs.Places.{IsIndexOf, IsTableOf, at_places, is_under, places_from}
+use Rattle.rustsec_database.specs.Slots.{slots_at, with_slot}
+use Rattle.rustsec_database.proofs.Places.{first-last, first-other, is-false, narrow, places-below, places-in, places-out, taken}
+use Rattle.rustsec_database.proofs.Slots.{with_slot-last}
+
+-- ---- the table of IDs
+
+id-back : (a b : IdValue) → id_eq a b ≡ false → id_eq b a ≡ false
+id-back a b h = is-false (id_eq b a) (λ t. cc (sym h ∙ (id_decides a b).1 (sym ((id_decides b a).0 t))))
+
+plus-zero : (n : ℕ) → n ≡ 0 + n
+plus-zero n = omega arith
+
+table-step : (old : List Advisory) (a : Advisory) (id : IdValue) (o : Option ℕ) (b : Bool) → id_eq a.metadata.id id ≡ b
+    → o ≡ position_from (has_id id) 0 old → is_known old a ≡ false
+    → cond b (Some (length old)) o ≡ position_from (has_id id) 0 (old ++ a ∷ [])
+table-step old a id o true is at new =
+    let same : a.metadata.id ≡ id = (id_decides a.metadata.id id).0 is in
+    let none : list_any (has_id id) old ≡ false = subst (λ i. list_any (has_id i) old ≡ false) same new in
+    let here : has_id id a ≡ true = (id_decides id a.metadata.id).1 (sym same) in
+    ap Some (plus-zero (length old)) ∙ sym (first-last (has_id id) 0 old a none here)
+table-step old a id o false is at new = at ∙ sym (first-other (has_id id) 0 old a (id-back a.metadata.id id is))
+
+pub table-more : (old : List Advisory) (a : Advisory) (id : IdValue) (m n : BTreeMap IdValue ℕ) (place : ℕ) → id ≡ a.metadata.id → place ≡ length old
+    → Updates id_order m n id (Some place) → is_known old a ≡ false → IsTableOf old m → IsTableOf (old ++ a ∷ []) n
+table-more old a id m n place same at updates new table q =
+    updates.0 q ∙ ((λ i. cond (sym (id_ties (same i) q) i) (Some (at i)) (tree.get id_order m q))
+    ∙ table-step old a q (tree.get id_order m q) (id_eq a.metadata.id q) refl (table q) new)
+
+pub empty-table : (m : BTreeMap IdValue ℕ) → m.entries ≡ [] → IsTableOf [] m
+empty-table m e q = rw e refl
+
+-- ---- the index of a collection
+
+both : (a b : Bool) → a ≡ true → b ≡ true → (a && b) ≡ true
+both true b h k = k
+both false b h k = absurd (cc h)
+
+second-fails : (a b : Bool) → b ≡ false → (a && b) ≡ false
+second-fails true b h = h
+second-fails false b h = refl
+
+first-fails : (a b : Bool) → a ≡ false → (a && b) ≡ false
+first-fails a b h = rw h refl
+
+name-back : (a b : List ℕ) → pointwise nat_eq a b ≡ false → pointwise nat_eq b a ≡ false
+name-back a b h = is-false (pointwise nat_eq b a) (λ t. cc (sym h ∙ (bytes_decides a b).1 (sym ((bytes_decides b a).0 t))))
+
+index-step : (c : Collection) (before : List Advisory) (a : Advisory) (slot : ℕ) (old : List (List ℕ × List ℕ)) (name : List ℕ) (b : Bool)
+    → pointwise nat_eq a.metadata.«package» name ≡ b → option_eq (sameb collection) (Some c) a.metadata.collection ≡ true
+    → slot ≡ length before → IsIndexOf c before old
+    → cond b (with_slot slot (slots_at a.metadata.«package» old)) (slots_at name old) ≡ places_from (is_under c name) 0 (before ++ a ∷ [])
+index-step c before a slot old name true is under at index =
+    let same : a.metadata.«package» ≡ name = (bytes_decides a.metadata.«package» name).0 is in
+    let here : is_under c name a ≡ true = both _ _ under ((bytes_decides name a.metadata.«package»).1 (sym same)) in
+    let places = places_from (is_under c name) 0 before in
+    let slots : slots_at a.metadata.«package» old ≡ places = ap (λ n. slots_at n old) same ∙ index name in
+    (λ i. with_slot (at i) (slots i))
+    ∙ (with_slot-last places (length before) (places-below (is_under c name) 0 (length before) before (sym (plus-zero (length before))))
+    ∙ (ap (λ (n : ℕ). places ++ n ∷ []) (plus-zero (length before)) ∙ sym (places-in (is_under c name) 0 before a here)))
+index-step c before a slot old name false is under at index =
+    index name ∙ sym (places-out (is_under c name) 0 before a (second-fails _ _ (name-back a.metadata.«package» name is)))
+
+pub indexed-in : (c : Collection) (before : List Advisory) (a : Advisory) (slot : ℕ) (old new : List (List ℕ × List ℕ))
+    → option_eq (sameb collection) (Some c) a.metadata.collection ≡ true
+    → ((name : List ℕ) → slots_at name new ≡ cond (pointwise nat_eq a.metadata.«package» name) (with_slot slot (slots_at a.metadata.«package» old)) (slots_at name old))
+    → slot ≡ length before → IsIndexOf c before old → IsIndexOf c (before ++ a ∷ []) new
+indexed-in c before a slot old new under put at index name =
+    put name ∙ index-step c before a slot old name (pointwise nat_eq a.metadata.«package» name) refl under at index
+
+pub indexed-out : (c : Collection) (before : List Advisory) (a : Advisory) (old : List (List ℕ × List ℕ))
+    → option_eq (sameb collection) (Some c) a.metadata.collection ≡ false → IsIndexOf c before old → IsIndexOf c (before ++ a ∷ []) old
+indexed-out c before a old under index name =
+    index name ∙ sym (places-out (is_under c name) 0 before a (first-fails _ _ under))
+
+pub empty-index : (c : Collection) (index : List (List ℕ × List ℕ)) → index ≡ [] → IsIndexOf c [] index
+empty-index c index e name = rw e refl
+
+-- ---- queries
+
+-- the first two of the ten tests
+first-two : (q : Asked) (a : Advisory) → selects q a ≡ true → (in_collection q a && has_name q a) ≡ true
+unfolding selects
+first-two q a h =
+    first_so _ (has_version q a) (first_so _ (has_source q a) (first_so _ (is_severe q a) (first_so _ (on_arch q a) (first_so _ (on_os q a)
+    (first_so _ (of_year q a) (first_so _ (as_withdrawn q a) (first_so _ (as_informational q a) h)))))))
+
+-- what a query selects is of the collection and the package that it asks for
+selected-under : (q : Asked) (c : Collection) (name : List ℕ) (a : Advisory) → Some c ≡ q.collection → Some name ≡ q.package_name
+    → selects q a ≡ true → is_under c name a ≡ true
+selected-under q c name a of named h =
+    let two = first-two q a h in
+    both _ _
+    (subst (λ o. if_there (λ c. option_eq (sameb collection) (Some c) a.metadata.collection) o ≡ true) (sym of) (first_so (in_collection q a) (has_name q a) two))
+    (subst (λ o. if_there (λ n. pointwise nat_eq n a.metadata.«package») o ≡ true) (sym named) (second_so (in_collection q a) (has_name q a) two))
+
+-- so the index's places are enough
+pub by-index : (q : Asked) (c : Collection) (name : List ℕ) (advisories : List Advisory) (slots : List ℕ) → Some c ≡ q.collection
+    → Some name ≡ q.package_name → slots ≡ places_from (is_under c name) 0 advisories
+    → filter (selects q) (at_places slots advisories) ≡ filter (selects q) advisories
+by-index q c name advisories slots of named are =
+    ap (λ ps. filter (selects q) (at_places ps advisories)) are
+    ∙ (ap (filter (selects q)) (taken (is_under c name) advisories)
+    ∙ narrow (is_under c name) (selects q) (λ a h. selected-under q c name a of named h) advisories)

@@ -1,0 +1,74 @@
+-- Where the file of an advisory stands: the checks of its path, and the advisory that it is filed as.
+use Rattle.std.specs.Prelude.{◌≡◌, ◌⊎◌, ◌||◌, ℕ, Bool, true, List, Option, Some, None, Result, Ok, Err, if◌then◌else◌, option_and_then}
+use Rattle.std.specs.Str.{bytes_eq}
+use denote.Enum.Bare.{sameb}
+use Rattle.rustsec_files.specs.Paths.{folder, folder_parent, is_draft, is_markdown, is_markdown_file_of, passes}
+use Rattle.rustsec_texts.specs.Collections.{collection_of}
+use Rattle.rustsec_texts.specs.contracts.collection.Collection.{the_type as collection}
+use Rattle.rustsec_texts.specs.declared.collection.Collection.{Collection}
+use Rattle.rustsec_versions.specs.declared.error.ErrorKind.{ErrorKind}
+use Rattle.rustsec_versions.specs.declared.error.ErrorKind.TheVariants as kind
+use Rattle.rustsec_advisory.specs.Advisory.{IsAdvisory}
+use Rattle.rustsec_advisory.specs.declared.advisory.Advisory.{Advisory}
+use Rattle.rustsec_database.specs.declared.filing.Misfit.{Misfit}
+use Rattle.rustsec_database.specs.declared.filing.Misfit.TheVariants as misfit
+
+-- the kind of the refusal where a check fails
+abbrev pub kind_of : Misfit → ErrorKind
+kind_of misfit.Extension = kind.Repo
+kind_of misfit.FileName = kind.Repo
+kind_of misfit.Folder = kind.Repo
+kind_of misfit.Parent = kind.Repo
+kind_of misfit.Collection = kind.Parse
+
+-- what further checks give, where this one holds
+abbrev pub checked : {A : Type 0} → Bool → Misfit → Result A Misfit → Result A Misfit
+checked test failed further = if test then further else Err failed
+
+-- the file is named after the ID, or it is a draft's
+abbrev pub is_named : List ℕ → List ℕ → Bool
+is_named path id = is_markdown_file_of id path || is_draft path
+
+-- it stands in a folder of this name
+abbrev pub is_in_folder : List ℕ → List ℕ → Bool
+is_in_folder path name = passes (bytes_eq name) (folder path)
+
+-- the collection that the folder's parent is
+abbrev pub collection_at : List ℕ → Option Collection
+collection_at path = option_and_then collection_of (folder_parent path)
+
+-- a collection that the advisory names, if it names one, is this one
+abbrev pub agrees : Option Collection → Collection → Bool
+agrees None c = true
+agrees (Some named) c = sameb collection named c
+
+-- the folder's collection, where there is one with which the advisory agrees
+abbrev pub agreed : Option Collection → Option Collection → Result Collection Misfit
+agreed named None = Err misfit.Parent
+agreed named (Some c) = checked (agrees named c) misfit.Collection (Ok c)
+
+-- the collection in which the file of an advisory stands, or the first check of its path that fails
+abbrev pub path_verdict : List ℕ → Advisory → Result Collection Misfit
+path_verdict path a =
+    checked (is_markdown path) misfit.Extension
+    (checked (is_named path a.metadata.id.text) misfit.FileName
+    (checked (is_in_folder path a.metadata.«package») misfit.Folder
+    (agreed a.metadata.collection (collection_at path))))
+
+-- an advisory in a collection
+abbrev pub in_collection : Collection → Advisory → Advisory
+in_collection c a = record a { metadata = record a.metadata { collection = Some c } }
+
+-- the file with this path and this text is filed as this advisory: as the text's, in its folder's collection
+pub record IsFiled (path text : List ℕ) (a : Advisory) : Type 0 where
+  pub written : Advisory
+  pub is_advisory : IsAdvisory text written
+  pub collection : Collection
+  pub verdict : path_verdict path written ≡ Ok collection
+  pub is : a ≡ in_collection collection written
+
+-- the text is no advisory, or its path fails a check; the kind is that of the first failure
+abbrev pub IsMisfiled : List ℕ → List ℕ → ErrorKind → Type 0
+IsMisfiled path text k =
+    ((k ≡ kind.Parse) × ((a : Advisory) → ¬ IsAdvisory text a))
+    ⊎ ((a : Advisory) × (m : Misfit) × (IsAdvisory text a × ((path_verdict path a ≡ Err m) × (k ≡ kind_of m))))

@@ -1,0 +1,6 @@
+pub mod Slots
+pub mod Indexes
+pub mod Filing
+pub mod Loaded
+pub mod Opened
+pub mod Places

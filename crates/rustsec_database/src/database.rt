@@ -1,0 +1,364 @@
+// The database.
+
+ghost use Rattle.std.specs.Prelude.{◌≡◌, ◌++◌, ◌∷◌, ◌⊎◌, ◌<◌, ◌^◌, [], ℕ, Bool, IfErr, IfOk, List, OnErr, OnOk, Option, Some, length, map};
+ghost use Rattle.std.specs.Iterator.Adapters.{IterYieldsInOrder};
+ghost use Rattle.std.specs.List.{filter, find};
+ghost use Rattle.std.specs.Option.{option_copied};
+ghost use Rattle.std.specs.Slice.Iter.{iter_rest};
+ghost use Rattle.rustsec_versions.specs.Failure.{IsMemory};
+ghost use Rattle.rustsec_advisory.specs.declared.advisory.Advisory as given;
+ghost use Rattle.rustsec_query.specs.Pairs.{as_vulnerability, is_audited, pairs, pairs_of, vulnerability_of};
+ghost use Rattle.rustsec_query.specs.Query.{crate_scope, of_package};
+ghost use Rattle.rustsec_query.specs.Selects.{selects};
+ghost use Rattle.rustsec_database.specs.Loaded.{AreLoaded, IsAdded, IsFault, IsFirstFault, has_id};
+ghost use Rattle.rustsec_database.specs.Places.{IsIndexOf, at_places, is_under, places_from};
+
+use crate::entries::Entries;
+use crate::index::Index;
+use crate::slot::Slot;
+use rustsec_advisory::Advisory;
+use rustsec_folders::SourceFile;
+use rustsec_lock::Lockfile;
+use rustsec_lock::package::{Name, Package};
+use rustsec_query::{Query, Vulnerability};
+use rustsec_texts::{Collection, Id};
+use rustsec_values::Items;
+use rustsec_versions::Result;
+use std::alloc::{AllocError, Global};
+use std::marker::Model;
+use std::{slice, vec};
+
+/// The advisories of a database, in the order in which they were loaded.
+pub type Iter<'a> = slice::Iter<'a, Advisory>;
+
+/// The advisories of a database, with what finds them by ID and by package.
+#[derive(Drop)]
+pub struct Database {
+    entries: Entries,
+    crates: Index,
+    rust: Index,
+}
+
+impl Model for Database {
+    ghost use Rattle.std.specs.Prelude.{List};
+    ghost use Rattle.rustsec_advisory.specs.declared.advisory.Advisory as given;
+    ghost use Rattle.rustsec_texts.specs.declared.collection.Collection.TheVariants as collection;
+    ghost use Rattle.rustsec_database.specs.Places.{IsIndexOf};
+
+    ghost Value = { List given.Advisory };
+
+    ghost view = { λ d. d.entries };
+
+    ghost invariant = { λ d. IsIndexOf collection.Crates d.entries d.crates × IsIndexOf collection.Rust d.entries d.rust };
+}
+
+/// Puts the slot of an advisory into the index of a collection, if the advisory is of the collection.
+fn index_in(
+    alloc: Global,
+    index: &mut Index,
+    collection: Collection,
+    advisory: &Advisory,
+    slot: Slot,
+) -> Result<()>
+    ensures ok { OnOk result ((before : List given.Advisory) → slot ≡ length before → IsIndexOf collection before index.old
+        → IsIndexOf collection (before ++ advisory.now ∷ []) index.new) }
+    ensures err { IfErr result IsMemory }
+{
+    if Some(collection) == advisory.metadata.collection {
+        let _fresh = index.insert(alloc, &advisory.metadata.package, slot)?;
+    }
+    Ok(())
+}
+
+/// Puts the advisory in a slot into the index of its collection.
+fn index_both(
+    alloc: Global,
+    entries: &Entries,
+    slot: Slot,
+    crates: &mut Index,
+    rust: &mut Index,
+) -> Result<()>
+    ensures ok { OnOk result ((before : List given.Advisory) (a : given.Advisory) → slot ≡ length before → entries.now ≡ before ++ a ∷ []
+        → (IsIndexOf Collection.Crates before crates.old → IsIndexOf Collection.Crates entries.now crates.new)
+        × (IsIndexOf Collection.Rust before rust.old → IsIndexOf Collection.Rust entries.now rust.new)) }
+    ensures err { IfErr result IsMemory }
+{
+    if let Some(advisory) = entries.get(slot) {
+        index_in(alloc, crates, Collection::Crates, advisory, slot)?;
+        index_in(alloc, rust, Collection::Rust, advisory, slot)?;
+    }
+    Ok(())
+}
+
+/// Loads one file.
+fn load_one(
+    alloc: Global,
+    file: &SourceFile,
+    entries: &mut Entries,
+    crates: &mut Index,
+    rust: &mut Index,
+) -> Result<()>
+    ensures added { OnOk result ((place : Option ℕ) × IsAdded entries.old file.now.path file.now.text place entries.new) }
+    ensures indexed { OnOk result (
+        (IsIndexOf Collection.Crates entries.old crates.old → IsIndexOf Collection.Crates entries.new crates.new)
+        × (IsIndexOf Collection.Rust entries.old rust.old → IsIndexOf Collection.Rust entries.new rust.new)) }
+    ensures err { IfErr result (IsFault entries.old file.now.path file.now.text) }
+{
+    let added = entries.load_text(alloc, file.path.as_str(), file.text.as_str())?;
+    match added {
+        Some(slot) => {
+            index_both(alloc, entries, slot, crates, rust)?;
+            Ok(())
+        }
+        None => Ok(()),
+    }
+}
+
+/// The advisories in some slots that match a query.
+fn matching<'a>(
+    alloc: Global,
+    entries: &'a Entries,
+    slots: &[Slot],
+    query: &Query,
+) -> std::result::Result<Vec<&'a Advisory>, AllocError>
+    ensures { IfOk result (λ v. map (λ a. a.now) v.items ≡ filter (selects query.now) (at_places slots.now entries.now)) }
+{
+    let mut found = Vec::new(alloc);
+    for slot in slots {
+        if let Some(advisory) = entries.get(*slot) {
+            if query.matches(advisory) {
+                found.push(advisory)?;
+            }
+        }
+    }
+    Ok(found)
+}
+
+/// The advisories that match a query.
+fn all_matching<'a>(
+    alloc: Global,
+    entries: &'a Entries,
+    query: &Query,
+) -> std::result::Result<Vec<&'a Advisory>, AllocError>
+    ensures { IfOk result (λ v. map (λ a. a.now) v.items ≡ filter (selects query.now) entries.now) }
+{
+    let mut found = Vec::new(alloc);
+    for advisory in entries.as_slice() {
+        if query.matches(advisory) {
+            found.push(advisory)?;
+        }
+    }
+    Ok(found)
+}
+
+/// A package with each of some advisories, as vulnerabilities behind others.
+fn add_vulnerabilities(
+    alloc: Global,
+    vulnerabilities: &mut Items<Vulnerability>,
+    package: &Package,
+    advisories: &[&Advisory],
+) -> Result<()>
+    ensures ok { OnOk result (vulnerabilities.new
+        ≡ vulnerabilities.old ++ map (λ a. vulnerability_of a.now «package».now) advisories.now) }
+    ensures err { IfErr result IsMemory }
+{
+    for advisory in advisories {
+        let vulnerability = Vulnerability::new(alloc, advisory, package)?;
+        vulnerabilities.push(vulnerability)?;
+    }
+    Ok(())
+}
+
+/// Whether a package is audited: whether its source is the default registry.
+fn is_audited(package: &Package) -> bool
+    ensures { result ≡ is_audited «package».now }
+{
+    match &package.source {
+        Some(source) => source.is_default_registry(),
+        None => false,
+    }
+}
+
+impl Database {
+    /// The database of some files. Advisories whose ID is the placeholder are left out.
+    ///
+    /// # Errors
+    ///
+    /// The refusal of the first file that `Entries::load_text` refuses behind those before it; else
+    /// `OutOfMemory`.
+    pub fn load(alloc: Global, files: &[SourceFile]) -> Result<Database>
+        ensures ok { IfOk result (AreLoaded files.now) }
+        ensures err { IfErr result (λ e. IsFirstFault files.now e ⊎ IsMemory e) }
+    {
+        let mut entries = Entries::new(alloc);
+        let mut crates = Index::new(alloc);
+        let mut rust = Index::new(alloc);
+        for file in files {
+            load_one(alloc, file, &mut entries, &mut crates, &mut rust)?;
+        }
+        Ok(Database {
+            entries,
+            crates,
+            rust,
+        })
+    }
+
+    /// The advisory with an ID.
+    pub fn get(&self, id: &Id) -> Option<&Advisory>
+        ensures { option_copied result ≡ find (has_id id.now) self.now }
+    {
+        self.entries.find_by_id(id)
+    }
+
+    /// The advisories, in the order in which they were loaded.
+    pub fn iter(&self) -> Iter<'_>
+        ensures rest { iter_rest result ≡ self.now }
+        ensures bound { length (iter_rest result) < 2 ^ 64 }
+        ensures runs { IterYieldsInOrder Advisory }
+    {
+        self.entries.iter()
+    }
+
+    /// The slots of a package's advisories in a collection.
+    fn slots(&self, collection: Collection, name: &Name) -> &[Slot]
+        ensures { result.now ≡ places_from (is_under collection name.now) 0 self.now }
+    {
+        let slots = match collection {
+            Collection::Crates => self.crates.get(name),
+            Collection::Rust => self.rust.get(name),
+        };
+        match slots {
+            Some(slots) => slots,
+            None => &[],
+        }
+    }
+
+    /// The advisories that match a query for a collection and a name, by the index.
+    fn indexed(
+        &self,
+        alloc: Global,
+        collection: Collection,
+        name: &Name,
+        query: &Query,
+    ) -> std::result::Result<Vec<&Advisory>, AllocError>
+        requires collection { Some collection ≡ query.now.collection }
+        requires name { Some name.now ≡ query.now.package_name }
+        ensures { IfOk result (λ v. map (λ a. a.now) v.items ≡ filter (selects query.now) self.now) }
+    {
+        matching(alloc, &self.entries, self.slots(collection, name), query)
+    }
+
+    /// The advisories that match a query, in the order in which they were loaded. If the query asks for
+    /// a collection and a name, only the package's advisories are looked at.
+    ///
+    /// # Errors
+    ///
+    /// `OutOfMemory` alone.
+    pub fn query(&self, alloc: Global, query: &Query) -> Result<Vec<&Advisory>>
+        ensures ok { IfOk result (λ v. map (λ a. a.now) v.items ≡ filter (selects query.now) self.now) }
+        ensures err { IfErr result IsMemory }
+    {
+        if let Some(collection) = query.asked_collection() {
+            if let Some(name) = query.asked_name() {
+                let found = self.indexed(alloc, collection, name, query)?;
+                return Ok(found);
+            }
+        }
+        let found = all_matching(alloc, &self.entries, query)?;
+        Ok(found)
+    }
+
+    /// Puts what a query finds of one package behind other vulnerabilities.
+    fn query_package(
+        &self,
+        alloc: Global,
+        query: &Query,
+        package: &Package,
+        vulnerabilities: &mut Items<Vulnerability>,
+    ) -> Result<()>
+        ensures ok { OnOk result (vulnerabilities.new
+            ≡ vulnerabilities.old ++ map as_vulnerability (pairs_of self.now query.now «package».now)) }
+        ensures err { IfErr result IsMemory }
+    {
+        if !is_audited(package) {
+            return Ok(());
+        }
+        let query = query.clone(alloc)?.package(alloc, package)?;
+        let found = self.query(alloc, &query)?;
+        add_vulnerabilities(alloc, vulnerabilities, package, found.as_slice())
+    }
+
+    /// What a query finds of some packages.
+    fn query_packages(
+        &self,
+        alloc: Global,
+        packages: &[Package],
+        query: &Query,
+    ) -> Result<Items<Vulnerability>>
+        ensures ok { IfOk result (λ v. v ≡ map as_vulnerability (pairs self.now packages.now query.now)) }
+        ensures err { IfErr result IsMemory }
+    {
+        let mut vulnerabilities = Items::new(alloc);
+        for package in packages {
+            self.query_package(alloc, query, package, &mut vulnerabilities)?;
+        }
+        Ok(vulnerabilities)
+    }
+
+    /// The packages of a lockfile, each with each advisory that a query finds for it: by package in the
+    /// lockfile's order, then by advisory in the order in which they were loaded. A package is looked at
+    /// only if its source is the default registry; it is found by its name, version and source.
+    ///
+    /// # Errors
+    ///
+    /// `OutOfMemory` alone.
+    pub fn query_vulnerabilities(
+        &self,
+        alloc: Global,
+        lockfile: &Lockfile,
+        query: &Query,
+    ) -> Result<Vec<Vulnerability>>
+        ensures ok { IfOk result (λ v. v.items ≡ map as_vulnerability (pairs self.now lockfile.now.packages query.now)) }
+        ensures err { IfErr result IsMemory }
+    {
+        let found = self.query_packages(alloc, lockfile.packages.as_slice(), query)?;
+        Ok(Vec::from(found))
+    }
+
+    /// The vulnerabilities of a lockfile: what `query_vulnerabilities` finds for `Query::crate_scope`.
+    ///
+    /// # Errors
+    ///
+    /// `OutOfMemory` alone.
+    pub fn vulnerabilities(&self, alloc: Global, lockfile: &Lockfile) -> Result<Vec<Vulnerability>>
+        ensures ok { IfOk result (λ v. v.items ≡ map as_vulnerability (pairs self.now lockfile.now.packages crate_scope)) }
+        ensures err { IfErr result IsMemory }
+    {
+        self.query_vulnerabilities(alloc, lockfile, &Query::crate_scope(alloc))
+    }
+}
+
+impl IntoIterator for Database {
+    type Item = Advisory;
+
+    type IntoIter = vec::IntoIter<Advisory>;
+
+    ghost use Rattle.std.specs.Prelude.{◌≡◌, ◌^◌, ◌<◌, ℕ};
+    ghost use Rattle.std.specs.Global.{Global};
+    ghost use Rattle.std.specs.Iterator.Runs.{EveryRun, ItemsAre};
+    ghost use Rattle.rustsec_advisory.specs.declared.advisory.Advisory as given;
+    ghost use Rattle.std.specs.Vec.Iter.{into_iter_items, into_iter_len, into_iter_steps};
+
+    ghost into_iter_gives = { λ d it. (into_iter_items it ≡ d) × (into_iter_len it < 2 ^ 64)
+        × EveryRun (into_iter_steps {X = given.Advisory} {Z = Global}) (λ p. ItemsAre p (into_iter_items p.from)) };
+
+    /// The advisories by value, in the order in which they were loaded.
+    fn into_iter(self) -> vec::IntoIter<Advisory> {
+        let Database {
+            entries,
+            crates: _,
+            rust: _,
+        } = self;
+        entries.into_iter()
+    }
+}

@@ -1,0 +1,191 @@
+// The stored advisories.
+
+ghost use Rattle.std.specs.Prelude.{◌≡◌, ◌++◌, ◌∷◌, ◌⊎◌, ◌<◌, ◌^◌, [], false, ℕ, IfErr, IfOk, List, OnErr, OnOk, length, slice_get};
+ghost use Rattle.std.specs.Iterator.Adapters.{IterYieldsInOrder};
+ghost use Rattle.std.specs.List.{find};
+ghost use Rattle.std.specs.Option.{option_copied};
+ghost use Rattle.std.specs.Slice.Iter.{iter_rest};
+ghost use Rattle.rustsec_files.specs.ReadFailures.{IsReadFailure};
+ghost use Rattle.rustsec_versions.specs.Failure.{IsMemory, IsOfKind};
+ghost use Rattle.rustsec_database.specs.Filing.{IsFiled};
+ghost use Rattle.rustsec_database.specs.Loaded.{IsAdded, IsAtFault, IsFault, has_id, is_known};
+
+use crate::filing::filed;
+use crate::slot::Slot;
+use rustsec_advisory::Advisory;
+use rustsec_files::reading::text_of_file;
+use rustsec_texts::Id;
+use rustsec_versions::{Error, ErrorKind, Result, refused_file};
+use std::alloc::{AllocError, Global};
+use std::collections::BTreeMap;
+use std::marker::Model;
+use std::rt::Files;
+use std::{slice, vec};
+
+/// The stored advisories, in the order in which they were loaded. No ID stands twice.
+#[derive(Drop)]
+pub struct Entries {
+    advisories: Vec<Advisory>,
+    slots: BTreeMap<Id, Slot>,
+}
+
+impl Model for Entries {
+    ghost use Rattle.std.specs.Prelude.{List};
+    ghost use Rattle.rustsec_advisory.specs.declared.advisory.Advisory as given;
+    ghost use Rattle.rustsec_database.specs.Places.{IsTableOf};
+
+    ghost Value = { List given.Advisory };
+
+    ghost view = { λ e. e.advisories.items };
+
+    ghost invariant = { λ e. IsTableOf e.advisories.items e.slots };
+}
+
+/// The refusal of a file whose ID is that of a stored advisory.
+fn duplicate(alloc: Global, id: &Id) -> Error
+    ensures { IsOfKind ErrorKind.Parse result }
+{
+    match format!(in alloc; "the ID `{id}` stands in an earlier file, expected a new one") {
+        Ok(message) => Error::new(alloc, ErrorKind::Parse, &message),
+        Err(refused) => Error::from(refused),
+    }
+}
+
+impl Entries {
+    /// No advisory, which takes no memory.
+    pub fn new(alloc: Global) -> Entries
+        ensures { result ≡ [] }
+    {
+        Entries {
+            advisories: Vec::new(alloc),
+            slots: BTreeMap::new(alloc),
+        }
+    }
+
+    /// Stores an advisory behind the others, or changes nothing. All memory is taken before the first
+    /// change.
+    fn store(&mut self, advisory: Advisory) -> std::result::Result<Slot, AllocError>
+        requires { is_known self.old advisory ≡ false }
+        ensures ok { OnOk result (self.new ≡ self.old ++ advisory ∷ []) }
+        ensures slot { IfOk result (λ slot. slot ≡ length self.old) }
+        ensures err { OnErr result (self.new ≡ self.old) }
+    {
+        let id = Clone::clone(&advisory.metadata.id)?;
+        let slot = Slot::new(self.advisories.as_slice().len());
+        self.advisories.reserve(1)?;
+        self.slots.insert(id, slot)?;
+        self.advisories.push(advisory)?;
+        Ok(slot)
+    }
+
+    /// Stores the advisory of a file, unless its ID is the placeholder.
+    fn add(&mut self, alloc: Global, path: &str, text: &str) -> Result<Option<Slot>>
+        ensures ok { IfOk result (λ slot. IsAdded self.old path.now text.now slot self.new) }
+        ensures kept { OnErr result (self.new ≡ self.old) }
+        ensures err { IfErr result (λ e. IsAtFault self.old path.now text.now e.kind ⊎ IsMemory e) }
+    {
+        let advisory = filed(alloc, path, text)?;
+        if advisory.metadata.id.is_placeholder() {
+            return Ok(None);
+        }
+        if self.find_by_id(&advisory.metadata.id).is_some() {
+            return Err(duplicate(alloc, &advisory.metadata.id));
+        }
+        let slot = self.store(advisory)?;
+        Ok(Some(slot))
+    }
+
+    /// Loads the advisory of a file with this path and this text, and stores it unless its ID is the
+    /// placeholder. It answers the slot of the advisory, or nothing for a placeholder. The stored
+    /// advisory has the collection of its folder.
+    ///
+    /// # Errors
+    ///
+    /// `Parse` if the text is no advisory; then `Repo` if the extension of the path is not `md`, the
+    /// file is neither named `ID.md` nor a draft's, the folder is not named after the package, or its
+    /// parent is neither `crates` nor `rust`; then `Parse` if the text names another collection than
+    /// the parent, or the ID is that of a stored advisory; else `OutOfMemory`. Nothing is changed then.
+    /// The message names the path, the cause says why.
+    pub fn load_text(&mut self, alloc: Global, path: &str, text: &str) -> Result<Option<Slot>>
+        ensures ok { IfOk result (λ slot. IsAdded self.old path.now text.now slot self.new) }
+        ensures kept { OnErr result (self.new ≡ self.old) }
+        ensures err { IfErr result (IsFault self.old path.now text.now) }
+    {
+        match self.add(alloc, path, text) {
+            Ok(slot) => Ok(slot),
+            Err(e) => Err(refused_file(alloc, path, &e)),
+        }
+    }
+
+    /// Loads the advisory of a file.
+    ///
+    /// # Errors
+    ///
+    /// `Io` if the file cannot be read or is no UTF-8; then as `load_text`.
+    pub fn load_file<R: Files>(&mut self, rt: &R, alloc: Global, path: &str) -> Result<Option<Slot>>
+        ensures ok { IfOk result (λ slot. (text : List ℕ) × IsAdded self.old path.now text slot self.new) }
+        ensures kept { OnErr result (self.new ≡ self.old) }
+        ensures err { IfErr result (λ e. (IsOfKind ErrorKind.Io e × IsReadFailure path.now e)
+            ⊎ ((text : List ℕ) × IsFault self.old path.now text e)) }
+    {
+        let text = text_of_file(rt, alloc, path)?;
+        self.load_text(alloc, path, &text)
+    }
+
+    /// The stored advisory with an ID.
+    pub fn find_by_id(&self, id: &Id) -> Option<&Advisory>
+        ensures { option_copied result ≡ find (has_id id.now) self.now }
+    {
+        match self.slots.get(id) {
+            Some(slot) => self.get(*slot),
+            None => None,
+        }
+    }
+
+    /// The advisory in a slot, if there are so many.
+    pub fn get(&self, slot: Slot) -> Option<&Advisory>
+        ensures { option_copied result ≡ slice_get self.now slot }
+    {
+        self.advisories.get(slot.place())
+    }
+
+    /// The stored advisories as a slice.
+    pub(crate) fn as_slice(&self) -> &[Advisory]
+        ensures { result.now ≡ self.now }
+    {
+        self.advisories.as_slice()
+    }
+
+    /// The stored advisories, in the order in which they were loaded.
+    pub fn iter(&self) -> slice::Iter<'_, Advisory>
+        ensures rest { iter_rest result ≡ self.now }
+        ensures bound { length (iter_rest result) < 2 ^ 64 }
+        ensures runs { IterYieldsInOrder Advisory }
+    {
+        self.advisories.as_slice().iter()
+    }
+}
+
+impl IntoIterator for Entries {
+    type Item = Advisory;
+
+    type IntoIter = vec::IntoIter<Advisory>;
+
+    ghost use Rattle.std.specs.Prelude.{◌≡◌, ◌^◌, ◌<◌, ℕ};
+    ghost use Rattle.std.specs.Global.{Global};
+    ghost use Rattle.std.specs.Iterator.Runs.{EveryRun, ItemsAre};
+    ghost use Rattle.rustsec_advisory.specs.declared.advisory.Advisory as given;
+    ghost use Rattle.std.specs.Vec.Iter.{into_iter_items, into_iter_len, into_iter_steps};
+
+    ghost into_iter_gives = { λ e it. (into_iter_items it ≡ e) × (into_iter_len it < 2 ^ 64)
+        × EveryRun (into_iter_steps {X = given.Advisory} {Z = Global}) (λ p. ItemsAre p (into_iter_items p.from)) };
+
+    /// The stored advisories by value, in the order in which they were loaded.
+    fn into_iter(self) -> vec::IntoIter<Advisory> {
+        let Entries {
+            advisories,
+            slots: _,
+        } = self;
+        advisories.into_iter()
+    }
+}

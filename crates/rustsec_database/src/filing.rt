@@ -1,0 +1,155 @@
+// Where the file of an advisory stands.
+
+ghost use Rattle.std.specs.Prelude.{◌≡◌, ◌⊎◌, IfErr, IfOk};
+ghost use Rattle.rustsec_versions.specs.Failure.{IsMemory, IsOfKind};
+ghost use Rattle.rustsec_database.specs.Filing.{IsFiled, IsMisfiled, agreed, agrees, collection_at, is_in_folder, is_named, kind_of, path_verdict};
+
+use rustsec_advisory::Advisory;
+use rustsec_files::path;
+use rustsec_texts::Collection;
+use rustsec_values::value_named;
+use rustsec_versions::{Error, ErrorKind, Result};
+use std::alloc::{AllocError, Global};
+
+/// A check that the path of an advisory's file fails.
+#[derive(Clone, Copy, Debug)]
+pub enum Misfit {
+    /// The extension is not `md`.
+    Extension,
+    /// The file is not named after the ID, and is no draft.
+    FileName,
+    /// The folder is not named after the package.
+    Folder,
+    /// The folder stands in no collection.
+    Parent,
+    /// The advisory names another collection.
+    Collection,
+}
+
+/// Whether the file is named after an ID, or is a draft.
+fn is_named(path: &str, id: &str) -> bool
+    ensures { result ≡ is_named path.now id.now }
+{
+    path::is_markdown_file_of(path, id) || path::is_draft(path)
+}
+
+/// Whether the file stands in a folder of this name.
+fn is_in_folder(path: &str, name: &str) -> bool
+    ensures { result ≡ is_in_folder path.now name.now }
+{
+    match path::folder(path) {
+        Some(folder) => name == folder,
+        None => false,
+    }
+}
+
+/// The collection that the folder's parent is.
+fn collection_at(path: &str) -> Option<Collection>
+    ensures { result ≡ collection_at path.now }
+{
+    match path::folder_parent(path) {
+        Some(parent) => value_named(parent),
+        None => None,
+    }
+}
+
+/// Whether a collection that an advisory names, if it names one, is this one.
+fn agrees(named: Option<Collection>, collection: Collection) -> bool
+    ensures { result ≡ agrees named collection }
+{
+    match named {
+        Some(named) => named == collection,
+        None => true,
+    }
+}
+
+/// The folder's collection, where there is one with which an advisory agrees.
+fn agreed(
+    named: Option<Collection>,
+    at: Option<Collection>,
+) -> std::result::Result<Collection, Misfit>
+    ensures { result ≡ agreed named at }
+{
+    match at {
+        Some(collection) => {
+            if agrees(named, collection) {
+                Ok(collection)
+            } else {
+                Err(Misfit::Collection)
+            }
+        }
+        None => Err(Misfit::Parent),
+    }
+}
+
+/// The collection in which the file of an advisory stands, or the first check that fails.
+fn verdict(path: &str, advisory: &Advisory) -> std::result::Result<Collection, Misfit>
+    ensures { result ≡ path_verdict path.now advisory.now }
+{
+    if !path::is_markdown(path) {
+        return Err(Misfit::Extension);
+    }
+    if !is_named(path, advisory.metadata.id.as_str()) {
+        return Err(Misfit::FileName);
+    }
+    if !is_in_folder(path, advisory.metadata.package.as_str()) {
+        return Err(Misfit::Folder);
+    }
+    agreed(advisory.metadata.collection, collection_at(path))
+}
+
+/// The kind of the refusal where a check fails.
+fn kind_of(misfit: Misfit) -> ErrorKind
+    ensures { result ≡ kind_of misfit }
+{
+    match misfit {
+        Misfit::Extension | Misfit::FileName | Misfit::Folder | Misfit::Parent => ErrorKind::Repo,
+        Misfit::Collection => ErrorKind::Parse,
+    }
+}
+
+/// What is said where a check fails, of the advisory with this ID and package.
+fn message(
+    alloc: Global,
+    misfit: Misfit,
+    id: &str,
+    package: &str,
+) -> std::result::Result<String, AllocError> {
+    match misfit {
+        Misfit::Extension => format!(in alloc; "another extension, expected `md`"),
+        Misfit::FileName => format!(in alloc; "another file name, expected `{id}.md`"),
+        Misfit::Folder => format!(in alloc; "another folder, expected `{package}`, the package"),
+        Misfit::Parent => {
+            format!(in alloc; "the folder stands in no collection, expected `crates` or `rust`")
+        }
+        Misfit::Collection => {
+            format!(in alloc; "another `collection` in [advisory], expected that of the folder")
+        }
+    }
+}
+
+/// The refusal of a file that fails a check.
+fn misfiled(alloc: Global, misfit: Misfit, advisory: &Advisory) -> Error
+    ensures { IsOfKind (kind_of misfit) result }
+{
+    let id = advisory.metadata.id.as_str();
+    match message(alloc, misfit, id, advisory.metadata.package.as_str()) {
+        Ok(message) => Error::new(alloc, kind_of(misfit), &message),
+        Err(refused) => Error::from(refused),
+    }
+}
+
+/// The advisory of a file's text, in the collection of its folder.
+pub(crate) fn filed(alloc: Global, path: &str, text: &str) -> Result<Advisory>
+    ensures ok { IfOk result (IsFiled path.now text.now) }
+    ensures err { IfErr result (λ e. IsMisfiled path.now text.now e.kind ⊎ IsMemory e) }
+{
+    let mut advisory = Advisory::from_str(alloc, text)?;
+    match verdict(path, &advisory) {
+        Ok(collection) => {
+            advisory.metadata.collection = Some(collection);
+            Ok(advisory)
+        }
+        Err(misfit) => Err(misfiled(alloc, misfit, &advisory)),
+    }
+}

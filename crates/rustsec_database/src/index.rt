@@ -1,0 +1,111 @@
+// Indexes: which slots stand under which name.
+
+ghost use Rattle.std.specs.Prelude.{◌≡◌, ◌∷◌, [], if◌then◌else◌, ℕ, IfErr, IfOk, IfSome, List, OnErr, OnOk, nat_eq, not};
+ghost use Rattle.std.specs.Cmp.Lexicographic.{pointwise};
+ghost use Rattle.std.specs.List.{list_any};
+ghost use Rattle.std.specs.Option.{option_copied};
+ghost use Rattle.rustsec_versions.specs.Failure.{IsMemory};
+ghost use Rattle.rustsec_database.specs.Slots.{Rises, slots_at, where_any, with_slot};
+
+use crate::slot::Slot;
+use rustsec_lock::package::Name;
+use rustsec_versions::Result;
+use std::alloc::{AllocError, Global};
+use std::collections::BTreeMap;
+use std::marker::Model;
+
+/// Which slots stand under which name. Contracts see it as the list of the names with their slots.
+#[derive(Drop)]
+pub struct Index {
+    slots: BTreeMap<Name, Vec<Slot>>,
+}
+
+impl Model for Index {
+    ghost use Rattle.std.specs.Prelude.{ℕ, List};
+    ghost use Rattle.rustsec_database.specs.Indexes.{AllRise, shown};
+
+    ghost Value = { List (List ℕ × List ℕ) };
+
+    ghost view = { λ i. shown i.slots.entries };
+
+    ghost invariant = { λ i. AllRise i.slots };
+}
+
+/// Puts a slot to its place among rising ones, unless it is there. Whether it was put there.
+fn add(slots: &mut Vec<Slot>, slot: Slot) -> std::result::Result<bool, AllocError>
+    requires { Rises slots.old.items }
+    ensures ok { OnOk result (slots.new.items ≡ with_slot slot slots.old.items) }
+    ensures fresh { IfOk result (λ fresh. fresh ≡ not (list_any (nat_eq slot) slots.old.items)) }
+    ensures err { OnErr result (slots.new.items ≡ slots.old.items) }
+{
+    match slots.as_slice().binary_search(&slot) {
+        Ok(_) => Ok(false),
+        Err(place) => {
+            slots.insert(place, slot)?;
+            Ok(true)
+        }
+    }
+}
+
+impl Index {
+    /// The index without a slot, which takes no memory.
+    pub fn new(alloc: Global) -> Index
+        ensures { result ≡ [] }
+    {
+        Index {
+            slots: BTreeMap::new(alloc),
+        }
+    }
+
+    /// Puts the first slot under a name that has none.
+    fn insert_first(
+        &mut self,
+        alloc: Global,
+        key: &Name,
+        slot: Slot,
+    ) -> std::result::Result<(), AllocError>
+        ensures ok { OnOk result ((name : List ℕ) → slots_at name self.new
+            ≡ (if pointwise nat_eq key.now name then slot ∷ [] else slots_at name self.old)) }
+        ensures err { OnErr result (self.new ≡ self.old) }
+    {
+        let slots = vec![in alloc; slot]?;
+        let key = Clone::clone(key)?;
+        self.slots.insert(key, slots)?;
+        Ok(())
+    }
+
+    /// Puts a slot under a name. It answers whether the slot did not stand there before.
+    ///
+    /// # Errors
+    ///
+    /// `OutOfMemory` alone, which leaves the index as it was.
+    pub fn insert(&mut self, alloc: Global, key: &Name, slot: Slot) -> Result<bool>
+        ensures fresh { IfOk result (λ fresh. fresh ≡ not (list_any (nat_eq slot) (slots_at key.now self.old))) }
+        ensures slots { OnOk result ((name : List ℕ) → slots_at name self.new
+            ≡ (if pointwise nat_eq key.now name then with_slot slot (slots_at key.now self.old) else slots_at name self.old)) }
+        ensures kept { OnErr result (self.new ≡ self.old) }
+        ensures err { IfErr result IsMemory }
+    {
+        match self.slots.get_mut(key) {
+            Some(slots) => {
+                let fresh = add(slots, slot)?;
+                Ok(fresh)
+            }
+            None => {
+                self.insert_first(alloc, key, slot)?;
+                Ok(true)
+            }
+        }
+    }
+
+    /// The slots under a name, each once and rising, or nothing if there is none.
+    pub fn get(&self, key: &Name) -> Option<&[Slot]>
+        ensures slots { option_copied result ≡ where_any (slots_at key.now self.now) }
+        ensures rising { IfSome result (λ slots. Rises slots.now) }
+    {
+        match self.slots.get(key) {
+            Some(slots) => Some(slots.as_slice()),
+            None => None,
+        }
+    }
+}

@@ -1,0 +1,15 @@
+//! The advisory database: advisories that were loaded from files, and what is asked of them.
+#![tactic(auto)]
+
+mod database;
+mod entries;
+mod filing;
+mod index;
+mod open;
+mod slot;
+
+pub use crate::database::{Database, Iter};
+pub use crate::entries::Entries;
+pub use crate::index::Index;
+pub use crate::slot::Slot;
+pub use rustsec_folders::SourceFile;

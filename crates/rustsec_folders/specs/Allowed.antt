@@ -1,0 +1,17 @@
+-- Which answers some folders allow.
+use Rattle.std.specs.Prelude.{◌↔◌, ℕ, List, Option, ⊤}
+use Rattle.rustsec_folders.specs.declared.entry.FolderEntry.{FolderEntry}
+
+-- of each path, the answers that are allowed: a folder's entries and a file's text, where None is an I/O error
+pub record Allowed : Type 1 where
+  pub lists : List ℕ → Option (List FolderEntry) → Type 0
+  pub reads : List ℕ → Option (List ℕ) → Type 0
+
+-- every answer
+abbrev pub every_answer : Allowed
+every_answer = record { lists = λ path answer. ⊤; reads = λ path answer. ⊤ }
+
+-- two that allow the same
+pub record AllowSame (a b : Allowed) : Type 0 where
+  pub lists : (path : List ℕ) (answer : Option (List FolderEntry)) → a.lists path answer ↔ b.lists path answer
+  pub reads : (path : List ℕ) (answer : Option (List ℕ)) → a.reads path answer ↔ b.reads path answer

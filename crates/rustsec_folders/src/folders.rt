@@ -1,0 +1,38 @@
+//! Where folders are listed and files are read.
+
+ghost use Rattle.std.specs.Prelude.{IfErr, IfOk, None, Some};
+ghost use Rattle.rustsec_folders.specs.Allowed.{Allowed, AllowSame};
+ghost use Rattle.rustsec_versions.specs.Failure.{IsRefusal};
+
+use crate::entry::FolderEntry;
+use rustsec_values::{Items, Text};
+use rustsec_versions::{ErrorKind, Result};
+use std::alloc::Global;
+
+/// Folders that are listed and files that are read, each by its path.
+pub trait Folders {
+    /// Which answers may be given about each path. No call changes that, though another of them may be
+    /// given at each asking.
+    ghost allowed: { Self → Allowed };
+
+    /// The entries of a folder, in any order.
+    ///
+    /// # Errors
+    ///
+    /// `Io` where the folder cannot be listed; else `OutOfMemory`, which says nothing of the path.
+    fn list(&mut self, alloc: Global, path: &str) -> Result<Items<FolderEntry>>
+        ensures ok { IfOk result (λ entries. (allowed self.old).lists path.now (Some entries)) }
+        ensures err { IfErr result (IsRefusal ErrorKind.Io ((allowed self.old).lists path.now None)) }
+        ensures same { AllowSame (allowed self.old) (allowed self.new) };
+
+    /// The text of a file.
+    ///
+    /// # Errors
+    ///
+    /// `Io` where the file cannot be read or is no UTF-8; else `OutOfMemory`, which says nothing of the
+    /// path.
+    fn read(&mut self, alloc: Global, path: &str) -> Result<Text>
+        ensures ok { IfOk result (λ text. (allowed self.old).reads path.now (Some text)) }
+        ensures err { IfErr result (IsRefusal ErrorKind.Io ((allowed self.old).reads path.now None)) }
+        ensures same { AllowSame (allowed self.old) (allowed self.new) };
+}

@@ -1,0 +1,15 @@
+//! The folders of a database: what stands in them, and the source files under a root, over any folders.
+#![tactic(auto)]
+
+mod entry;
+mod folders;
+mod listing;
+mod names;
+mod real;
+mod source_file;
+
+pub use crate::entry::FolderEntry;
+pub use crate::folders::Folders;
+pub use crate::listing::source_files;
+pub use crate::real::RealFolders;
+pub use crate::source_file::SourceFile;

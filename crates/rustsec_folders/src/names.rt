@@ -1,0 +1,117 @@
+// Which names an answer shows, and in which order.
+
+ghost use Rattle.std.specs.Prelude.{◌≡◌, IfErr, IfOk, None, string_bytes};
+ghost use Rattle.rustsec_folders.specs.Allowed.{AllowSame};
+ghost use Rattle.rustsec_folders.specs.Listed.{ShowsFiles, ShowsFolders};
+ghost use Rattle.rustsec_folders.specs.Names.{AreInOrder, begins_with_dot, names_of, under};
+ghost use Rattle.rustsec_versions.specs.Failure.{IsRefusal};
+
+use crate::entry::FolderEntry;
+use crate::folders::Folders;
+use rustsec_values::{Items, Test, Text};
+use rustsec_versions::{ErrorKind, Result};
+use std::alloc::{AllocError, Global};
+
+/// The path of a name in a folder.
+pub(crate) fn joined(
+    alloc: Global,
+    folder: &str,
+    name: &str,
+) -> std::result::Result<String, AllocError>
+    ensures { IfOk result (λ s. string_bytes s ≡ under folder.now name.now) }
+{
+    format!(in alloc; "{folder}/{name}")
+}
+
+/// Whether a name begins with a dot.
+fn begins_with_dot(name: &str) -> bool
+    ensures { result ≡ begins_with_dot name.now }
+{
+    name.starts_with(".")
+}
+
+/// The test of entries whose names begin with no dot.
+struct Shown;
+
+impl Test<FolderEntry> for Shown {
+    ghost use Rattle.rustsec_folders.specs.Names.{is_shown};
+
+    ghost passes = { λ _ entry. is_shown entry };
+
+    fn passes(&self, entry: &FolderEntry) -> bool {
+        !begins_with_dot(entry.name.as_str())
+    }
+}
+
+/// The test of entries that are folders.
+struct IsFolder;
+
+impl Test<FolderEntry> for IsFolder {
+    ghost use Rattle.rustsec_folders.specs.Names.{is_folder};
+
+    ghost passes = { λ _ entry. is_folder entry };
+
+    fn passes(&self, entry: &FolderEntry) -> bool {
+        entry.folder
+    }
+}
+
+/// The names of entries, in their order.
+fn names_of(
+    alloc: Global,
+    entries: Items<FolderEntry>,
+) -> std::result::Result<Vec<Text>, AllocError>
+    ensures { IfOk result (λ v. v.items ≡ names_of entries) }
+{
+    let mut names = Vec::new(alloc);
+    for entry in Vec::from(entries) {
+        let FolderEntry { name, folder: _ } = entry;
+        names.push(name)?;
+    }
+    Ok(names)
+}
+
+/// The names of entries, in the order of their bytes.
+fn in_order(
+    alloc: Global,
+    entries: Items<FolderEntry>,
+) -> std::result::Result<Vec<Text>, AllocError>
+    ensures { IfOk result (λ v. AreInOrder (names_of entries) v.items) }
+{
+    let mut names = names_of(alloc, entries)?;
+    names.sort()?;
+    Ok(names)
+}
+
+/// The names that a package's folder shows, in order.
+pub(crate) fn names_in<F: Folders>(
+    alloc: Global,
+    folders: &mut F,
+    folder: &str,
+) -> Result<Vec<Text>>
+    ensures ok { IfOk result (λ v. ShowsFiles (F.allowed folders.old) folder.now v.items) }
+    ensures err { IfErr result (IsRefusal ErrorKind.Io ((F.allowed folders.old).lists folder.now None)) }
+    ensures same { AllowSame (F.allowed folders.old) (F.allowed folders.new) }
+{
+    let mut entries = folders.list(alloc, folder)?;
+    entries.retain(&Shown);
+    let names = in_order(alloc, entries)?;
+    Ok(names)
+}
+
+/// The names of the folders that a collection shows, in order.
+pub(crate) fn folders_in<F: Folders>(
+    alloc: Global,
+    folders: &mut F,
+    collection: &str,
+) -> Result<Vec<Text>>
+    ensures ok { IfOk result (λ v. ShowsFolders (F.allowed folders.old) collection.now v.items) }
+    ensures err { IfErr result (IsRefusal ErrorKind.Io ((F.allowed folders.old).lists collection.now None)) }
+    ensures same { AllowSame (F.allowed folders.old) (F.allowed folders.new) }
+{
+    let mut entries = folders.list(alloc, collection)?;
+    entries.retain(&IsFolder);
+    entries.retain(&Shown);
+    let names = in_order(alloc, entries)?;
+    Ok(names)
+}

@@ -1,0 +1,53 @@
+//! Files as pairs of path and text.
+
+ghost use Rattle.std.specs.Prelude.{◌≡◌, IfErr, IfOk};
+ghost use Rattle.rustsec_versions.specs.Failure.{IsMemory};
+
+use rustsec_values::{ExactClone, ExactEq, Text};
+use rustsec_versions::Result;
+use std::alloc::{AllocError, Global};
+
+/// A file of a database: its path and its text.
+#[derive(Debug, Drop, PartialEq, Eq)]
+pub struct SourceFile {
+    /// The path, whose segments name the collection, the package and the file.
+    pub path: Text,
+    /// The whole text.
+    pub text: Text,
+}
+
+impl SourceFile {
+    /// An equal file.
+    ///
+    /// # Errors
+    ///
+    /// `OutOfMemory` alone.
+    pub fn clone(&self, _alloc: Global) -> Result<SourceFile>
+        ensures ok { IfOk result (λ f. f ≡ self.now) }
+        ensures err { IfErr result IsMemory }
+    {
+        let copy = Clone::clone(self)?;
+        Ok(copy)
+    }
+}
+
+impl Clone for SourceFile {
+    ghost is_clone = { λ a b. b ≡ a };
+
+    fn clone(&self) -> std::result::Result<SourceFile, AllocError> {
+        let path = self.path.clone()?;
+        let text = self.text.clone()?;
+        Ok(SourceFile { path, text })
+    }
+}
+
+impl ExactClone for SourceFile {
+    ghost exact = { λ x y e. e };
+}
+
+impl ExactEq for SourceFile {
+    ghost use Rattle.std.proofs.Common.{rules};
+    ghost use Rattle.std.specs.Cmp.Lexicographic.{bytes_decides};
+
+    ghost decides = { λ x y. Prim.search (rules, bytes_decides) };
+}

@@ -1,0 +1,58 @@
+-- What was exported is the document of the definition, and its events are those of its one range.
+use Rattle.std.proofs.Common.{◌≡◌, ◌++◌, ◌⊎◌, ℕ, List, [], Option, Some, Ok, Err, append-nil, sym, subst, inl, inr}
+use Rattle.std.specs.Prelude.{IfErr, IfOk, None, Result}
+use Rattle.rustsec_advisory.specs.declared.advisory.Advisory.{Advisory}
+use Rattle.rustsec_advisory.specs.declared.affected.Affected.{Affected}
+use Rattle.rustsec_advisory.specs.declared.metadata.Metadata.{Metadata}
+use Rattle.rustsec_versions.specs.Failure.{Failure, IsRefusal}
+use Rattle.rustsec_versions.specs.Lists.{Lists}
+use Rattle.rustsec_versions.specs.declared.error.ErrorKind.TheVariants as kind
+use Rattle.rustsec_osv.specs.DocumentEvents.{Event, JsonRange}
+use Rattle.rustsec_osv.specs.Documents.{Document}
+use Rattle.rustsec_osv.specs.Export.{IsDocument, IsRangeOf, IsStarAlone, document_events, document_with}
+use Rattle.rustsec_osv.specs.References.{references_of}
+use Rattle.rustsec_osv.specs.declared.reference.OsvReference.{OsvReference}
+
+three : (es : List Event) → ((es ++ []) ++ []) ++ [] ≡ es
+three es = simp append-nil
+
+pub document-events : (m : Metadata) (a : Option Affected) (modified : List ℕ) (references : List OsvReference) (range : JsonRange)
+    → document_events (document_with m a modified references range) ≡ range.events
+document-events m a modified references range = three range.events
+
+-- an advisory's parts
+abbrev pub AreParts : Advisory → Metadata × Option Affected × Lists → Type 0
+AreParts a parts = parts ≡ (a.metadata, a.affected, a.versions)
+
+-- the document of these parts with this range
+abbrev IsMade : Metadata × Option Affected × Lists → List ℕ → JsonRange → Document → Type 0
+IsMade parts modified range d =
+    (references : List OsvReference) × (references_of parts.0 ≡ Some references) × (d ≡ document_with parts.0 parts.1 modified references range)
+
+one-exported : (a : Advisory) (modified : List ℕ) (range : JsonRange) (d : Document) (parts : Metadata × Option Affected × Lists) → AreParts a parts
+    → IsRangeOf parts.2 range → IsMade parts modified range d → IsDocument a modified d
+one-exported a modified range d parts e =
+    subst (λ (p : Metadata × Option Affected × Lists). IsRangeOf p.2 range → IsMade p modified range d → IsDocument a modified d) (sym e)
+    (λ is_range made. record { range = range; is_range = is_range; references = made.0; are_references = made.1; is = made.2 })
+
+pub exported : (a : Advisory) (modified : List ℕ) (range : JsonRange) (r : Result Document Failure) (parts : Metadata × Option Affected × Lists)
+    → AreParts a parts → IsRangeOf parts.2 range → IfOk r (IsMade parts modified range) → IfOk r (IsDocument a modified)
+exported a modified range (Ok d) parts e is_range made = one-exported a modified range d parts e is_range made
+exported a modified range (Err f) parts e is_range made = tt
+
+-- what a refusal of the export means
+abbrev IsRefusedFor : Lists → Metadata → Failure → Type 0
+IsRefusedFor ls m e =
+    IsRefusal kind.BadParam (IsStarAlone ls) e ⊎ IsRefusal kind.Parse ((¬ IsStarAlone ls) × (references_of m ≡ None)) e
+
+one-refused : (ls : Lists) (m : Metadata) (f : Failure) → ¬ IsStarAlone ls → IsRefusal kind.Parse (references_of m ≡ None) f → IsRefusedFor ls m f
+one-refused ls m f some (inl parse) = inr (inl (parse.0, (some, parse.1)))
+one-refused ls m f some (inr memory) = inr (inr memory)
+
+pub refused : (a : Advisory) (range : JsonRange) (r : Result Document Failure) (parts : Metadata × Option Affected × Lists)
+    → AreParts a parts → IsRangeOf parts.2 range → IfErr r (IsRefusal kind.Parse (references_of parts.0 ≡ None))
+    → IfErr r (IsRefusedFor a.versions a.metadata)
+refused a range (Ok d) parts e is_range h = tt
+refused a range (Err f) parts e is_range h =
+    subst (λ (p : Metadata × Option Affected × Lists). IsRangeOf p.2 range → IsRefusal kind.Parse (references_of p.0 ≡ None) f
+    → IsRefusedFor a.versions a.metadata f) (sym e) (λ is_range h. one-refused a.versions a.metadata f is_range.some h) is_range h

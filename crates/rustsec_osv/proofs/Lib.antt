@@ -1,0 +1,12 @@
+pub mod AffectedAgain
+pub mod Distinct
+pub mod DocumentsAgain
+pub mod EventLists
+pub mod EventsAgain
+pub mod EventsKept
+pub mod Exported
+pub mod LeastVersion
+pub mod Links
+pub mod Parts
+pub mod ReadLists
+pub mod RisingEvents

@@ -1,0 +1,12 @@
+use Rattle.rustsec_osv.proofs.Exported.{exported, refused}
+use Rattle.rustsec_osv.proofs.document.OsvAdvisory.from_rustsec.Goals as goal
+
+pub returns-clause-ok : goal.returns-clause-ok
+returns-clause-ok c =
+    exported c.args.advisory c.args.modified.now c.in_ok-range.range c.document_with.result c.into_parts-metadata.result c.into_parts-metadata.ensures
+    c.in_ok-range.ensures.ok c.document_with.ensures.ok
+
+pub returns-clause-err : goal.returns-clause-err
+returns-clause-err c =
+    refused c.args.advisory c.in_ok-range.range c.document_with.result c.into_parts-metadata.result c.into_parts-metadata.ensures
+    c.in_ok-range.ensures.ok c.document_with.ensures.err

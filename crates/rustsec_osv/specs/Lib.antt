@@ -1,0 +1,13 @@
+pub mod DocumentAgain
+pub mod DocumentEvents
+pub mod DocumentKinds
+pub mod Documents
+pub mod Events
+pub mod Export
+pub mod Imports
+pub mod ReaderAffected
+pub mod ReaderDocument
+pub mod References
+pub mod TreeAffected
+pub mod TreeDocument
+pub mod TreeObjects

@@ -1,0 +1,292 @@
+// Packages that an advisory affects.
+
+ghost use Rattle.std.specs.Prelude.{◌≡◌, IfErr, IfOk};
+ghost use Rattle.rustsec_versions.specs.Failure.{IsMemory};
+
+use crate::ranges::OsvJsonRange;
+use rustsec_lock::Cvss;
+use rustsec_lock::platforms::{Arch, OS};
+use rustsec_texts::{Category, FunctionPath, Informational};
+use rustsec_values::{ExactClone, Items, Text};
+use rustsec_versions::Result;
+use std::alloc::{AllocError, Global};
+
+/// A package.
+pub struct OsvPackage {
+    /// Where the package comes from, as `crates.io`.
+    pub ecosystem: Text,
+    /// Its name there.
+    pub name: Text,
+    /// Its package URL, if there is one.
+    pub purl: Option<Text>,
+}
+
+/// One place drops the fields, so that the end of an owner's life is one step of its proof.
+impl Drop for OsvPackage {
+    fn drop(self) {
+        let OsvPackage {
+            ecosystem: _,
+            name: _,
+            purl: _,
+        } = self;
+    }
+}
+
+impl OsvPackage {
+    /// An equal package.
+    ///
+    /// # Errors
+    ///
+    /// `OutOfMemory` alone.
+    pub fn clone(&self, _alloc: Global) -> Result<OsvPackage>
+        ensures ok { IfOk result (λ x. x ≡ self.now) }
+        ensures err { IfErr result IsMemory }
+    {
+        let copy = Clone::clone(self)?;
+        Ok(copy)
+    }
+}
+
+impl Clone for OsvPackage {
+    ghost is_clone = { λ a b. b ≡ a };
+
+    fn clone(&self) -> std::result::Result<OsvPackage, AllocError> {
+        let ecosystem = Clone::clone(&self.ecosystem)?;
+        let name = Clone::clone(&self.name)?;
+        let purl = Clone::clone(&self.purl)?;
+        Ok(OsvPackage {
+            ecosystem,
+            name,
+            purl,
+        })
+    }
+}
+
+impl ExactClone for OsvPackage {
+    ghost exact = { λ x y e. e };
+}
+
+/// The platforms and functions that are affected.
+pub struct OsvEcosystemSpecificAffected {
+    /// The architectures; none means all.
+    pub arch: Items<Arch>,
+    /// The systems; none means all.
+    pub os: Items<OS>,
+    /// The paths of the affected functions.
+    pub functions: Items<FunctionPath>,
+}
+
+/// One place drops the fields, so that the end of an owner's life is one step of its proof.
+impl Drop for OsvEcosystemSpecificAffected {
+    fn drop(self) {
+        let OsvEcosystemSpecificAffected {
+            arch: _,
+            os: _,
+            functions: _,
+        } = self;
+    }
+}
+
+impl OsvEcosystemSpecificAffected {
+    /// An equal value.
+    ///
+    /// # Errors
+    ///
+    /// `OutOfMemory` alone.
+    pub fn clone(&self, _alloc: Global) -> Result<OsvEcosystemSpecificAffected>
+        ensures ok { IfOk result (λ x. x ≡ self.now) }
+        ensures err { IfErr result IsMemory }
+    {
+        let copy = Clone::clone(self)?;
+        Ok(copy)
+    }
+}
+
+impl Clone for OsvEcosystemSpecificAffected {
+    ghost is_clone = { λ a b. b ≡ a };
+
+    fn clone(&self) -> std::result::Result<OsvEcosystemSpecificAffected, AllocError> {
+        let arch = Clone::clone(&self.arch)?;
+        let os = Clone::clone(&self.os)?;
+        let functions = Clone::clone(&self.functions)?;
+        Ok(OsvEcosystemSpecificAffected {
+            arch,
+            os,
+            functions,
+        })
+    }
+}
+
+impl ExactClone for OsvEcosystemSpecificAffected {
+    ghost exact = { λ x y e. e };
+}
+
+/// What the ecosystem of Rust adds of an affected package.
+pub struct OsvEcosystemSpecific {
+    /// The platforms and functions that are affected.
+    pub affects: Option<OsvEcosystemSpecificAffected>,
+    /// The affected functions, where an older form of documents has them.
+    pub affected_functions: Option<Items<FunctionPath>>,
+}
+
+/// One place drops the fields, so that the end of an owner's life is one step of its proof.
+impl Drop for OsvEcosystemSpecific {
+    fn drop(self) {
+        let OsvEcosystemSpecific {
+            affects: _,
+            affected_functions: _,
+        } = self;
+    }
+}
+
+impl OsvEcosystemSpecific {
+    /// An equal value.
+    ///
+    /// # Errors
+    ///
+    /// `OutOfMemory` alone.
+    pub fn clone(&self, _alloc: Global) -> Result<OsvEcosystemSpecific>
+        ensures ok { IfOk result (λ x. x ≡ self.now) }
+        ensures err { IfErr result IsMemory }
+    {
+        let copy = Clone::clone(self)?;
+        Ok(copy)
+    }
+}
+
+impl Clone for OsvEcosystemSpecific {
+    ghost is_clone = { λ a b. b ≡ a };
+
+    fn clone(&self) -> std::result::Result<OsvEcosystemSpecific, AllocError> {
+        let affects = Clone::clone(&self.affects)?;
+        let affected_functions = Clone::clone(&self.affected_functions)?;
+        Ok(OsvEcosystemSpecific {
+            affects,
+            affected_functions,
+        })
+    }
+}
+
+impl ExactClone for OsvEcosystemSpecific {
+    ghost exact = { λ x y e. e };
+}
+
+/// What the advisory database adds of an affected package.
+pub struct OsvDatabaseSpecific {
+    /// The categories of the advisory.
+    pub categories: Items<Category>,
+    /// The vector of the advisory, if it has one.
+    pub cvss: Option<Cvss>,
+    /// What the advisory informs of, if it is no vulnerability.
+    pub informational: Option<Informational>,
+}
+
+/// One place drops the fields, so that the end of an owner's life is one step of its proof.
+impl Drop for OsvDatabaseSpecific {
+    fn drop(self) {
+        let OsvDatabaseSpecific {
+            categories: _,
+            cvss: _,
+            informational: _,
+        } = self;
+    }
+}
+
+impl OsvDatabaseSpecific {
+    /// An equal value.
+    ///
+    /// # Errors
+    ///
+    /// `OutOfMemory` alone.
+    pub fn clone(&self, _alloc: Global) -> Result<OsvDatabaseSpecific>
+        ensures ok { IfOk result (λ x. x ≡ self.now) }
+        ensures err { IfErr result IsMemory }
+    {
+        let copy = Clone::clone(self)?;
+        Ok(copy)
+    }
+}
+
+impl Clone for OsvDatabaseSpecific {
+    ghost is_clone = { λ a b. b ≡ a };
+
+    fn clone(&self) -> std::result::Result<OsvDatabaseSpecific, AllocError> {
+        let categories = Clone::clone(&self.categories)?;
+        let cvss = Clone::clone(&self.cvss)?;
+        let informational = Clone::clone(&self.informational)?;
+        Ok(OsvDatabaseSpecific {
+            categories,
+            cvss,
+            informational,
+        })
+    }
+}
+
+impl ExactClone for OsvDatabaseSpecific {
+    ghost exact = { λ x y e. e };
+}
+
+/// A package, and which versions of it are affected.
+pub struct OsvAffected {
+    /// The package.
+    pub package: OsvPackage,
+    /// What the ecosystem adds.
+    pub ecosystem_specific: Option<OsvEcosystemSpecific>,
+    /// What the advisory database adds.
+    pub database_specific: OsvDatabaseSpecific,
+    /// The ranges of affected versions.
+    pub ranges: Option<Items<OsvJsonRange>>,
+    /// Affected versions, each by itself.
+    pub versions: Option<Items<Text>>,
+}
+
+/// One place drops the fields, so that the end of an owner's life is one step of its proof.
+impl Drop for OsvAffected {
+    fn drop(self) {
+        let OsvAffected {
+            package: _,
+            ecosystem_specific: _,
+            database_specific: _,
+            ranges: _,
+            versions: _,
+        } = self;
+    }
+}
+
+impl OsvAffected {
+    /// An equal member.
+    ///
+    /// # Errors
+    ///
+    /// `OutOfMemory` alone.
+    pub fn clone(&self, _alloc: Global) -> Result<OsvAffected>
+        ensures ok { IfOk result (λ x. x ≡ self.now) }
+        ensures err { IfErr result IsMemory }
+    {
+        let copy = Clone::clone(self)?;
+        Ok(copy)
+    }
+}
+
+impl Clone for OsvAffected {
+    ghost is_clone = { λ a b. b ≡ a };
+
+    fn clone(&self) -> std::result::Result<OsvAffected, AllocError> {
+        let package = Clone::clone(&self.package)?;
+        let ecosystem_specific = Clone::clone(&self.ecosystem_specific)?;
+        let database_specific = Clone::clone(&self.database_specific)?;
+        let ranges = Clone::clone(&self.ranges)?;
+        let versions = Clone::clone(&self.versions)?;
+        Ok(OsvAffected {
+            package,
+            ecosystem_specific,
+            database_specific,
+            ranges,
+            versions,
+        })
+    }
+}
+
+impl ExactClone for OsvAffected {
+    ghost exact = { λ x y e. e };
+}

@@ -1,0 +1,223 @@
+// OSV documents.
+
+ghost use Rattle.std.specs.Prelude.{◌≡◌, IfErr, IfOk, None, is_some};
+ghost use Rattle.rustsec_versions.specs.Failure.{IsMemory};
+
+use crate::affected::OsvAffected;
+use crate::reference::OsvReference;
+use crate::severity::OsvSeverity;
+use rustsec_texts::Id;
+use rustsec_values::{ExactClone, Items, Text};
+use rustsec_versions::Result;
+use semver::Version;
+use std::alloc::{AllocError, Global};
+use std::marker::Model;
+
+/// What the advisory database adds of a document.
+pub struct MainOsvDatabaseSpecific {
+    /// The license of the advisory, as SPDX names it.
+    pub license: Option<Text>,
+}
+
+/// One place drops the fields, so that the end of an owner's life is one step of its proof.
+impl Drop for MainOsvDatabaseSpecific {
+    fn drop(self) {
+        let MainOsvDatabaseSpecific { license: _ } = self;
+    }
+}
+
+impl MainOsvDatabaseSpecific {
+    /// An equal value.
+    ///
+    /// # Errors
+    ///
+    /// `OutOfMemory` alone.
+    pub fn clone(&self, _alloc: Global) -> Result<MainOsvDatabaseSpecific>
+        ensures ok { IfOk result (λ x. x ≡ self.now) }
+        ensures err { IfErr result IsMemory }
+    {
+        let copy = Clone::clone(self)?;
+        Ok(copy)
+    }
+}
+
+impl Clone for MainOsvDatabaseSpecific {
+    ghost is_clone = { λ a b. b ≡ a };
+
+    fn clone(&self) -> std::result::Result<MainOsvDatabaseSpecific, AllocError> {
+        let license = Clone::clone(&self.license)?;
+        Ok(MainOsvDatabaseSpecific { license })
+    }
+}
+
+impl ExactClone for MainOsvDatabaseSpecific {
+    ghost exact = { λ x y e. e };
+}
+
+impl MainOsvDatabaseSpecific {
+    /// The value without a license.
+    pub fn default() -> MainOsvDatabaseSpecific
+        ensures { result.license ≡ None }
+    {
+        MainOsvDatabaseSpecific { license: None }
+    }
+}
+
+/// An OSV document.
+pub struct OsvAdvisory {
+    /// The version of the schema, if the document names one.
+    pub schema_version: Option<Version>,
+    /// The ID of the advisory.
+    pub id: Id,
+    /// When the document was last changed.
+    pub modified: Text,
+    /// When the advisory was published.
+    pub published: Text,
+    /// When the advisory was withdrawn, if it was.
+    pub withdrawn: Option<Text>,
+    /// Other IDs of the same fault.
+    pub aliases: Items<Id>,
+    /// IDs of related faults.
+    pub related: Items<Id>,
+    /// The title.
+    pub summary: Text,
+    /// The description.
+    pub details: Text,
+    /// How severe the fault is.
+    pub severity: Items<OsvSeverity>,
+    /// The affected packages.
+    pub affected: Items<OsvAffected>,
+    /// Where more can be read.
+    pub references: Items<OsvReference>,
+    /// What the advisory database adds.
+    pub database_specific: MainOsvDatabaseSpecific,
+}
+
+impl Model for OsvAdvisory {
+    ghost use Rattle.std.specs.Prelude.{option_map};
+    ghost use Rattle.semver.specs.Identifiers.{parts_of};
+    ghost use Rattle.rustsec_osv.specs.Documents.{Document};
+
+    ghost Value = { Document };
+
+    ghost view = { λ d. record {
+      schema_version = option_map parts_of d.schema_version;
+      id = d.id;
+      modified = d.modified;
+      published = d.published;
+      withdrawn = d.withdrawn;
+      aliases = d.aliases;
+      related = d.related;
+      summary = d.summary;
+      details = d.details;
+      severity = d.severity;
+      affected = d.affected;
+      references = d.references;
+      database_specific = d.database_specific;
+    } };
+}
+
+/// One place drops the fields, so that the end of an owner's life is one step of its proof.
+impl Drop for OsvAdvisory {
+    fn drop(self) {
+        let OsvAdvisory {
+            schema_version: _,
+            id: _,
+            modified: _,
+            published: _,
+            withdrawn: _,
+            aliases: _,
+            related: _,
+            summary: _,
+            details: _,
+            severity: _,
+            affected: _,
+            references: _,
+            database_specific: _,
+        } = self;
+    }
+}
+
+impl OsvAdvisory {
+    /// An equal document.
+    ///
+    /// # Errors
+    ///
+    /// `OutOfMemory` alone.
+    pub fn clone(&self, _alloc: Global) -> Result<OsvAdvisory>
+        ensures ok { IfOk result (λ x. x ≡ self.now) }
+        ensures err { IfErr result IsMemory }
+    {
+        let copy = Clone::clone(self)?;
+        Ok(copy)
+    }
+}
+
+impl Clone for OsvAdvisory {
+    ghost is_clone = { λ a b. b ≡ a };
+
+    fn clone(&self) -> std::result::Result<OsvAdvisory, AllocError> {
+        let schema_version = self.schema_version.clone()?;
+        let id = Clone::clone(&self.id)?;
+        let modified = Clone::clone(&self.modified)?;
+        let published = Clone::clone(&self.published)?;
+        let withdrawn = Clone::clone(&self.withdrawn)?;
+        let aliases = Clone::clone(&self.aliases)?;
+        let related = Clone::clone(&self.related)?;
+        let summary = Clone::clone(&self.summary)?;
+        let details = Clone::clone(&self.details)?;
+        let severity = Clone::clone(&self.severity)?;
+        let affected = Clone::clone(&self.affected)?;
+        let references = Clone::clone(&self.references)?;
+        let database_specific = Clone::clone(&self.database_specific)?;
+        Ok(OsvAdvisory {
+            schema_version,
+            id,
+            modified,
+            published,
+            withdrawn,
+            aliases,
+            related,
+            summary,
+            details,
+            severity,
+            affected,
+            references,
+            database_specific,
+        })
+    }
+}
+
+impl ExactClone for OsvAdvisory {
+    ghost exact = { λ x y e. e };
+}
+
+impl OsvAdvisory {
+    /// The ID of the advisory.
+    pub fn id(&self) -> &Id
+        ensures { result.now ≡ self.now.id }
+    {
+        &self.id
+    }
+
+    /// When the advisory was published.
+    pub fn published(&self) -> &str
+        ensures { result.now ≡ self.now.published }
+    {
+        self.published.as_str()
+    }
+
+    /// Whether the advisory was withdrawn.
+    pub fn withdrawn(&self) -> bool
+        ensures { result ≡ is_some self.now.withdrawn }
+    {
+        self.withdrawn.is_some()
+    }
+
+    /// Other IDs of the same fault.
+    pub fn aliases(&self) -> &[Id]
+        ensures { result.now ≡ self.now.aliases }
+    {
+        self.aliases.as_slice()
+    }
+}

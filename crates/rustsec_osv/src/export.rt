@@ -1,0 +1,7 @@
+// The export of advisories as OSV documents, and what other programs read out of a document.
+
+mod document;
+mod events;
+mod imports;
+mod members;
+mod references;

@@ -1,0 +1,241 @@
+// The document of an advisory.
+
+ghost use Rattle.std.specs.Prelude.{◌≡◌, ◌⊎◌, ◌++◌, ◌∷◌, [], IfErr, IfOk, List, None, Some, map, option_map, option_to_list};
+ghost use Rattle.semver.specs.Parse.{Parts};
+ghost use Rattle.rustsec_texts.specs.Licenses.{license_name};
+ghost use Rattle.rustsec_versions.specs.Failure.{IsRefusal};
+ghost use Rattle.rustsec_versions.specs.Lists.{affected};
+ghost use Rattle.rustsec_versions.specs.Precedence.{IsVersion};
+ghost use Rattle.rustsec_osv.specs.Events.{events_say};
+ghost use Rattle.rustsec_osv.specs.Export.{IsDocument, IsStarAlone, database_of, document_events, document_with, member_of, noon, package_of, severity_of};
+ghost use Rattle.rustsec_osv.specs.References.{own_pages, reference_of, references_of};
+ghost use Rattle.rustsec_osv.specs.declared.reference.OsvReference.{OsvReference};
+
+use crate::affected::{OsvAffected, OsvPackage};
+use crate::document::{MainOsvDatabaseSpecific, OsvAdvisory};
+use crate::export::events::range_of;
+use crate::export::members::{affected_of, database_of, noon, noon_of, package_of, severities_of};
+use crate::export::references::{own_pages, with_addresses};
+use crate::ranges::OsvJsonRange;
+use crate::reference::OsvReference;
+use crate::severity::OsvSeverity;
+use rustsec_advisory::metadata::{MetadataParts, Subject};
+use rustsec_advisory::{Advisory, Affected, Metadata};
+use rustsec_values::{Items, Text};
+use rustsec_versions::{ErrorKind, Result};
+use std::alloc::{AllocError, Global};
+
+/// The texts of a document that are made, not moved.
+#[derive(Drop)]
+struct Texts {
+    modified: Text,
+    published: Text,
+    withdrawn: Option<Text>,
+    license: Text,
+}
+
+/// The members of a document that are made, not moved.
+#[derive(Drop)]
+struct Made {
+    texts: Texts,
+    severity: Items<OsvSeverity>,
+    package: OsvPackage,
+    pages: Items<OsvReference>,
+}
+
+/// The texts of the document of an advisory.
+fn texts_of(
+    alloc: Global,
+    metadata: &Metadata,
+    modified: &str,
+) -> std::result::Result<Texts, AllocError>
+    ensures { IfOk result (λ t. t ≡ record {
+      modified = modified.now;
+      published = noon metadata.now.date;
+      withdrawn = option_map noon metadata.now.withdrawn;
+      license = license_name metadata.now.license;
+    }) }
+{
+    let modified = Text::from_str(alloc, modified)?;
+    let published = noon(alloc, &metadata.date)?;
+    let withdrawn = noon_of(alloc, &metadata.withdrawn)?;
+    let license = Text::from_str(alloc, metadata.license.spdx())?;
+    Ok(Texts {
+        modified,
+        published,
+        withdrawn,
+        license,
+    })
+}
+
+/// What is made of an advisory for its document.
+fn made_of(alloc: Global, metadata: &Metadata, modified: &str) -> Result<Made>
+    ensures texts { IfOk result (λ m. m.texts ≡ record {
+      modified = modified.now;
+      published = noon metadata.now.date;
+      withdrawn = option_map noon metadata.now.withdrawn;
+      license = license_name metadata.now.license;
+    }) }
+    ensures severity { IfOk result (λ m. m.severity ≡ map severity_of (option_to_list metadata.now.cvss)) }
+    ensures of_crate { IfOk result (λ m. m.«package» ≡ package_of metadata.now.«package») }
+    ensures pages { IfOk result (λ m. own_pages metadata.now.«package» metadata.now.id.text ≡ Some m.pages) }
+    ensures err { IfErr result (IsRefusal ErrorKind.Parse (own_pages metadata.now.«package» metadata.now.id.text ≡ None)) }
+{
+    let pages = own_pages(alloc, &metadata.package, &metadata.id)?;
+    let texts = texts_of(alloc, metadata, modified)?;
+    let severity = severities_of(alloc, &metadata.cvss)?;
+    let package = package_of(alloc, &metadata.package)?;
+    Ok(Made {
+        texts,
+        severity,
+        package,
+        pages,
+    })
+}
+
+/// A document without a version of the schema, of its members.
+fn document_of(
+    texts: Texts,
+    severity: Items<OsvSeverity>,
+    subject: Subject,
+    named: (Text, Text),
+    references: Items<OsvReference>,
+    affected: Items<OsvAffected>,
+) -> OsvAdvisory
+    ensures { result ≡ record {
+      schema_version = None;
+      id = subject.id;
+      modified = texts.modified;
+      published = texts.published;
+      withdrawn = texts.withdrawn;
+      aliases = subject.aliases;
+      related = subject.related;
+      summary = named.0;
+      details = named.1;
+      severity = severity;
+      affected = affected;
+      references = references;
+      database_specific = record { license = Some texts.license };
+    } }
+{
+    let Texts {
+        modified,
+        published,
+        withdrawn,
+        license,
+    } = texts;
+    let Subject {
+        id,
+        name: _,
+        date: _,
+        aliases,
+        related,
+    } = subject;
+    let (summary, details) = named;
+    OsvAdvisory {
+        schema_version: None,
+        id,
+        modified,
+        published,
+        withdrawn,
+        aliases,
+        related,
+        summary,
+        details,
+        severity,
+        affected,
+        references,
+        database_specific: MainOsvDatabaseSpecific {
+            license: Some(license),
+        },
+    }
+}
+
+/// The document of an advisory's parts, with what was made of it.
+fn with_parts(
+    alloc: Global,
+    made: Made,
+    parts: MetadataParts,
+    affected: Option<Affected>,
+    range: OsvJsonRange,
+) -> std::result::Result<OsvAdvisory, AllocError>
+    ensures { IfOk result (λ d. d ≡ record {
+      schema_version = None;
+      id = parts.subject.id;
+      modified = made.texts.modified;
+      published = made.texts.published;
+      withdrawn = made.texts.withdrawn;
+      aliases = parts.subject.aliases;
+      related = parts.subject.related;
+      summary = parts.title;
+      details = parts.description;
+      severity = made.severity;
+      affected = member_of made.«package» (database_of parts.kinds) affected range ∷ [];
+      references = made.pages ++ map reference_of (option_to_list parts.origin.url ++ parts.origin.references);
+      database_specific = record { license = Some made.texts.license };
+    }) }
+{
+    let Made {
+        texts,
+        severity,
+        package,
+        pages,
+    } = made;
+    let MetadataParts {
+        title,
+        description,
+        subject,
+        kinds,
+        origin,
+        terms: _,
+    } = parts;
+    let references = with_addresses(pages, origin)?;
+    let affected = affected_of(alloc, package, database_of(kinds), affected, range)?;
+    Ok(document_of(
+        texts,
+        severity,
+        subject,
+        (title, description),
+        references,
+        affected,
+    ))
+}
+
+/// The document of an advisory's metadata, with this range.
+fn document_with(
+    alloc: Global,
+    metadata: Metadata,
+    affected: Option<Affected>,
+    range: OsvJsonRange,
+    modified: &str,
+) -> Result<OsvAdvisory>
+    ensures ok { IfOk result (λ d. (references : List OsvReference) × (references_of metadata ≡ Some references)
+        × (d ≡ document_with metadata affected modified.now references range)) }
+    ensures err { IfErr result (IsRefusal ErrorKind.Parse (references_of metadata ≡ None)) }
+{
+    let made = made_of(alloc, &metadata, modified)?;
+    let document = with_parts(alloc, made, metadata.into_parts(), affected, range)?;
+    Ok(document)
+}
+
+impl OsvAdvisory {
+    /// The document of an advisory that was last changed at a time, which is kept as it is handed in.
+    ///
+    /// # Errors
+    ///
+    /// `BadParam` if the advisory's requirements leave no range of affected versions, which is so for
+    /// the one requirement `*`; else `Parse` if the address of the package's page or of the advisory's
+    /// is refused; else `OutOfMemory`.
+    pub fn from_rustsec(alloc: Global, advisory: Advisory, modified: &str) -> Result<OsvAdvisory>
+        ensures ok { IfOk result (IsDocument advisory modified.now) }
+
+        // The document's events call a valid version affected exactly if the advisory does.
+        ensures events { IfOk result (λ d. (v : Parts) → IsVersion v → events_say (document_events d) v ≡ affected advisory.versions v) }
+        ensures err { IfErr result (λ e. IsRefusal ErrorKind.BadParam (IsStarAlone advisory.versions) e
+            ⊎ IsRefusal ErrorKind.Parse ((¬ IsStarAlone advisory.versions) × (references_of advisory.metadata ≡ None)) e) }
+    {
+        let (metadata, affected, versions) = advisory.into_parts();
+        let range = range_of(alloc, &versions)?;
+        document_with(alloc, metadata, affected, range, modified)
+    }
+}

@@ -1,0 +1,147 @@
+// The references of an advisory's document.
+
+ghost use Rattle.std.specs.Prelude.{◌≡◌, ◌++◌, ◌∷◌, [], IfErr, IfOk, None, OnOk, Some, map, option_to_list};
+ghost use Rattle.rustsec_advisory.specs.Addresses.{address_of};
+ghost use Rattle.rustsec_versions.specs.Failure.{IsRefusal};
+ghost use Rattle.rustsec_osv.specs.References.{advisory_page, has, is_advisory, is_package, is_report, kind_of, own_pages, package_page, reference_of};
+
+use crate::reference::{OsvReference, OsvReferenceKind};
+use rustsec_advisory::Address;
+use rustsec_advisory::metadata::Origin;
+use rustsec_lock::package::Name;
+use rustsec_texts::Id;
+use rustsec_values::Items;
+use rustsec_versions::{ErrorKind, Result};
+use std::alloc::{AllocError, Global};
+
+/// Whether a part stands somewhere in a text.
+fn has(part: &str, text: &str) -> bool
+    ensures { result ≡ has part.now text.now }
+{
+    text.contains(part)
+}
+
+/// Whether an address is that of a report at a forge.
+fn is_report(address: &str) -> bool
+    ensures { result ≡ is_report address.now }
+{
+    let is_forge = has("://github.com/", address) || has("://gitlab.", address);
+    is_forge && has("/issues/", address)
+}
+
+/// Whether an address is that of an advisory.
+fn is_advisory(address: &str) -> bool
+    ensures { result ≡ is_advisory address.now }
+{
+    has("/advisories/", address) || has("://cve.mitre.org/", address)
+}
+
+/// Whether an address is that of a package.
+fn is_package(address: &str) -> bool
+    ensures { result ≡ is_package address.now }
+{
+    has("://crates.io/crates/", address)
+}
+
+/// What an address leads to, by the text that it prints.
+#[tactic(auto, unfolding(crate::specs::References::kind_of))]
+fn kind_of(address: &str) -> OsvReferenceKind
+    ensures { result ≡ kind_of address.now }
+{
+    if is_report(address) {
+        OsvReferenceKind::REPORT
+    } else if is_advisory(address) {
+        OsvReferenceKind::ADVISORY
+    } else if is_package(address) {
+        OsvReferenceKind::PACKAGE
+    } else {
+        OsvReferenceKind::WEB
+    }
+}
+
+/// The reference to an address.
+fn reference_of(address: Address) -> OsvReference
+    ensures { result ≡ reference_of address }
+{
+    let kind = kind_of(address.as_str());
+    OsvReference { kind, url: address }
+}
+
+/// The address of a package's page.
+fn package_page(alloc: Global, name: &Name) -> Result<Address>
+    ensures ok { IfOk result (λ a. address_of (package_page name.now) ≡ Some a) }
+    ensures err { IfErr result (IsRefusal ErrorKind.Parse (address_of (package_page name.now) ≡ None)) }
+{
+    let name = name.as_str();
+    let text = format!(in alloc; "https://crates.io/crates/{name}")?;
+    Address::from_str(alloc, &text)
+}
+
+/// The address of an advisory's page.
+fn advisory_page(alloc: Global, id: &Id) -> Result<Address>
+    ensures ok { IfOk result (λ a. address_of (advisory_page id.now.text) ≡ Some a) }
+    ensures err { IfErr result (IsRefusal ErrorKind.Parse (address_of (advisory_page id.now.text) ≡ None)) }
+{
+    let id = id.as_str();
+    let text = format!(in alloc; "https://rustsec.org/advisories/{id}.html")?;
+    Address::from_str(alloc, &text)
+}
+
+/// References to two pages.
+fn two_references(
+    alloc: Global,
+    first: Address,
+    second: Address,
+) -> std::result::Result<Items<OsvReference>, AllocError>
+    ensures { IfOk result (λ v. v ≡ reference_of first ∷ (reference_of second ∷ [])) }
+{
+    let mut references = Items::new(alloc);
+    references.push(reference_of(first))?;
+    references.push(reference_of(second))?;
+    Ok(references)
+}
+
+/// References to the pages of a package and of an advisory.
+pub(crate) fn own_pages(alloc: Global, name: &Name, id: &Id) -> Result<Items<OsvReference>>
+    ensures ok { IfOk result (λ v. own_pages name.now id.now.text ≡ Some v) }
+    ensures err { IfErr result (IsRefusal ErrorKind.Parse (own_pages name.now id.now.text ≡ None)) }
+{
+    let package = package_page(alloc, name)?;
+    let advisory = advisory_page(alloc, id)?;
+    let references = two_references(alloc, package, advisory)?;
+    Ok(references)
+}
+
+/// Appends references to addresses.
+fn add_references(
+    addresses: Items<Address>,
+    references: &mut Items<OsvReference>,
+) -> std::result::Result<(), AllocError>
+    ensures { OnOk result (references.new ≡ references.old ++ map reference_of addresses) }
+{
+    for address in Vec::from(addresses) {
+        references.push(reference_of(address))?;
+    }
+    Ok(())
+}
+
+/// The references of a document: those to its own pages, then what an advisory says of where more is
+/// found.
+pub(crate) fn with_addresses(
+    pages: Items<OsvReference>,
+    origin: Origin,
+) -> std::result::Result<Items<OsvReference>, AllocError>
+    ensures { IfOk result (λ v. v ≡ pages ++ map reference_of (option_to_list origin.url ++ origin.references)) }
+{
+    let Origin {
+        references: addresses,
+        source: _,
+        url,
+    } = origin;
+    let mut references = pages;
+    if let Some(url) = url {
+        references.push(reference_of(url))?;
+    }
+    add_references(addresses, &mut references)?;
+    Ok(references)
+}

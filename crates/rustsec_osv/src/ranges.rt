@@ -1,0 +1,63 @@
+// Ranges of affected versions.
+
+ghost use Rattle.std.specs.Prelude.{◌≡◌, IfErr, IfOk};
+ghost use Rattle.rustsec_versions.specs.Failure.{IsMemory};
+
+use crate::timeline::OsvTimelineEvent;
+use rustsec_values::{ExactClone, Text};
+use rustsec_versions::Result;
+use std::alloc::{AllocError, Global};
+use std::marker::Model;
+
+/// A range of affected versions, by its events.
+pub struct OsvJsonRange {
+    /// How its versions are ordered, as `SEMVER`; the key is `type`.
+    pub kind: Text,
+    /// Its events, in order.
+    pub events: Vec<OsvTimelineEvent>,
+}
+
+impl Model for OsvJsonRange {
+    ghost use Rattle.std.specs.Prelude.{map};
+    ghost use Rattle.rustsec_osv.specs.DocumentEvents.{JsonRange, event_of};
+
+    ghost Value = { JsonRange };
+
+    ghost view = { λ r. record { kind = r.kind; events = map event_of r.events.items } };
+}
+
+/// One place drops the fields, so that the end of an owner's life is one step of its proof.
+impl Drop for OsvJsonRange {
+    fn drop(self) {
+        let OsvJsonRange { kind: _, events: _ } = self;
+    }
+}
+
+impl OsvJsonRange {
+    /// An equal range.
+    ///
+    /// # Errors
+    ///
+    /// `OutOfMemory` alone.
+    pub fn clone(&self, _alloc: Global) -> Result<OsvJsonRange>
+        ensures ok { IfOk result (λ x. x ≡ self.now) }
+        ensures err { IfErr result IsMemory }
+    {
+        let copy = Clone::clone(self)?;
+        Ok(copy)
+    }
+}
+
+impl Clone for OsvJsonRange {
+    ghost is_clone = { λ a b. b ≡ a };
+
+    fn clone(&self) -> std::result::Result<OsvJsonRange, AllocError> {
+        let kind = Clone::clone(&self.kind)?;
+        let events = self.events.clone()?;
+        Ok(OsvJsonRange { kind, events })
+    }
+}
+
+impl ExactClone for OsvJsonRange {
+    ghost exact = { λ x y e. e };
+}

@@ -1,0 +1,189 @@
+// Events and ranges of trees.
+
+ghost use Rattle.std.specs.Prelude.{◌≡◌, ◌==◌, ◌++◌, ◌∷◌, [], IfErr, IfOk, None, OnErr, OnOk, Some, count_by, map, string_bytes};
+ghost use Rattle.serde_json.specs.Events.{members_len};
+ghost use Rattle.serde_json.specs.View.{items_view, members_view, view};
+ghost use Rattle.rustsec_json.specs.Fields.{list_of};
+ghost use Rattle.rustsec_osv.specs.DocumentEvents.{event_of};
+ghost use Rattle.rustsec_osv.specs.ReaderAffected.{dots, event_in, event_version, in_full, read_event, version_of};
+ghost use Rattle.rustsec_values.specs.Reading.{read_all};
+ghost use Rattle.rustsec_versions.specs.Failure.{IsMemory, IsOfKind, IsRefusal};
+ghost use Rattle.semver.specs.Identifiers.{parts_of};
+
+use crate::ranges::OsvJsonRange;
+use crate::reader::release::version_of;
+use crate::timeline::OsvTimelineEvent;
+use rustsec_json::{FromTree, fields_of, member, refused, required_at};
+use rustsec_values::Text;
+use rustsec_versions::{Error, ErrorKind, Result, refused_at};
+use semver::Version;
+use serde_json::{Map, Value};
+use std::alloc::{AllocError, Global};
+use std::marker::Model;
+
+/// How many dots a text has.
+fn dots(text: &str) -> usize
+    ensures { result ≡ dots text.now }
+{
+    let mut dots = 0;
+    let bytes = text.as_bytes();
+    for byte in bytes {
+        if *byte == b'.' {
+            dots += 1;
+        }
+    }
+    dots
+}
+
+/// The text of a version with the numbers that a short form leaves out, which are 0.
+fn in_full(alloc: Global, text: &str) -> std::result::Result<String, AllocError>
+    ensures { IfOk result (λ s. string_bytes s ≡ in_full text.now) }
+{
+    match dots(text) {
+        0 => format!(in alloc; "{text}.0.0"),
+        1 => format!(in alloc; "{text}.0"),
+        _ => String::from_str(alloc, text),
+    }
+}
+
+/// The version of an event's text.
+fn version_of_text(alloc: Global, text: &str) -> Result<Version>
+    ensures ok { IfOk result (λ v. version_of (in_full text.now) ≡ Some (parts_of v)) }
+    ensures err { IfErr result (IsRefusal ErrorKind.Parse (version_of (in_full text.now) ≡ None)) }
+{
+    let full = in_full(alloc, text)?;
+    version_of(alloc, text, &full)
+}
+
+/// The version of an event.
+fn event_version(alloc: Global, tree: &Value) -> Result<Version>
+    ensures ok { IfOk result (λ v. event_version (view tree.now) ≡ Some (parts_of v)) }
+    ensures err { IfErr result (IsRefusal ErrorKind.Parse (event_version (view tree.now) ≡ None)) }
+{
+    match tree.as_str() {
+        Some(text) => version_of_text(alloc, text),
+        None => Err(refused(alloc, "a text was expected")),
+    }
+}
+
+/// The version that stands at an event's key.
+fn version_at(alloc: Global, key: &str, tree: &Value) -> Result<Version>
+    ensures ok { IfOk result (λ v. event_version (view tree.now) ≡ Some (parts_of v)) }
+    ensures err { IfErr result (IsRefusal ErrorKind.Parse (event_version (view tree.now) ≡ None)) }
+{
+    match event_version(alloc, tree) {
+        Ok(version) => Ok(version),
+        Err(e) => Err(refused_at(alloc, key, &e)),
+    }
+}
+
+/// The event of an object's key.
+fn event_in(alloc: Global, fields: &Map<String, Value>) -> Result<OsvTimelineEvent>
+    ensures ok { IfOk result (λ e. event_in (members_view fields.now.entries) ≡ Some (event_of e)) }
+    ensures err { IfErr result (IsRefusal ErrorKind.Parse (event_in (members_view fields.now.entries) ≡ None)) }
+{
+    if let Some(tree) = member(fields, "introduced") {
+        let version = version_at(alloc, "introduced", tree)?;
+        return Ok(OsvTimelineEvent::Introduced(version));
+    }
+    if let Some(tree) = member(fields, "fixed") {
+        let version = version_at(alloc, "fixed", tree)?;
+        return Ok(OsvTimelineEvent::Fixed(version));
+    }
+    if let Some(tree) = member(fields, "last_affected") {
+        let version = version_at(alloc, "last_affected", tree)?;
+        return Ok(OsvTimelineEvent::LastAffected(version));
+    }
+    Err(refused(
+        alloc,
+        "one of the keys `introduced`, `fixed` and `last_affected` was expected",
+    ))
+}
+
+/// Whether an object has one key.
+fn is_lone(fields: &Map<String, Value>) -> bool
+    ensures { result ≡ (members_len (members_view fields.now.entries) == 1) }
+{
+    fields.len() == 1
+}
+
+/// The event of a tree.
+fn event(alloc: Global, tree: &Value) -> Result<OsvTimelineEvent>
+    ensures ok { IfOk result (λ e. read_event (view tree.now) ≡ Some (event_of e)) }
+    ensures err { IfErr result (IsRefusal ErrorKind.Parse (read_event (view tree.now) ≡ None)) }
+{
+    let fields = fields_of(alloc, tree)?;
+    if !is_lone(fields) {
+        return Err(refused(alloc, "an event has another number of keys, expected one"));
+    }
+    event_in(alloc, fields)
+}
+
+/// Puts an event behind others.
+fn add(events: &mut Vec<OsvTimelineEvent>, event: OsvTimelineEvent) -> Result<()>
+    ensures ok { OnOk result (events.new.items ≡ events.old.items ++ event ∷ []) }
+    ensures err { IfErr result IsMemory }
+{
+    events.push(event).map_err(|_| AllocError)?;
+    Ok(())
+}
+
+/// The events of trees, in order.
+fn events_of(alloc: Global, trees: &Vec<Value>) -> Result<Vec<OsvTimelineEvent>>
+    ensures ok { IfOk result (λ xs. read_all read_event (list_of (items_view trees.now.items)) ≡ Some (map event_of xs.items)) }
+    ensures err { IfErr result (IsRefusal ErrorKind.Parse (read_all read_event (list_of (items_view trees.now.items)) ≡ None)) }
+{
+    let mut read = Vec::new(alloc);
+    for tree in trees {
+        match event(alloc, tree) {
+            Ok(event) => add(&mut read, event)?,
+            Err(e) => return Err(e),
+        }
+    }
+    Ok(read)
+}
+
+/// Events, which contracts see by the parts of their versions.
+#[derive(Drop)]
+pub(crate) struct Events {
+    list: Vec<OsvTimelineEvent>,
+}
+
+impl Model for Events {
+    ghost use Rattle.std.specs.Prelude.{List, map};
+    ghost use Rattle.rustsec_osv.specs.DocumentEvents.{Event, event_of};
+
+    ghost Value = { List Event };
+
+    ghost view = { λ e. map event_of e.list.items };
+}
+
+impl FromTree for Events {
+    ghost use Rattle.rustsec_json.specs.Fields.{every};
+    ghost use Rattle.rustsec_osv.specs.ReaderAffected.{read_event};
+
+    ghost reads = { every read_event };
+
+    fn from_tree(alloc: Global, tree: &Value) -> Result<Events> {
+        match tree.as_array() {
+            Some(trees) => {
+                let list = events_of(alloc, trees)?;
+                Ok(Events { list })
+            }
+            None => Err(refused(alloc, "a list was expected")),
+        }
+    }
+}
+
+impl FromTree for OsvJsonRange {
+    ghost use Rattle.rustsec_osv.specs.ReaderAffected.{read_range};
+
+    ghost reads = { read_range };
+
+    fn from_tree(alloc: Global, tree: &Value) -> Result<OsvJsonRange> {
+        let fields = fields_of(alloc, tree)?;
+        let kind: Text = required_at(alloc, fields, "type")?;
+        let Events { list: events } = required_at(alloc, fields, "events")?;
+        Ok(OsvJsonRange { kind, events })
+    }
+}

@@ -1,0 +1,137 @@
+// References of a document.
+
+ghost use Rattle.std.specs.Prelude.{◌≡◌, IfErr, IfOk, None, Some};
+ghost use Rattle.rustsec_osv.specs.DocumentKinds.{reference_kind_name, reference_kind_of};
+ghost use Rattle.rustsec_versions.specs.Failure.{IsMemory, IsRefusal};
+
+use rustsec_advisory::Address;
+use rustsec_values::{ExactClone, Named, value_named};
+use rustsec_versions::{ErrorKind, Result, refused_text};
+use std::alloc::{AllocError, Global};
+
+/// What a reference leads to.
+#[derive(Clone, Copy, PartialEq, Eq, Debug)]
+pub enum OsvReferenceKind {
+    /// An advisory.
+    ADVISORY,
+    /// An article.
+    ARTICLE,
+    /// A report of the fault.
+    REPORT,
+    /// A change that corrects the fault.
+    FIX,
+    /// The page of the package.
+    PACKAGE,
+    /// Any page.
+    WEB,
+}
+
+impl OsvReferenceKind {
+    /// The word of the kind.
+    pub fn as_str(&self) -> &'static str
+        ensures { result.now ≡ reference_kind_name self.now }
+    {
+        match self {
+            OsvReferenceKind::ADVISORY => "ADVISORY",
+            OsvReferenceKind::ARTICLE => "ARTICLE",
+            OsvReferenceKind::REPORT => "REPORT",
+            OsvReferenceKind::FIX => "FIX",
+            OsvReferenceKind::PACKAGE => "PACKAGE",
+            OsvReferenceKind::WEB => "WEB",
+        }
+    }
+
+    /// The kind of a word.
+    ///
+    /// # Errors
+    ///
+    /// `Parse` if no kind has the word; `OutOfMemory` in its place if there is no memory for the message.
+    pub fn from_str(alloc: Global, text: &str) -> Result<OsvReferenceKind>
+        ensures ok { IfOk result (λ k. reference_kind_of text.now ≡ Some k) }
+        ensures err { IfErr result (IsRefusal ErrorKind.Parse (reference_kind_of text.now ≡ None)) }
+
+        // Any error, of memory too, means that the text is none of the words.
+        ensures none { IfErr result (λ e. reference_kind_of text.now ≡ None) }
+    {
+        match value_named(text) {
+            Some(value) => Ok(value),
+            None => Err(refused_text(
+                alloc,
+                "no kind of references has the name",
+                text,
+                "`ADVISORY`, `ARTICLE`, `REPORT`, `FIX`, `PACKAGE` or `WEB`",
+            )),
+        }
+    }
+}
+
+impl Named for OsvReferenceKind {
+    ghost use Rattle.rustsec_osv.specs.DocumentKinds.{reference_kind_name, reference_kinds};
+
+    ghost name_of = { reference_kind_name };
+
+    ghost values = { reference_kinds };
+
+    fn all() -> &'static [OsvReferenceKind] {
+        &[
+            OsvReferenceKind::ADVISORY,
+            OsvReferenceKind::ARTICLE,
+            OsvReferenceKind::REPORT,
+            OsvReferenceKind::FIX,
+            OsvReferenceKind::PACKAGE,
+            OsvReferenceKind::WEB,
+        ]
+    }
+
+    fn name(&self) -> &'static str {
+        self.as_str()
+    }
+}
+
+impl ExactClone for OsvReferenceKind {
+    ghost exact = { λ x y e. e };
+}
+
+/// A reference.
+pub struct OsvReference {
+    /// What it leads to; the key is `type`.
+    pub kind: OsvReferenceKind,
+    /// Its address.
+    pub url: Address,
+}
+
+/// One place drops the fields, so that the end of an owner's life is one step of its proof.
+impl Drop for OsvReference {
+    fn drop(self) {
+        let OsvReference { kind: _, url: _ } = self;
+    }
+}
+
+impl OsvReference {
+    /// An equal reference.
+    ///
+    /// # Errors
+    ///
+    /// `OutOfMemory` alone.
+    pub fn clone(&self, _alloc: Global) -> Result<OsvReference>
+        ensures ok { IfOk result (λ x. x ≡ self.now) }
+        ensures err { IfErr result IsMemory }
+    {
+        let copy = Clone::clone(self)?;
+        Ok(copy)
+    }
+}
+
+impl Clone for OsvReference {
+    ghost is_clone = { λ a b. b ≡ a };
+
+    fn clone(&self) -> std::result::Result<OsvReference, AllocError> {
+        let kind = self.kind;
+        let url = Clone::clone(&self.url)?;
+        Ok(OsvReference { kind, url })
+    }
+}
+
+impl ExactClone for OsvReference {
+    ghost exact = { λ x y e. e };
+}

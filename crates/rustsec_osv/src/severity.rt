@@ -1,0 +1,51 @@
+// How severe a fault is.
+
+ghost use Rattle.std.specs.Prelude.{◌≡◌, IfErr, IfOk};
+ghost use Rattle.rustsec_versions.specs.Failure.{IsMemory};
+
+use rustsec_lock::Base;
+use rustsec_values::{ExactClone, Text};
+use rustsec_versions::Result;
+use std::alloc::{AllocError, Global};
+
+/// A vector of CVSS, by its version.
+#[derive(Debug, Drop)]
+pub enum OsvSeverity {
+    /// A vector of version 3.0 or 3.1.
+    CVSS_V3(Base),
+    /// A vector of version 4, as its text.
+    CVSS_V4(Text),
+}
+
+impl OsvSeverity {
+    /// An equal vector.
+    ///
+    /// # Errors
+    ///
+    /// `OutOfMemory` alone.
+    pub fn clone(&self, _alloc: Global) -> Result<OsvSeverity>
+        ensures ok { IfOk result (λ x. x ≡ self.now) }
+        ensures err { IfErr result IsMemory }
+    {
+        let copy = Clone::clone(self)?;
+        Ok(copy)
+    }
+}
+
+impl Clone for OsvSeverity {
+    ghost is_clone = { λ a b. b ≡ a };
+
+    fn clone(&self) -> std::result::Result<OsvSeverity, AllocError> {
+        match self {
+            OsvSeverity::CVSS_V3(base) => Ok(OsvSeverity::CVSS_V3(*base)),
+            OsvSeverity::CVSS_V4(text) => {
+                let text = text.clone()?;
+                Ok(OsvSeverity::CVSS_V4(text))
+            }
+        }
+    }
+}
+
+impl ExactClone for OsvSeverity {
+    ghost exact = { λ x y e. e };
+}

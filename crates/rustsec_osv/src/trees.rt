@@ -1,0 +1,5 @@
+// The trees of documents and of their parts.
+
+mod affected;
+mod document;
+mod objects;

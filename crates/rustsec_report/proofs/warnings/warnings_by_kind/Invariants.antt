@@ -1,0 +1,7 @@
+use Rattle.std.proofs.Common.{◌≡◌, [], drop}
+use Rattle.rustsec_report.proofs.ByKind.{gathered}
+use Rattle.rustsec_report.specs.Report.{warnings_of_kind}
+use Rattle.rustsec_report.proofs.warnings.warnings_by_kind.Given as goal
+
+abbrev pub invariant-loop-kind : goal.invariant-loop-kind
+invariant-loop-kind l = gathered (warnings_of_kind l.settings l.found) l.warnings (drop l.kind-index l.kind-items) ≡ gathered (warnings_of_kind l.settings l.found) [] l.kind-items

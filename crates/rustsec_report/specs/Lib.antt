@@ -1,0 +1,5 @@
+pub mod Filter
+pub mod Held
+pub mod Kinds
+pub mod Report
+pub mod Trees

@@ -1,0 +1,188 @@
+// The JSON trees of what advisories and packages hold.
+
+ghost use Rattle.std.specs.Prelude.{◌≡◌, IfOk, OnOk};
+ghost use Rattle.serde_json.specs.View.{members_view, view};
+ghost use Rattle.rustsec_json.specs.Trees.{optional_tree};
+ghost use Rattle.rustsec_report.specs.Trees.{affected_entries, affected_tree, functions, kinds, metadata_entries, metadata_tree, object_of, origin, package_entries, package_tree, subject, terms, versions_entries, versions_tree, with_members};
+
+use crate::object::{Members, put_tree, put_value, requirements_tree};
+use rustsec_advisory::{Affected, Metadata};
+use rustsec_lock::package::Package;
+use rustsec_texts::FunctionPath;
+use rustsec_values::SortedMap;
+use rustsec_versions::{Requirements, Versions};
+use serde_json::Value;
+use std::alloc::{AllocError, Global};
+
+/// Sets the key of each function, its path, to its requirements.
+#[tactic(auto, unfolding(crate::specs::Trees::with_members))]
+fn put_functions(
+    alloc: Global,
+    members: &mut Members,
+    list: &SortedMap<FunctionPath, Requirements>,
+) -> Result<(), AllocError>
+    ensures { OnOk result (members_view members.new.entries ≡ with_members (members_view members.old.entries) (functions list.now)) }
+{
+    for (path, reqs) in list.as_map() {
+        let key = path.to_string(alloc)?;
+        let tree = requirements_tree(alloc, reqs.as_slice())?;
+        put_tree(alloc, members, &key, tree)?;
+    }
+    Ok(())
+}
+
+/// The tree of functions.
+fn functions_tree(
+    alloc: Global,
+    list: &SortedMap<FunctionPath, Requirements>,
+) -> Result<Value, AllocError>
+    ensures { IfOk result (λ v. view v ≡ object_of (functions list.now)) }
+{
+    let mut members = Members::new(alloc);
+    put_functions(alloc, &mut members, list)?;
+    Ok(Value::from(members))
+}
+
+/// Sets the keys of what is affected.
+#[tactic(auto, unfolding(crate::specs::Trees::with_members))]
+fn put_affected(alloc: Global, members: &mut Members, affected: &Affected) -> Result<(), AllocError>
+    ensures { OnOk result (members_view members.new.entries
+        ≡ with_members (members_view members.old.entries) (affected_entries affected.now)) }
+{
+    put_value(alloc, members, "arch", &affected.arch)?;
+    let tree = functions_tree(alloc, &affected.functions)?;
+    put_tree(alloc, members, "functions", tree)?;
+    put_value(alloc, members, "os", &affected.os)
+}
+
+/// The tree of what is affected, null where nothing is said.
+pub(crate) fn affected_tree(alloc: Global, affected: &Option<Affected>) -> Result<Value, AllocError>
+    ensures { IfOk result (λ v. view v ≡ optional_tree affected_tree affected.now) }
+{
+    let Some(affected) = affected else {
+        return Ok(Value::Null);
+    };
+    let mut members = Members::new(alloc);
+    put_affected(alloc, &mut members, affected)?;
+    Ok(Value::from(members))
+}
+
+/// Sets the keys of two lists of requirements.
+#[tactic(auto, unfolding(crate::specs::Trees::with_members))]
+fn put_versions(alloc: Global, members: &mut Members, versions: &Versions) -> Result<(), AllocError>
+    ensures { OnOk result (members_view members.new.entries
+        ≡ with_members (members_view members.old.entries) (versions_entries versions.now)) }
+{
+    let patched = requirements_tree(alloc, versions.patched())?;
+    put_tree(alloc, members, "patched", patched)?;
+    let unaffected = requirements_tree(alloc, versions.unaffected())?;
+    put_tree(alloc, members, "unaffected", unaffected)
+}
+
+/// The tree of two lists of requirements.
+pub(crate) fn versions_tree(alloc: Global, versions: &Versions) -> Result<Value, AllocError>
+    ensures { IfOk result (λ v. view v ≡ versions_tree versions.now) }
+{
+    let mut members = Members::new(alloc);
+    put_versions(alloc, &mut members, versions)?;
+    Ok(Value::from(members))
+}
+
+/// Sets the keys of an advisory's names, package and days.
+#[tactic(auto, unfolding(crate::specs::Trees::with_members))]
+fn put_subject(alloc: Global, members: &mut Members, metadata: &Metadata) -> Result<(), AllocError>
+    ensures { OnOk result (members_view members.new.entries
+        ≡ with_members (members_view members.old.entries) (subject metadata.now)) }
+{
+    put_value(alloc, members, "aliases", &metadata.aliases)?;
+    put_value(alloc, members, "date", &metadata.date)?;
+    put_value(alloc, members, "id", &metadata.id)?;
+    put_value(alloc, members, "package", &metadata.package)?;
+    put_value(alloc, members, "related", &metadata.related)
+}
+
+/// Sets the keys of how an advisory is sorted.
+#[tactic(auto, unfolding(crate::specs::Trees::with_members))]
+fn put_kinds(alloc: Global, members: &mut Members, metadata: &Metadata) -> Result<(), AllocError>
+    ensures { OnOk result (members_view members.new.entries
+        ≡ with_members (members_view members.old.entries) (kinds metadata.now)) }
+{
+    put_value(alloc, members, "categories", &metadata.categories)?;
+    put_value(alloc, members, "collection", &metadata.collection)?;
+    put_value(alloc, members, "cvss", &metadata.cvss)?;
+    put_value(alloc, members, "informational", &metadata.informational)?;
+    put_value(alloc, members, "keywords", &metadata.keywords)
+}
+
+/// Sets the keys of where more is found.
+#[tactic(auto, unfolding(crate::specs::Trees::with_members))]
+fn put_origin(alloc: Global, members: &mut Members, metadata: &Metadata) -> Result<(), AllocError>
+    ensures { OnOk result (members_view members.new.entries
+        ≡ with_members (members_view members.old.entries) (origin metadata.now)) }
+{
+    put_value(alloc, members, "references", &metadata.references)?;
+    put_value(alloc, members, "source", &metadata.source)?;
+    put_value(alloc, members, "url", &metadata.url)
+}
+
+/// Sets the keys of an advisory's texts and terms.
+#[tactic(auto, unfolding(crate::specs::Trees::with_members))]
+fn put_terms(alloc: Global, members: &mut Members, metadata: &Metadata) -> Result<(), AllocError>
+    ensures { OnOk result (members_view members.new.entries
+        ≡ with_members (members_view members.old.entries) (terms metadata.now)) }
+{
+    put_value(alloc, members, "description", &metadata.description)?;
+    put_tree(
+        alloc,
+        members,
+        "expect-deleted",
+        Value::from(metadata.expect_deleted),
+    )?;
+    put_value(alloc, members, "license", &metadata.license)?;
+    put_value(alloc, members, "title", &metadata.title)?;
+    put_value(alloc, members, "withdrawn", &metadata.withdrawn)
+}
+
+/// Sets all keys of what an advisory says of itself.
+#[tactic(auto, unfolding(crate::specs::Trees::with_members, crate::specs::Trees::metadata_entries))]
+fn put_metadata(alloc: Global, members: &mut Members, metadata: &Metadata) -> Result<(), AllocError>
+    ensures { OnOk result (members_view members.new.entries
+        ≡ with_members (members_view members.old.entries) (metadata_entries metadata.now)) }
+{
+    put_subject(alloc, members, metadata)?;
+    put_kinds(alloc, members, metadata)?;
+    put_origin(alloc, members, metadata)?;
+    put_terms(alloc, members, metadata)
+}
+
+/// The tree of what an advisory says of itself.
+#[tactic(auto, unfolding(crate::specs::Trees::metadata_tree))]
+pub(crate) fn metadata_tree(alloc: Global, metadata: &Metadata) -> Result<Value, AllocError>
+    ensures { IfOk result (λ v. view v ≡ metadata_tree metadata.now) }
+{
+    let mut members = Members::new(alloc);
+    put_metadata(alloc, &mut members, metadata)?;
+    Ok(Value::from(members))
+}
+
+/// Sets the keys of a package.
+#[tactic(auto, unfolding(crate::specs::Trees::with_members))]
+fn put_package(alloc: Global, members: &mut Members, package: &Package) -> Result<(), AllocError>
+    ensures { OnOk result (members_view members.new.entries
+        ≡ with_members (members_view members.old.entries) (package_entries «package».now)) }
+{
+    put_value(alloc, members, "checksum", &package.checksum)?;
+    put_value(alloc, members, "name", &package.name)?;
+    put_value(alloc, members, "source", &package.source)?;
+    let version = package.version.to_string(alloc)?;
+    put_tree(alloc, members, "version", Value::from(version))
+}
+
+/// The tree of a package.
+pub(crate) fn package_tree(alloc: Global, package: &Package) -> Result<Value, AllocError>
+    ensures { IfOk result (λ v. view v ≡ package_tree «package».now) }
+{
+    let mut members = Members::new(alloc);
+    put_package(alloc, &mut members, package)?;
+    Ok(Value::from(members))
+}

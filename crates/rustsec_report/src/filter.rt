@@ -1,0 +1,121 @@
+// What of a report applies to a compiled program.
+
+ghost use Rattle.std.specs.Prelude.{◌≡◌, length};
+ghost use Rattle.std.specs.List.{filter, list_any};
+ghost use Rattle.rustsec_report.specs.Filter.{applicable, apple, filtered, is_one_of, no_system, runs, windows};
+ghost use Rattle.rustsec_report.specs.Report.{info_of};
+
+use crate::binary_format::BinaryFormat;
+use crate::info::VulnerabilityInfo;
+use crate::report::Report;
+use crate::warning::Warning;
+use rustsec_advisory::Affected;
+use rustsec_lock::platforms::OS;
+use rustsec_query::Vulnerability;
+use rustsec_values::Test;
+
+/// Whether a system is Windows.
+fn is_windows(os: OS) -> bool
+    ensures { result ≡ is_one_of windows os }
+{
+    [OS::Windows].contains(&os)
+}
+
+/// Whether a system is one of Apple's.
+fn is_apple(os: OS) -> bool
+    ensures { result ≡ is_one_of apple os }
+{
+    [OS::iOS, OS::MacOS, OS::TvOS, OS::VisionOS, OS::WatchOS].contains(&os)
+}
+
+/// Whether what is named is no system.
+fn is_no_system(os: OS) -> bool
+    ensures { result ≡ is_one_of no_system os }
+{
+    [OS::Unknown, OS::None].contains(&os)
+}
+
+/// Whether a system may run programs of a format.
+fn runs(format: BinaryFormat, os: OS) -> bool
+    ensures { result ≡ runs format os }
+{
+    match format {
+        BinaryFormat::Elf32 | BinaryFormat::Elf64 => !is_windows(os) && !is_apple(os),
+        BinaryFormat::Macho => is_apple(os),
+        BinaryFormat::PE => is_windows(os),
+        BinaryFormat::Wasm => is_no_system(os),
+        BinaryFormat::Unknown => true,
+    }
+}
+
+/// Whether some of these systems may run programs of a format.
+fn some_runs(format: BinaryFormat, systems: &[OS]) -> bool
+    ensures { result ≡ list_any (runs format) systems.now }
+{
+    systems.iter().any(|os| runs(format, *os))
+}
+
+/// Whether what is affected applies to programs of a format.
+fn is_applicable(format: BinaryFormat, affected: &Option<Affected>) -> bool
+    ensures { result ≡ applicable format affected.now }
+{
+    match affected {
+        Some(affected) => affected.os.is_empty() || some_runs(format, affected.os.as_slice()),
+        None => true,
+    }
+}
+
+/// The test whether something applies to programs of a format.
+#[derive(Drop)]
+struct Applicable {
+    format: BinaryFormat,
+}
+
+impl Test<Vulnerability> for Applicable {
+    ghost use Rattle.rustsec_report.specs.Filter.{applicable};
+
+    ghost passes = { λ test v. applicable test.format v.affected };
+
+    fn passes(&self, element: &Vulnerability) -> bool {
+        is_applicable(self.format, &element.affected)
+    }
+}
+
+impl Test<Warning> for Applicable {
+    ghost use Rattle.rustsec_report.specs.Filter.{applicable};
+
+    ghost passes = { λ test w. applicable test.format w.affected };
+
+    fn passes(&self, element: &Warning) -> bool {
+        is_applicable(self.format, &element.affected)
+    }
+}
+
+/// Keeps the vulnerabilities that apply to programs of a format, and counts them anew.
+fn filter_vulnerabilities(info: &mut VulnerabilityInfo, test: &Applicable)
+    ensures { info.new ≡ info_of (filter (λ v. applicable test.now.format v.affected) info.old.list) }
+{
+    info.list.retain(test);
+    info.count = info.list.len();
+    info.found = !info.list.is_empty();
+}
+
+/// Takes out of a report what doesn't apply to programs of a format: an advisory that lists systems
+/// none of which runs such programs. The number of vulnerabilities, and whether there is any, are set
+/// anew. A kind of warnings stays, also where its list becomes empty. This takes no memory.
+///
+/// The number of vulnerabilities must be that of the list.
+pub fn filter_report_by_binary_type(binary_type: &BinaryFormat, report: &mut Report)
+    requires { report.old.vulnerabilities.count ≡ length report.old.vulnerabilities.list }
+    ensures value { report.new ≡ filtered binary_type.now report.old }
+
+    // The condition holds again, and what a second call leaves is the same.
+    ensures count { report.new.vulnerabilities.count ≡ length report.new.vulnerabilities.list }
+    ensures again { filtered binary_type.now report.new ≡ report.new }
+{
+    let test = Applicable {
+        format: *binary_type,
+    };
+    filter_vulnerabilities(&mut report.vulnerabilities, &test);
+    report.warnings.retain_in_each(&test);
+}

@@ -1,0 +1,86 @@
+// How a report is made from a database and a lockfile.
+
+ghost use Rattle.std.specs.Prelude.{◌≡◌, IfErr, IfOk};
+ghost use Rattle.rustsec_versions.specs.Failure.{IsMemory};
+ghost use Rattle.rustsec_report.specs.Held.{ListsWhatIsInForce};
+ghost use Rattle.rustsec_report.specs.Report.{info_of, report_of, vulnerabilities, warnings};
+
+use crate::info::{LockfileInfo, VulnerabilityInfo};
+use crate::report::Report;
+use crate::settings::Settings;
+use crate::warnings::{WarningInfo, warnings_of, without_ignored};
+use rustsec_database::Database;
+use rustsec_lock::Lockfile;
+use rustsec_values::Items;
+use rustsec_versions::Result;
+use std::alloc::Global;
+
+/// The warnings about a lockfile's packages that settings ask for: kind by kind, each list by package in
+/// the lockfile's order, then by advisory in the database's.
+///
+/// # Errors
+///
+/// `OutOfMemory` alone.
+pub fn find_warnings(
+    alloc: Global,
+    database: &Database,
+    lockfile: &Lockfile,
+    settings: &Settings,
+) -> Result<WarningInfo>
+    ensures ok { IfOk result (λ ws. ws ≡ warnings database.now lockfile.now.packages settings.now) }
+    ensures err { IfErr result IsMemory }
+{
+    let query = settings.query(alloc)?.informational(true);
+    let found = database.query_vulnerabilities(alloc, lockfile, &query)?;
+    warnings_of(alloc, Items::from(found), settings)
+}
+
+/// The vulnerabilities of a lockfile's packages that settings ask for, less those of ignored advisories.
+fn find_vulnerabilities(
+    alloc: Global,
+    database: &Database,
+    lockfile: &Lockfile,
+    settings: &Settings,
+) -> Result<VulnerabilityInfo>
+    ensures ok { IfOk result (λ i. i ≡ info_of (vulnerabilities database.now lockfile.now.packages settings.now)) }
+    ensures err { IfErr result IsMemory }
+{
+    let query = settings.query(alloc)?;
+    let found = database.query_vulnerabilities(alloc, lockfile, &query)?;
+    let counted = without_ignored(Items::from(found), &settings.ignore);
+    Ok(VulnerabilityInfo::of_items(counted))
+}
+
+impl Report {
+    /// The report of a lockfile by a database: the pairs of a package and an advisory that the settings
+    /// select, less ignored advisories, as vulnerabilities and, of informational advisories, as
+    /// warnings. Each list goes by package in the lockfile's order, then by advisory in the database's;
+    /// a package that stands twice gives its pairs twice.
+    ///
+    /// # Errors
+    ///
+    /// `OutOfMemory` alone.
+    pub fn generate(
+        alloc: Global,
+        database: &Database,
+        lockfile: &Lockfile,
+        settings: &Settings,
+    ) -> Result<Report>
+        ensures ok { IfOk result (λ r. r ≡ report_of database.now lockfile.now.packages settings.now) }
+
+        // No advisory in it is withdrawn or ignored; those of vulnerabilities are not informational,
+        // those of warnings are.
+        ensures holds { IfOk result ListsWhatIsInForce }
+        ensures err { IfErr result IsMemory }
+    {
+        let vulnerabilities = find_vulnerabilities(alloc, database, lockfile, settings)?;
+        let warnings = find_warnings(alloc, database, lockfile, settings)?;
+        let settings = settings.clone(alloc)?;
+        Ok(Report {
+            lockfile: LockfileInfo::new(lockfile),
+            settings,
+            vulnerabilities,
+            warnings,
+        })
+    }
+}

@@ -1,0 +1,269 @@
+// The JSON tree of a report.
+
+ghost use Rattle.std.specs.Prelude.{◌≡◌, [], ◌∷◌, IfErr, IfOk, OnOk};
+ghost use Rattle.serde_json.specs.View.{members_view, view};
+ghost use Rattle.rustsec_json.specs.Trees.{list_tree, optional_tree};
+ghost use Rattle.rustsec_versions.specs.Failure.{IsMemory};
+ghost use Rattle.rustsec_report.specs.Trees.{info_entries, kinds_of_warnings, lockfile_tree, metadata_tree, object_of, report_entries, report_tree, settings_entries, settings_tree, severity_tree, versions_tree, vulnerabilities_tree, vulnerability_entries, vulnerability_tree, warning_entries, warning_tree, with_members};
+
+use crate::advisory_tree::{affected_tree, metadata_tree, package_tree, versions_tree};
+use crate::info::{LockfileInfo, VulnerabilityInfo};
+use crate::object::{Members, put_tree, put_value};
+use crate::report::Report;
+use crate::settings::Settings;
+use crate::warning::Warning;
+use crate::warnings::WarningInfo;
+use rustsec_advisory::Metadata;
+use rustsec_json::ToTree;
+use rustsec_lock::Severity;
+use rustsec_query::Vulnerability;
+use rustsec_versions::{Result, Versions};
+use serde_json::Value;
+use std::alloc::{AllocError, Global};
+
+/// Sets the keys of a vulnerability.
+#[tactic(auto, unfolding(crate::specs::Trees::with_members))]
+fn put_vulnerability(
+    alloc: Global,
+    members: &mut Members,
+    vulnerability: &Vulnerability,
+) -> std::result::Result<(), AllocError>
+    ensures { OnOk result (members_view members.new.entries
+        ≡ with_members (members_view members.old.entries) (vulnerability_entries vulnerability.now)) }
+{
+    let advisory = metadata_tree(alloc, &vulnerability.advisory)?;
+    put_tree(alloc, members, "advisory", advisory)?;
+    let affected = affected_tree(alloc, &vulnerability.affected)?;
+    put_tree(alloc, members, "affected", affected)?;
+    let package = package_tree(alloc, &vulnerability.package)?;
+    put_tree(alloc, members, "package", package)?;
+    let versions = versions_tree(alloc, &vulnerability.versions)?;
+    put_tree(alloc, members, "versions", versions)
+}
+
+/// The tree of a vulnerability.
+#[tactic(auto, unfolding(crate::specs::Trees::vulnerability_tree))]
+fn vulnerability_tree(
+    alloc: Global,
+    vulnerability: &Vulnerability,
+) -> std::result::Result<Value, AllocError>
+    ensures { IfOk result (λ v. view v ≡ vulnerability_tree vulnerability.now) }
+{
+    let mut members = Members::new(alloc);
+    put_vulnerability(alloc, &mut members, vulnerability)?;
+    Ok(Value::from(members))
+}
+
+/// The tree of vulnerabilities: a list of theirs.
+fn list_tree(alloc: Global, list: &[Vulnerability]) -> std::result::Result<Value, AllocError>
+    ensures { IfOk result (λ v. view v ≡ list_tree vulnerability_tree list.now) }
+{
+    let mut trees = Vec::new(alloc);
+    for vulnerability in list {
+        trees.push(vulnerability_tree(alloc, vulnerability)?)?;
+    }
+    Ok(Value::from(trees))
+}
+
+/// The tree of what a warning's advisory says of itself, null where there is none.
+fn optional_metadata_tree(
+    alloc: Global,
+    metadata: &Option<Metadata>,
+) -> std::result::Result<Value, AllocError>
+    ensures { IfOk result (λ v. view v ≡ optional_tree metadata_tree metadata.now) }
+{
+    match metadata {
+        Some(metadata) => metadata_tree(alloc, metadata),
+        None => Ok(Value::Null),
+    }
+}
+
+/// The tree of a warning's lists of requirements, null where there are none.
+fn optional_versions_tree(
+    alloc: Global,
+    versions: &Option<Versions>,
+) -> std::result::Result<Value, AllocError>
+    ensures { IfOk result (λ v. view v ≡ optional_tree versions_tree versions.now) }
+{
+    match versions {
+        Some(versions) => versions_tree(alloc, versions),
+        None => Ok(Value::Null),
+    }
+}
+
+/// Sets the keys of a warning.
+#[tactic(auto, unfolding(crate::specs::Trees::with_members))]
+fn put_warning(
+    alloc: Global,
+    members: &mut Members,
+    warning: &Warning,
+) -> std::result::Result<(), AllocError>
+    ensures { OnOk result (members_view members.new.entries
+        ≡ with_members (members_view members.old.entries) (warning_entries warning.now)) }
+{
+    let advisory = optional_metadata_tree(alloc, &warning.advisory)?;
+    put_tree(alloc, members, "advisory", advisory)?;
+    let affected = affected_tree(alloc, &warning.affected)?;
+    put_tree(alloc, members, "affected", affected)?;
+    let kind = Value::try_from_str(alloc, warning.kind.as_str())?;
+    put_tree(alloc, members, "kind", kind)?;
+    let package = package_tree(alloc, &warning.package)?;
+    put_tree(alloc, members, "package", package)?;
+    let versions = optional_versions_tree(alloc, &warning.versions)?;
+    put_tree(alloc, members, "versions", versions)
+}
+
+impl ToTree for Warning {
+    ghost use Rattle.rustsec_report.specs.Trees.{warning_tree};
+
+    ghost tree = { warning_tree };
+
+    #[tactic(auto, unfolding(crate::specs::Trees::warning_tree))]
+    fn to_tree(&self, alloc: Global) -> std::result::Result<Value, AllocError> {
+        let mut members = Members::new(alloc);
+        put_warning(alloc, &mut members, self)?;
+        Ok(Value::from(members))
+    }
+}
+
+/// Sets the key of each kind of warnings to their list.
+#[tactic(auto, unfolding(crate::specs::Trees::with_members))]
+fn put_warnings(
+    alloc: Global,
+    members: &mut Members,
+    warnings: &WarningInfo,
+) -> std::result::Result<(), AllocError>
+    ensures { OnOk result (members_view members.new.entries
+        ≡ with_members (members_view members.old.entries) (kinds_of_warnings warnings.now)) }
+{
+    for (kind, list) in warnings.as_map() {
+        put_value(alloc, members, kind.as_str(), list)?;
+    }
+    Ok(())
+}
+
+/// The tree of warnings: an object from each kind to its list.
+fn warnings_tree(alloc: Global, warnings: &WarningInfo) -> std::result::Result<Value, AllocError>
+    ensures { IfOk result (λ v. view v ≡ object_of (kinds_of_warnings warnings.now)) }
+{
+    let mut members = Members::new(alloc);
+    put_warnings(alloc, &mut members, warnings)?;
+    Ok(Value::from(members))
+}
+
+/// The tree of a severity, null where there is none.
+fn severity_tree(
+    alloc: Global,
+    severity: Option<Severity>,
+) -> std::result::Result<Value, AllocError>
+    ensures { IfOk result (λ v. view v ≡ optional_tree severity_tree severity) }
+{
+    match severity {
+        Some(severity) => Value::try_from_str(alloc, severity.as_str()),
+        None => Ok(Value::Null),
+    }
+}
+
+/// Sets the keys of settings.
+#[tactic(auto, unfolding(crate::specs::Trees::with_members))]
+fn put_settings(
+    alloc: Global,
+    members: &mut Members,
+    settings: &Settings,
+) -> std::result::Result<(), AllocError>
+    ensures { OnOk result (members_view members.new.entries
+        ≡ with_members (members_view members.old.entries) (settings_entries settings.now)) }
+{
+    put_value(alloc, members, "ignore", &settings.ignore)?;
+    let kinds = &settings.informational_warnings;
+    put_value(alloc, members, "informational_warnings", kinds)?;
+    let severity = severity_tree(alloc, settings.severity)?;
+    put_tree(alloc, members, "severity", severity)?;
+    put_value(alloc, members, "target_arch", &settings.target_arch)?;
+    put_value(alloc, members, "target_os", &settings.target_os)
+}
+
+/// The tree of settings.
+fn settings_tree(alloc: Global, settings: &Settings) -> std::result::Result<Value, AllocError>
+    ensures { IfOk result (λ v. view v ≡ settings_tree settings.now) }
+{
+    let mut members = Members::new(alloc);
+    put_settings(alloc, &mut members, settings)?;
+    Ok(Value::from(members))
+}
+
+/// The tree of what is said of a lockfile.
+#[tactic(auto, unfolding(crate::specs::Trees::with_members))]
+fn lockfile_tree(alloc: Global, info: LockfileInfo) -> std::result::Result<Value, AllocError>
+    ensures { IfOk result (λ v. view v ≡ lockfile_tree info) }
+{
+    let mut members = Members::new(alloc);
+    let count = Value::from(info.dependency_count);
+    put_tree(alloc, &mut members, "dependency-count", count)?;
+    Ok(Value::from(members))
+}
+
+/// Sets the keys of the vulnerabilities.
+#[tactic(auto, unfolding(crate::specs::Trees::with_members))]
+fn put_info(
+    alloc: Global,
+    members: &mut Members,
+    info: &VulnerabilityInfo,
+) -> std::result::Result<(), AllocError>
+    ensures { OnOk result (members_view members.new.entries
+        ≡ with_members (members_view members.old.entries) (info_entries info.now)) }
+{
+    put_tree(alloc, members, "count", Value::from(info.count))?;
+    put_tree(alloc, members, "found", Value::from(info.found))?;
+    let list = list_tree(alloc, info.list.as_slice())?;
+    put_tree(alloc, members, "list", list)
+}
+
+/// The tree of the vulnerabilities.
+fn vulnerabilities_tree(
+    alloc: Global,
+    info: &VulnerabilityInfo,
+) -> std::result::Result<Value, AllocError>
+    ensures { IfOk result (λ v. view v ≡ vulnerabilities_tree info.now) }
+{
+    let mut members = Members::new(alloc);
+    put_info(alloc, &mut members, info)?;
+    Ok(Value::from(members))
+}
+
+/// Sets the keys of a report.
+#[tactic(auto, unfolding(crate::specs::Trees::with_members))]
+fn put_report(
+    alloc: Global,
+    members: &mut Members,
+    report: &Report,
+) -> std::result::Result<(), AllocError>
+    ensures { OnOk result (members_view members.new.entries
+        ≡ with_members (members_view members.old.entries) (report_entries report.now)) }
+{
+    let lockfile = lockfile_tree(alloc, report.lockfile)?;
+    put_tree(alloc, members, "lockfile", lockfile)?;
+    let settings = settings_tree(alloc, &report.settings)?;
+    put_tree(alloc, members, "settings", settings)?;
+    let vulnerabilities = vulnerabilities_tree(alloc, &report.vulnerabilities)?;
+    put_tree(alloc, members, "vulnerabilities", vulnerabilities)?;
+    let warnings = warnings_tree(alloc, &report.warnings)?;
+    put_tree(alloc, members, "warnings", warnings)
+}
+
+impl Report {
+    /// The report as a JSON tree, as documents of reports have it.
+    ///
+    /// # Errors
+    ///
+    /// `OutOfMemory` alone.
+    #[tactic(auto, unfolding(crate::specs::Trees::report_tree))]
+    pub fn to_value(&self, alloc: Global) -> Result<Value>
+        ensures ok { IfOk result (λ v. view v ≡ report_tree self.now) }
+        ensures err { IfErr result IsMemory }
+    {
+        let mut members = Members::new(alloc);
+        put_report(alloc, &mut members, self)?;
+        Ok(Value::from(members))
+    }
+}

@@ -1,0 +1,118 @@
+// What a report is made with.
+
+ghost use Rattle.std.specs.Prelude.{◌≡◌, [], IfErr, IfOk, None};
+ghost use Rattle.rustsec_versions.specs.Failure.{IsMemory};
+ghost use Rattle.rustsec_report.specs.Report.{query_of};
+
+use rustsec_lock::Severity;
+use rustsec_lock::platforms::{Arch, OS};
+use rustsec_query::Query;
+use rustsec_texts::{Id, Informational};
+use rustsec_values::{ExactClone, Items};
+use rustsec_versions::Result;
+use std::alloc::{AllocError, Global};
+
+/// What a report is asked for.
+pub struct Settings {
+    /// The architectures, of which an advisory must affect one; any where there is none.
+    pub target_arch: Items<Arch>,
+    /// The systems, likewise.
+    pub target_os: Items<OS>,
+    /// The least severity of an advisory that has one.
+    pub severity: Option<Severity>,
+    /// The IDs of advisories to leave out.
+    pub ignore: Items<Id>,
+    /// The kinds of informational advisories to warn about.
+    pub informational_warnings: Items<Informational>,
+}
+
+/// One place drops the fields, so that the end of an owner's life is one step of its proof.
+impl Drop for Settings {
+    fn drop(self) {
+        let Settings {
+            target_arch: _,
+            target_os: _,
+            severity: _,
+            ignore: _,
+            informational_warnings: _,
+        } = self;
+    }
+}
+
+impl Settings {
+    /// Settings that ask for nothing: any platform and severity, nothing ignored, no warnings. This
+    /// takes no memory.
+    pub fn new(alloc: Global) -> Settings
+        ensures { result ≡ record {
+          target_arch = [];
+          target_os = [];
+          severity = None;
+          ignore = [];
+          informational_warnings = [];
+        } }
+    {
+        Settings {
+            target_arch: Items::new(alloc),
+            target_os: Items::new(alloc),
+            severity: None,
+            ignore: Items::new(alloc),
+            informational_warnings: Items::new(alloc),
+        }
+    }
+
+    /// The query for vulnerabilities: that of published packages, with the platforms and the severity.
+    /// No query leaves out ignored advisories.
+    ///
+    /// # Errors
+    ///
+    /// `OutOfMemory` alone.
+    pub fn query(&self, alloc: Global) -> Result<Query>
+        ensures ok { IfOk result (λ q. q ≡ query_of self.now) }
+        ensures err { IfErr result IsMemory }
+    {
+        let arch = Clone::clone(&self.target_arch)?;
+        let os = Clone::clone(&self.target_os)?;
+        let query = Query::crate_scope(alloc)
+            .target_arch(Vec::from(arch))
+            .target_os(Vec::from(os));
+        match self.severity {
+            Some(severity) => Ok(query.severity(severity)),
+            None => Ok(query),
+        }
+    }
+
+    /// Equal settings.
+    ///
+    /// # Errors
+    ///
+    /// `OutOfMemory` alone.
+    pub fn clone(&self, _alloc: Global) -> Result<Settings>
+        ensures ok { IfOk result (λ s. s ≡ self.now) }
+        ensures err { IfErr result IsMemory }
+    {
+        let copy = Clone::clone(self)?;
+        Ok(copy)
+    }
+}
+
+impl Clone for Settings {
+    ghost is_clone = { λ a b. b ≡ a };
+
+    fn clone(&self) -> std::result::Result<Settings, AllocError> {
+        let target_arch = Clone::clone(&self.target_arch)?;
+        let target_os = Clone::clone(&self.target_os)?;
+        let ignore = Clone::clone(&self.ignore)?;
+        let informational_warnings = Clone::clone(&self.informational_warnings)?;
+        Ok(Settings {
+            target_arch,
+            target_os,
+            severity: self.severity,
+            ignore,
+            informational_warnings,
+        })
+    }
+}
+
+impl ExactClone for Settings {
+    ghost exact = { λ x y e. e };
+}

@@ -1,0 +1,142 @@
+// Warnings about packages.
+
+ghost use Rattle.std.specs.Prelude.{◌≡◌, ◌↔◌, IfErr, IfOk, IsTrue};
+ghost use Rattle.rustsec_versions.specs.Failure.{IsMemory};
+
+use rustsec_advisory::{Affected, Metadata};
+use rustsec_lock::package::Package;
+use rustsec_texts::WarningKind;
+use rustsec_values::ExactClone;
+use rustsec_versions::{Result, Versions};
+use std::alloc::{AllocError, Global};
+
+/// A warning about a package, with the advisory that it comes from, where there is one.
+pub struct Warning {
+    /// What it is about.
+    pub kind: WarningKind,
+    /// The package.
+    pub package: Package,
+    /// What the advisory says of itself.
+    pub advisory: Option<Metadata>,
+    /// Which platforms and functions are affected, where the advisory says so.
+    pub affected: Option<Affected>,
+    /// The requirements that tell which versions are affected.
+    pub versions: Option<Versions>,
+}
+
+/// One place drops the fields, so that the end of an owner's life is one step of its proof.
+impl Drop for Warning {
+    fn drop(self) {
+        let Warning {
+            kind: _,
+            package: _,
+            advisory: _,
+            affected: _,
+            versions: _,
+        } = self;
+    }
+}
+
+impl Warning {
+    /// A warning of a kind about a copy of a package.
+    ///
+    /// # Errors
+    ///
+    /// `OutOfMemory` alone.
+    pub fn new(
+        _alloc: Global,
+        kind: WarningKind,
+        package: &Package,
+        advisory: Option<Metadata>,
+        affected: Option<Affected>,
+        versions: Option<Versions>,
+    ) -> Result<Warning>
+        ensures ok { IfOk result (λ w. w ≡ record {
+          kind = kind;
+          «package» = «package».now;
+          advisory = advisory;
+          affected = affected;
+          versions = versions;
+        }) }
+        ensures err { IfErr result IsMemory }
+    {
+        let package = Clone::clone(package)?;
+        Ok(Warning {
+            kind,
+            package,
+            advisory,
+            affected,
+            versions,
+        })
+    }
+
+    /// Whether it is a notice.
+    pub fn is_notice(&self) -> bool
+        ensures { IsTrue result ↔ (self.now.kind ≡ WarningKind.Notice) }
+    {
+        self.kind == WarningKind::Notice
+    }
+
+    /// Whether it is about a package that nobody maintains.
+    pub fn is_unmaintained(&self) -> bool
+        ensures { IsTrue result ↔ (self.now.kind ≡ WarningKind.Unmaintained) }
+    {
+        self.kind == WarningKind::Unmaintained
+    }
+
+    /// Whether it is about a package that is not sound.
+    pub fn is_unsound(&self) -> bool
+        ensures { IsTrue result ↔ (self.now.kind ≡ WarningKind.Unsound) }
+    {
+        self.kind == WarningKind::Unsound
+    }
+
+    /// Whether it is about a version that was withdrawn from its registry.
+    pub fn is_yanked(&self) -> bool
+        ensures { IsTrue result ↔ (self.now.kind ≡ WarningKind.Yanked) }
+    {
+        self.kind == WarningKind::Yanked
+    }
+
+    /// An equal warning.
+    ///
+    /// # Errors
+    ///
+    /// `OutOfMemory` alone.
+    pub fn clone(&self, _alloc: Global) -> Result<Warning>
+        ensures ok { IfOk result (λ w. w ≡ self.now) }
+        ensures err { IfErr result IsMemory }
+    {
+        let copy = Clone::clone(self)?;
+        Ok(copy)
+    }
+}
+
+/// A copy of a value that may be missing.
+fn copy_of<T: ExactClone>(value: &Option<T>) -> std::result::Result<Option<T>, AllocError>
+    ensures { IfOk result (λ copy. copy ≡ value.now) }
+{
+    Clone::clone(value)
+}
+
+impl Clone for Warning {
+    ghost is_clone = { λ a b. b ≡ a };
+
+    fn clone(&self) -> std::result::Result<Warning, AllocError> {
+        let package = Clone::clone(&self.package)?;
+        let advisory = copy_of(&self.advisory)?;
+        let affected = copy_of(&self.affected)?;
+        let versions = copy_of(&self.versions)?;
+        Ok(Warning {
+            kind: self.kind,
+            package,
+            advisory,
+            affected,
+            versions,
+        })
+    }
+}
+
+impl ExactClone for Warning {
+    ghost exact = { λ x y e. e };
+}

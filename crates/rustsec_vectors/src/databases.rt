@@ -1,0 +1,321 @@
+// Databases: what is loaded from files, where it refuses, and what is found in it.
+
+use crate::advisory_texts::{VALID, changed};
+use crate::fixtures::kind_of;
+use crate::folders_in_memory::{Failing, Holds, MemoryFolders, Paths};
+use rustsec_database::{Database, Entries, SourceFile};
+use rustsec_lock::Lockfile;
+use rustsec_lock::package::Name;
+use rustsec_query::Query;
+use rustsec_texts::{Collection, Id};
+use rustsec_values::Text;
+use rustsec_versions::ErrorKind;
+use std::alloc::Global;
+use std::process::Abort;
+use std::test::Fail;
+
+/// Where the valid advisory stands.
+const PLACE: &str = "crates/base/RUSTSEC-2001-2101.md";
+
+/// Where a draft of it stands.
+const DRAFT: &str = "crates/base/RUSTSEC-0000-0000.md";
+
+/// A file: its path, and a change of the valid advisory.
+type Change<'a> = (&'a str, &'a str, &'a str);
+
+/// The kind of the refusal of the last of some files, and how many advisories are stored then.
+fn loaded(alloc: Global, files: &[Change<'_>]) -> Result<(Option<ErrorKind>, usize), Fail> {
+    let mut entries = Entries::new(alloc);
+    let mut kind = None;
+    for (path, old, new) in files {
+        let text = changed(alloc, VALID, old, new)?;
+        kind = kind_of(entries.load_text(alloc, path, &text));
+    }
+    Ok((kind, entries.iter().count()))
+}
+
+/// Checks what is loaded of the valid advisory at some paths: where nothing is refused, one is stored.
+fn expect_paths<T: AllocGlobal + Abort>(
+    rt: &T,
+    rows: &[(&str, Option<ErrorKind>)],
+) -> Result<(), Fail> {
+    for (path, expected) in rows {
+        let (kind, stored) = loaded(rt.alloc(), &[(*path, "", "")])?;
+        let count = if expected.is_none() { 1 } else { 0 };
+        assert!(rt; kind == *expected && stored == count, "{path}");
+    }
+    Ok(())
+}
+
+#[test]
+fn load_path_forms(rt: HostRuntime) -> Result<(), Fail> {
+    expect_paths(
+        &rt,
+        &[
+            (PLACE, None),
+            ("crates//base/./RUSTSEC-2001-2101.md", None),
+            ("crates/base/RUSTSEC-2001-2101.md/", None),
+            ("rust/base/RUSTSEC-2001-2101.md", None),
+            ("crates/base/RUSTSEC-0000-0000.x.md", None),
+            ("", Some(ErrorKind::Repo)),
+            ("/", Some(ErrorKind::Repo)),
+            ("crates/base/..", Some(ErrorKind::Repo)),
+            ("crates/base/.md", Some(ErrorKind::Repo)),
+            ("crates/base/RUSTSEC-2001-2101.MD", Some(ErrorKind::Repo)),
+            ("base/RUSTSEC-2001-2101.md", Some(ErrorKind::Repo)),
+            ("crates/other/RUSTSEC-2001-2101.md", Some(ErrorKind::Repo)),
+            ("npm/base/RUSTSEC-2001-2101.md", Some(ErrorKind::Repo)),
+            ("RUSTSEC-0000-0000.md", Some(ErrorKind::Repo)),
+            ("x.md", Some(ErrorKind::Repo)),
+            ("RUSTSEC-2001-2101.md", Some(ErrorKind::Repo)),
+        ],
+    )
+}
+
+/// Files of which the last is looked at, the kind of its refusal, and how many are stored then.
+type Row<'a> = (&'a [Change<'a>], Option<ErrorKind>, usize);
+
+/// Checks what is loaded of files.
+fn expect_rows<T: AllocGlobal + Abort>(rt: &T, rows: &[Row<'_>]) -> Result<(), Fail> {
+    for (i, (files, expected, count)) in rows.iter().enumerate() {
+        let (kind, stored) = loaded(rt.alloc(), files)?;
+        assert!(rt; kind == *expected && stored == *count, "row {i}");
+    }
+    Ok(())
+}
+
+#[test]
+fn load_paths(rt: HostRuntime) -> Result<(), Fail> {
+    let placeholder = (DRAFT, "RUSTSEC-2001-2101", "RUSTSEC-0000-0000");
+    expect_rows(
+        &rt,
+        &[
+            (&[(DRAFT, "", "")], None, 1),
+            (&[placeholder], None, 0),
+            (&[placeholder, placeholder], None, 0),
+            (
+                &[(DRAFT, "", ""), (PLACE, "", "")],
+                Some(ErrorKind::Parse),
+                1,
+            ),
+            (
+                &[(PLACE, "", ""), (PLACE, "", "")],
+                Some(ErrorKind::Parse),
+                1,
+            ),
+        ],
+    )
+}
+
+#[test]
+fn checks_in_order(rt: HostRuntime) -> Result<(), Fail> {
+    let broken = ("x", "package", "packag");
+    let explicit = "collection = \"rust\"\ndate";
+    let draft_of_rust = "RUSTSEC-0000-0000\"\ncollection = \"rust";
+    expect_rows(
+        &rt,
+        &[
+            // A text that is no advisory comes before its path.
+            (&[broken], Some(ErrorKind::Parse), 0),
+            (&[(PLACE, "date", explicit)], Some(ErrorKind::Parse), 0),
+            (
+                &[("rust/base/RUSTSEC-2001-2101.md", "date", explicit)],
+                None,
+                1,
+            ),
+            // A draft with another collection is at fault before the placeholder ends the checks.
+            (
+                &[(DRAFT, "RUSTSEC-2001-2101", draft_of_rust)],
+                Some(ErrorKind::Parse),
+                0,
+            ),
+        ],
+    )
+}
+
+/// Files of a database.
+fn source_files(alloc: Global, files: &[Change<'_>]) -> Result<Vec<SourceFile>, Fail> {
+    let mut list = Vec::new(alloc);
+    for (path, old, new) in files {
+        let text = Text::from(changed(alloc, VALID, old, new)?);
+        let path = Text::from_str(alloc, path)?;
+        list.push(SourceFile { path, text })?;
+    }
+    Ok(list)
+}
+
+/// The kind of a database's refusal, or how many advisories it has.
+fn database(alloc: Global, files: &[Change<'_>]) -> Result<Result<usize, ErrorKind>, Fail> {
+    let files = source_files(alloc, files)?;
+    Ok(match Database::load(alloc, files.as_slice()) {
+        Ok(database) => Ok(database.iter().count()),
+        Err(e) => Err(e.kind()),
+    })
+}
+
+#[test]
+fn load_first_fault(rt: HostRuntime) -> Result<(), Fail> {
+    let good = (PLACE, "", "");
+    let misplaced = ("crates/base/x.md", "2101\"\np", "2102\"\np");
+    let broken = (PLACE, "package", "packag");
+    let rows: [(&[Change<'_>], Result<usize, ErrorKind>); 4] = [
+        (&[good, misplaced, broken], Err(ErrorKind::Repo)),
+        (&[good, broken, misplaced], Err(ErrorKind::Parse)),
+        (&[], Ok(0)),
+        (&[good], Ok(1)),
+    ];
+    for (i, (files, expected)) in rows.iter().enumerate() {
+        let found = database(rt.alloc(), files)?;
+        assert!(rt; found == *expected, "row {i}");
+    }
+    Ok(())
+}
+
+/// The database of the valid advisory in `crates` and another one in `rust`.
+fn two(alloc: Global) -> Result<Database, Fail> {
+    let other = ("rust/base/RUSTSEC-2001-2102.md", "2101\"\np", "2102\"\np");
+    let files = source_files(alloc, &[(PLACE, "", ""), other])?;
+    Ok(Database::load(alloc, files.as_slice())?)
+}
+
+/// How many advisories a query for a year finds in it, with a collection and a name where they are given.
+fn found(
+    alloc: Global,
+    collection: Option<Collection>,
+    name: Option<&str>,
+    year: u32,
+) -> Result<usize, Fail> {
+    let mut query = Query::new(alloc).year(year);
+    if let Some(collection) = collection {
+        query = query.collection(collection);
+    }
+    if let Some(name) = name {
+        query = query.package_name(Name::from_str(alloc, name)?);
+    }
+    let database = two(alloc)?;
+    let found = database.query(alloc, &query)?;
+    Ok(found.len())
+}
+
+#[test]
+fn queries(rt: HostRuntime) -> Result<(), Fail> {
+    for (collection, name, year, expected) in [
+        (Some(Collection::Crates), Some("base"), 2525, 0),
+        (Some(Collection::Crates), Some("base"), 2001, 1),
+        (Some(Collection::Rust), Some("base"), 2001, 1),
+        (Some(Collection::Rust), Some("other"), 2001, 0),
+        (Some(Collection::Crates), None, 2001, 1),
+        (None, Some("base"), 2001, 2),
+        (None, None, 2001, 2),
+        (None, None, 2525, 0),
+    ] {
+        let found = found(rt.alloc(), collection, name, year)?;
+        assert!(rt; found == expected, "{name:?}, {year}");
+    }
+    Ok(())
+}
+
+/// Whether the database has an advisory with an ID.
+fn has(alloc: Global, id: &str) -> Result<bool, Fail> {
+    let id = Id::from_str(alloc, id)?;
+    let database = two(alloc)?;
+    Ok(match database.get(&id) {
+        Some(advisory) => *advisory.id() == id,
+        None => false,
+    })
+}
+
+#[test]
+fn look_ups_by_id(rt: HostRuntime) -> Result<(), Fail> {
+    for (id, expected) in [
+        ("RUSTSEC-2001-2101", true),
+        ("RUSTSEC-2001-2102", true),
+        ("RUSTSEC-2001-2103", false),
+        ("RUSTSEC-0000-0000", false),
+    ] {
+        let found = has(rt.alloc(), id)?;
+        assert!(rt; found == expected, "{id}");
+    }
+    Ok(())
+}
+
+/// A lockfile in which a vulnerable package stands twice, and once more without a source.
+const LOCKFILE: &str = "
+[[package]]
+name = \"base\"
+version = \"1.0.0\"
+source = \"registry+https://github.com/rust-lang/crates.io-index\"
+
+[[package]]
+name = \"base\"
+version = \"1.0.0\"
+
+[[package]]
+name = \"base\"
+version = \"1.2.3\"
+source = \"registry+https://github.com/rust-lang/crates.io-index\"
+
+[[package]]
+name = \"base\"
+version = \"1.0.0\"
+source = \"registry+https://github.com/rust-lang/crates.io-index\"
+";
+
+/// How many vulnerabilities the lockfile has, by the scope of crates and by a query for nothing.
+fn vulnerabilities(alloc: Global) -> Result<(usize, usize), Fail> {
+    let lockfile = Lockfile::from_str(alloc, LOCKFILE)?;
+    let database = two(alloc)?;
+    let crates = database.vulnerabilities(alloc, &lockfile)?.len();
+    let all = database.query_vulnerabilities(alloc, &lockfile, &Query::new(alloc))?;
+    Ok((crates, all.len()))
+}
+
+#[test]
+fn a_package_that_stands_twice(rt: HostRuntime) -> Result<(), Fail> {
+    let (crates, all) = vulnerabilities(rt.alloc())?;
+    assert!(rt; crates == 2 && all == 4);
+    Ok(())
+}
+
+/// A root with one advisory, a file beside its folder, and a file that begins with a dot; `rust` isn't there.
+const ROOT: Paths<'_> = &[
+    (
+        "db/crates",
+        Holds::Entries(&[("base", true), ("README", false)]),
+    ),
+    (
+        "db/crates/base",
+        Holds::Entries(&[(".DS_Store", false), ("RUSTSEC-2001-2101.md", false)]),
+    ),
+    ("db/crates/base/RUSTSEC-2001-2101.md", Holds::Text(VALID)),
+];
+
+/// How many advisories a root gives whose call at this place fails, or the kind of the refusal.
+fn opened(alloc: Global, root: &str, at: u64) -> std::result::Result<usize, ErrorKind> {
+    let failing = Failing {
+        at,
+        kind: ErrorKind::Io,
+    };
+    let mut folders = MemoryFolders::new(ROOT, failing);
+    match Database::open_with(alloc, &mut folders, root) {
+        Ok(database) => Ok(database.iter().count()),
+        Err(e) => Err(e.kind()),
+    }
+}
+
+// The calls list `crates`, list `base`, read the advisory, and list `rust`, which may fail.
+#[test]
+fn open_folders(rt: HostRuntime) -> Result<(), Fail> {
+    for (root, at, expected) in [
+        ("db", 0, Ok(1)),
+        ("db", 1, Err(ErrorKind::Io)),
+        ("db", 2, Err(ErrorKind::Io)),
+        ("db", 3, Err(ErrorKind::Io)),
+        ("db", 4, Ok(1)),
+        ("absent", 0, Err(ErrorKind::Io)),
+    ] {
+        let found = opened(rt.alloc(), root, at);
+        assert!(rt; found == expected, "{root}, {at}");
+    }
+    Ok(())
+}

@@ -1,0 +1,312 @@
+// Reports: which pairs they list, their JSON trees, and what of them applies to compiled programs.
+
+use rustsec_advisory::Affected;
+use rustsec_database::{Database, SourceFile};
+use rustsec_lock::package::{Name, Package};
+use rustsec_lock::platforms::OS;
+use rustsec_lock::{Lockfile, Severity};
+use rustsec_query::Vulnerability;
+use rustsec_report::{
+    BinaryFormat, LockfileInfo, Report, Settings, VulnerabilityInfo, Warning, WarningInfo,
+    filter_report_by_binary_type,
+};
+use rustsec_texts::{Id, Informational, WarningKind};
+use rustsec_values::{Items, Text};
+use semver::Version;
+use std::alloc::Global;
+use std::process::Abort;
+use std::test::Fail;
+
+// ---- JSON trees
+
+/// Settings that ask for all warnings of informational advisories.
+fn all_warnings(alloc: Global) -> Result<Settings, Fail> {
+    let mut settings = Settings::new(alloc);
+    let wanted = &mut settings.informational_warnings;
+    wanted.push(Informational::Notice)?;
+    wanted.push(Informational::Unmaintained)?;
+    wanted.push(Informational::Unsound)?;
+    Ok(settings)
+}
+
+/// The report of no package by no advisory.
+fn empty_report(alloc: Global) -> Result<Report, Fail> {
+    let settings = all_warnings(alloc)?;
+    let lockfile = Lockfile::from_str(alloc, "")?;
+    let database = Database::load(alloc, &[])?;
+    Ok(Report::generate(alloc, &database, &lockfile, &settings)?)
+}
+
+/// Whether a report is written as a text.
+fn is_written(alloc: Global, report: &Report, text: &str) -> Result<bool, Fail> {
+    let value = report.to_value(alloc)?;
+    let found = value.to_string(alloc)?;
+    Ok(found.as_str() == text)
+}
+
+/// The tree of the empty report.
+const EMPTY: &str = "{\"lockfile\":{\"dependency-count\":0},\"settings\":{\"ignore\":[],\
+    \"informational_warnings\":[\"notice\",\"unmaintained\",\"unsound\"],\"severity\":null,\
+    \"target_arch\":[],\"target_os\":[]},\"vulnerabilities\":{\"count\":0,\"found\":false,\
+    \"list\":[]},\"warnings\":{}}";
+
+/// Whether the empty report is written as it should be.
+fn empty_is_written(alloc: Global) -> Result<bool, Fail> {
+    let report = empty_report(alloc)?;
+    is_written(alloc, &report, EMPTY)
+}
+
+#[test]
+fn empty_report_text(rt: HostRuntime) -> Result<(), Fail> {
+    let found = empty_is_written(rt.alloc())?;
+    assert!(rt; found);
+    Ok(())
+}
+
+// ---- the filter
+
+/// A notice about a package, whose advisory affects one system.
+fn notice(alloc: Global, system: OS) -> Result<Warning, Fail> {
+    let package = Package {
+        name: Name::from_str(alloc, "base")?,
+        version: Version::parse(alloc, "1.0.0")?,
+        source: None,
+        checksum: None,
+    };
+    let mut affected = Affected::default(alloc);
+    affected.os.push(system)?;
+    Ok(Warning::new(
+        alloc,
+        WarningKind::Notice,
+        &package,
+        None,
+        Some(affected),
+        None,
+    )?)
+}
+
+/// The notice alone, by its kind.
+fn notices(alloc: Global, system: OS) -> Result<WarningInfo, Fail> {
+    let mut list = Items::new(alloc);
+    list.push(notice(alloc, system)?)?;
+    let mut warnings = WarningInfo::new(alloc);
+    warnings.insert(WarningKind::Notice, list)?;
+    Ok(warnings)
+}
+
+/// How many notices a format leaves, none where the kind is gone.
+fn left(alloc: Global, system: OS, format: BinaryFormat, times: u8) -> Result<Option<usize>, Fail> {
+    let mut report = Report {
+        lockfile: LockfileInfo {
+            dependency_count: 1,
+        },
+        settings: Settings::new(alloc),
+        vulnerabilities: VulnerabilityInfo::default(alloc),
+        warnings: notices(alloc, system)?,
+    };
+    for _ in 0..times {
+        filter_report_by_binary_type(&format, &mut report);
+    }
+    match report.warnings.get(&WarningKind::Notice) {
+        Some(list) => Ok(Some(list.len())),
+        None => Ok(None),
+    }
+}
+
+/// An affected system, a format, how often the filter is called, and how many notices are left.
+type FilterRow = (OS, BinaryFormat, u8, usize);
+
+/// Checks how many notices are left, and that their kind is.
+fn expect_left<T: AllocGlobal + Abort>(rt: &T, rows: &[FilterRow]) -> Result<(), Fail> {
+    for (system, format, times, expected) in rows {
+        let found = left(rt.alloc(), *system, *format, *times)?;
+        assert!(rt; found == Some(*expected), "{format:?}, {times} times");
+    }
+    Ok(())
+}
+
+#[test]
+fn filter_keeps_empty_kind(rt: HostRuntime) -> Result<(), Fail> {
+    expect_left(
+        &rt,
+        &[
+            (OS::Windows, BinaryFormat::Elf64, 1, 0),
+            (OS::Windows, BinaryFormat::Elf64, 2, 0),
+            (OS::Windows, BinaryFormat::Elf32, 1, 0),
+            (OS::Windows, BinaryFormat::Macho, 1, 0),
+            (OS::Windows, BinaryFormat::Wasm, 1, 0),
+            (OS::Windows, BinaryFormat::PE, 2, 1),
+            (OS::Windows, BinaryFormat::Unknown, 1, 1),
+            (OS::VisionOS, BinaryFormat::Macho, 1, 1),
+            (OS::VisionOS, BinaryFormat::Elf32, 1, 0),
+            (OS::Linux, BinaryFormat::Elf32, 1, 1),
+            (OS::Linux, BinaryFormat::PE, 1, 0),
+            (OS::None, BinaryFormat::Wasm, 1, 1),
+            (OS::Unknown, BinaryFormat::Elf64, 1, 1),
+        ],
+    )
+}
+
+// ---- which pairs a report lists
+
+/// A file of an advisory for `base`, patched from version 2 on.
+fn file(alloc: Global, id: &str, extra: &str) -> Result<SourceFile, Fail> {
+    let path = format!(in alloc; "crates/base/{id}.md")?;
+    let text = format!(in alloc;
+        "```toml\n[advisory]\nid = \"{id}\"\npackage = \"base\"\n\
+        date = \"2001-02-03\"\n{extra}\n[versions]\npatched = [\">= 2.0.0\"]\n```\n\n# T\n\nD\n"
+    )?;
+    Ok(SourceFile {
+        path: Text::from(path),
+        text: Text::from(text),
+    })
+}
+
+/// A file of an informational advisory.
+fn informational_file(alloc: Global, kind: &str) -> Result<SourceFile, Fail> {
+    let extra = format!(in alloc; "informational = \"{kind}\"")?;
+    file(alloc, "RUSTSEC-2001-0003", &extra)
+}
+
+/// A plain advisory, a withdrawn one, and an informational one of a kind.
+fn database(alloc: Global, kind: &str) -> Result<Database, Fail> {
+    let mut files = Vec::new(alloc);
+    files.push(file(alloc, "RUSTSEC-2001-0001", "")?)?;
+    files.push(file(alloc, "RUSTSEC-2001-0002", "withdrawn = \"2001-02-04\"")?)?;
+    files.push(informational_file(alloc, kind)?)?;
+    Ok(Database::load(alloc, &files)?)
+}
+
+/// The package of the default registry.
+const FIRST: &str = "[[package]]\nname = \"base\"\nversion = \"1.0.0\"\n\
+    source = \"registry+https://github.com/rust-lang/crates.io-index\"\n";
+
+/// Packages of the same name and version from elsewhere.
+const OTHERS: &str = "[[package]]\nname = \"base\"\nversion = \"1.0.0\"\n\
+    [[package]]\nname = \"base\"\nversion = \"1.0.0\"\n\
+    source = \"git+https://example.com/base?branch=x#abc\"\n\
+    [[package]]\nname = \"base\"\nversion = \"1.0.0\"\n\
+    source = \"sparse+https://index.crates.io/\"\n";
+
+/// The four packages, the first one once or twice.
+fn lockfile(alloc: Global, twice: bool) -> Result<Lockfile, Fail> {
+    let again = if twice { FIRST } else { "" };
+    let text = format!(in alloc; "{FIRST}{again}{OTHERS}")?;
+    Ok(Lockfile::from_str(alloc, &text)?)
+}
+
+/// What is asked for, and what is to be found.
+#[derive(Clone, Copy)]
+struct Row<'a> {
+    twice: bool,
+    ignored: &'a str,
+    kind: &'a str,
+    vulnerabilities: usize,
+    warnings: Option<usize>,
+    packages: usize,
+}
+
+/// Settings of severity High, which ask for warnings of a kind and ignore an advisory.
+fn settings(alloc: Global, row: &Row<'_>) -> Result<Settings, Fail> {
+    let mut settings = Settings::new(alloc);
+    settings.severity = Some(Severity::High);
+    settings
+        .informational_warnings
+        .push(Informational::from_str(alloc, row.kind)?)?;
+    settings.ignore.push(Id::from_str(alloc, row.ignored)?)?;
+    Ok(settings)
+}
+
+/// The report of a row.
+fn report(alloc: Global, row: &Row<'_>) -> Result<Report, Fail> {
+    let database = database(alloc, row.kind)?;
+    let lockfile = lockfile(alloc, row.twice)?;
+    let settings = settings(alloc, row)?;
+    Ok(Report::generate(alloc, &database, &lockfile, &settings)?)
+}
+
+/// Whether all vulnerabilities are of the default registry and by one advisory.
+fn are_of_first(list: &[Vulnerability], id: &str) -> bool {
+    for vulnerability in list {
+        let source = &vulnerability.package.source;
+        let is_default = source.as_ref().is_some_and(|s| s.is_default_registry());
+        if !is_default || vulnerability.advisory.id.as_str() != id {
+            return false;
+        }
+    }
+    true
+}
+
+/// Whether a report has what a row wants.
+fn is_wanted(report: &Report, row: &Row<'_>) -> bool {
+    let info = &report.vulnerabilities;
+    let warnings = report.warnings.get(&WarningKind::Unmaintained);
+    info.count == row.vulnerabilities
+        && info.list.len() == row.vulnerabilities
+        && info.found == (row.vulnerabilities > 0)
+        && are_of_first(info.list.as_slice(), "RUSTSEC-2001-0001")
+        && warnings.map(|list| list.len()) == row.warnings
+        && report.lockfile.dependency_count == row.packages
+}
+
+/// Whether the report of a row has what the row wants.
+fn is_as_wanted(alloc: Global, row: &Row<'_>) -> Result<bool, Fail> {
+    let report = report(alloc, row)?;
+    Ok(is_wanted(&report, row))
+}
+
+/// Checks reports.
+fn expect_reports<T: AllocGlobal + Abort>(rt: &T, rows: &[Row<'_>]) -> Result<(), Fail> {
+    for (i, row) in rows.iter().enumerate() {
+        let found = is_as_wanted(rt.alloc(), row)?;
+        assert!(rt; found, "row {i}");
+    }
+    Ok(())
+}
+
+#[test]
+fn report_of_four_packages(rt: HostRuntime) -> Result<(), Fail> {
+    let row = Row {
+        twice: false,
+        ignored: "RUSTSEC-2001-0009",
+        kind: "unmaintained",
+        vulnerabilities: 1,
+        warnings: Some(1),
+        packages: 4,
+    };
+    expect_reports(&rt, &[row])
+}
+
+#[test]
+fn report_repeats(rt: HostRuntime) -> Result<(), Fail> {
+    expect_reports(
+        &rt,
+        &[
+            Row {
+                twice: true,
+                ignored: "RUSTSEC-2001-0009",
+                kind: "unmaintained",
+                vulnerabilities: 2,
+                warnings: Some(2),
+                packages: 5,
+            },
+            Row {
+                twice: true,
+                ignored: "RUSTSEC-2001-0001",
+                kind: "unmaintained",
+                vulnerabilities: 0,
+                warnings: Some(2),
+                packages: 5,
+            },
+            // Another kind is asked for, and gives no warning.
+            Row {
+                twice: true,
+                ignored: "RUSTSEC-2001-0009",
+                kind: "x",
+                vulnerabilities: 2,
+                warnings: None,
+                packages: 5,
+            },
+        ],
+    )
+}
