@@ -18,3 +18,10 @@ pub record AnswersLint (path : List ℕ) (status : ℕ) (old new : Option (List 
   pub is_output : IsLintOutput path output
   pub status_is : status ≡ output.status
   pub text : Appends old new output.text
+
+-- the status and the text of some output that is such, and nothing else written
+pub record Answers (IsOutput : Output → Type 0) (status : ℕ) (old new : Option (List ℕ)) : Type 0 where
+  pub output : Output
+  pub is_output : IsOutput output
+  pub status_is : status ≡ output.status
+  pub text : Appends old new output.text

@@ -5,3 +5,6 @@ pub mod Views
 pub mod Answer
 pub mod Words
 pub mod Lint
+pub mod Options
+pub mod Audit
+pub mod Reports

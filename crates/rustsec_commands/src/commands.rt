@@ -3,13 +3,14 @@
 ghost use Rattle.rustsec_commands.specs.declared.fault.Fault.TheVariants as fault;
 ghost use Rattle.std.specs.Prelude.{◌≡◌, ◌≢◌, ℕ, [], ◌∷◌, IfErr, IfOk, IfSome, List, OnOk, codes, false, map};
 ghost use Rattle.std.specs.Io.KnownBytes.{Appends, Keeps};
-ghost use Rattle.rustsec_commands.specs.Answer.{AnswersLint, AnswersRanges};
+ghost use Rattle.rustsec_commands.specs.Answer.{Answers, AnswersLint, AnswersRanges};
 ghost use Rattle.rustsec_commands.specs.Output.{affected_output, usage};
+ghost use Rattle.rustsec_commands.specs.Reports.{IsAuditOutput, IsReportOutput};
 ghost use Rattle.rustsec_commands.specs.Words.{names_command};
 
 use crate::answers::{answer, answer_ranges};
 use crate::fault::Fault;
-use crate::{lint, output};
+use crate::{lint, output, report};
 use std::io::{Read, Write};
 use std::rt::Files;
 
@@ -19,6 +20,13 @@ use std::rt::Files;
 /// - `ranges`: as `answer_ranges`;
 /// - `lint` and a path: writes a line for each lint error of the advisory in that file; status 1 where there
 ///   is one, else 0. A refusal of the file gives `refused: KIND`, status 2. The input is not read;
+/// - `report`, a root and the path of a lockfile: writes the tree of the report that the database under
+///   the root gives of the lockfile, on one line; status 1 where vulnerabilities were found, else 0. A
+///   refusal of the database or of the lockfile is answered as under `lint`. The input is not read;
+/// - `audit`, a root, the path of a lockfile and options: writes the same report as `write_audit` does.
+///   The options are `--deny-warnings`, and `--ignore` with the ID behind it, in any order and repeated;
+///   other words give the usage line, status 2. An ID that is refused is answered before the database is
+///   opened. The input is not read;
 /// - any other words: writes the usage line, status 2.
 ///
 /// # Errors
@@ -43,6 +51,14 @@ pub fn run<T: Files + AllocGlobal, R: Read, W: Write>(
         → IfOk result (λ s. AnswersLint path s (W.contents output.old) (W.contents output.new)) }
     ensures lint_unread { (path : List ℕ) → map (λ w. w.now) words.now ≡ codes "lint" ∷ path ∷ []
         → R.remaining input.new ≡ R.remaining input.old }
+    ensures report { (root lock : List ℕ) → map (λ w. w.now) words.now ≡ codes "report" ∷ root ∷ lock ∷ []
+        → IfOk result (λ s. Answers (IsReportOutput root) s (W.contents output.old) (W.contents output.new)) }
+    ensures report_unread { (root lock : List ℕ) → map (λ w. w.now) words.now ≡ codes "report" ∷ root ∷ lock ∷ []
+        → R.remaining input.new ≡ R.remaining input.old }
+    ensures audit { (root lock : List ℕ) (options : List (List ℕ)) → map (λ w. w.now) words.now ≡ codes "audit" ∷ root ∷ lock ∷ options
+        → IfOk result (λ s. Answers (IsAuditOutput root options) s (W.contents output.old) (W.contents output.new)) }
+    ensures audit_unread { (root lock : List ℕ) (options : List (List ℕ)) → map (λ w. w.now) words.now ≡ codes "audit" ∷ root ∷ lock ∷ options
+        → R.remaining input.new ≡ R.remaining input.old }
     ensures usage_unread { names_command (map (λ w. w.now) words.now) ≡ false
         → R.remaining input.new ≡ R.remaining input.old }
     ensures usage_status { names_command (map (λ w. w.now) words.now) ≡ false
@@ -55,6 +71,10 @@ pub fn run<T: Files + AllocGlobal, R: Read, W: Write>(
         ["affected"] => answer(rt.alloc(), input, output),
         ["ranges"] => answer_ranges(rt.alloc(), input, output),
         ["lint", path] => lint::lint_output(rt, path)?.write(output),
+        ["audit", root, lock, options @ ..] => {
+            report::audit(rt, root, lock, options)?.write(output)
+        }
+        ["report", root, lock] => report::report(rt, root, lock)?.write(output),
         _ => output::usage(rt.alloc())?.write(output),
     }
 }

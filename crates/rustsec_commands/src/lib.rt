@@ -4,13 +4,17 @@
 mod affected;
 mod answers;
 mod asked;
+mod audit;
 mod commands;
 mod fault;
 mod line;
 mod lint;
+mod options;
 mod output;
 mod ranges;
+mod report;
 
 pub use crate::answers::{answer, answer_ranges};
+pub use crate::audit::write_audit;
 pub use crate::commands::run;
 pub use crate::fault::Fault;

@@ -41,7 +41,7 @@ fn errors_output(alloc: Global, linter: &Linter) -> Result<Output, AllocError>
 }
 
 /// The answer to the refusal of a file, which is not that memory ran out.
-fn refusal(alloc: Global, error: Error) -> Result<Output, AllocError>
+pub(crate) fn refusal(alloc: Global, error: Error) -> Result<Output, AllocError>
     ensures { IfOk result (λ o. (error.kind ≢ failure.OutOfMemory) × (o ≡ refused_as error.kind)) }
 {
     let kind = error.kind();

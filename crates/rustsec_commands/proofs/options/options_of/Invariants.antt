@@ -1,0 +1,10 @@
+use Rattle.std.proofs.Common.{◌≡◌, map}
+use Rattle.rustsec_commands.specs.Options.{options_of}
+use Rattle.rustsec_commands.proofs.OptionWords.{behind_all, rest_of}
+use Rattle.rustsec_commands.proofs.options.options_of.Given as goal
+
+-- what was taken in, and what the words that are left stand for behind it, is what all words stand for
+abbrev pub invariant-loop-word : goal.invariant-loop-word
+invariant-loop-word l =
+    options_of (map (λ w. w.now) l.words)
+    ≡ behind_all (record { ignored = map (λ t. t.now) l.ignored.items; deny_warnings = l.deny_warnings }) (rest_of l.awaits_id l.words l.word-index)

@@ -1,0 +1,12 @@
+use Rattle.std.proofs.lemmas.Result.{IfOk-weaker}
+use Rattle.rustsec_commands.specs.Reports.{refused, reported}
+use Rattle.rustsec_commands.proofs.report.audit_with.Goals as goal
+
+pub returns-in-Ok : goal.returns-in-Ok
+returns-in-Ok g c =
+    let is = rw c.in_ok-settings.ensures at c.in-Ok.ensures.ok in
+    IfOk-weaker c.audit_output.result _ _ (λ o h. reported c.in-Ok.report is h) c.audit_output.ensures
+
+pub returns : goal.returns
+returns g c =
+    IfOk-weaker c.refusal.result _ _ (λ o h. refused c.in-Err.error c.in-Err.ensures.err h.0 h.1) c.refusal.ensures

@@ -1,0 +1,211 @@
+// The commands `audit` and `report`, over files that a test writes, and what an audit writes.
+
+use crate::fakes::ByteWriter;
+use crate::fixtures::{CommandRow, expect_outputs};
+use rustsec_commands::{Fault, write_audit};
+use rustsec_lock::Lockfile;
+use rustsec_query::Vulnerability;
+use rustsec_report::{LockfileInfo, Report, Settings, VulnerabilityInfo, Warning, WarningInfo};
+use rustsec_texts::WarningKind;
+use rustsec_values::Items;
+use std::alloc::Global;
+use std::fs;
+use std::io;
+use std::process::Abort;
+use std::rt::Files;
+use std::test::Fail;
+
+/// Advisories for `base`, by their paths under a root: one of a vulnerability, one that was withdrawn,
+/// and one of a package that nobody maintains.
+const ADVISORIES: &[(&str, &str)] = &[
+    (
+        "crates/base/RUSTSEC-2001-0001.md",
+        "```toml\n[advisory]\nid = \"RUSTSEC-2001-0001\"\npackage = \"base\"\ndate = \"2001-02-03\"\n\n[versions]\npatched = [\">= 2.0.0\"]\n```\n\n# T\n\nD\n",
+    ),
+    (
+        "crates/base/RUSTSEC-2001-0002.md",
+        "```toml\n[advisory]\nid = \"RUSTSEC-2001-0002\"\npackage = \"base\"\ndate = \"2001-02-03\"\nwithdrawn = \"2001-02-04\"\n\n[versions]\npatched = [\">= 2.0.0\"]\n```\n\n# T\n\nD\n",
+    ),
+    (
+        "crates/base/RUSTSEC-2001-0003.md",
+        "```toml\n[advisory]\nid = \"RUSTSEC-2001-0003\"\npackage = \"base\"\ndate = \"2001-02-03\"\ninformational = \"unmaintained\"\n\n[versions]\npatched = [\">= 2.0.0\"]\n```\n\n# T\n\nD\n",
+    ),
+];
+
+/// A lockfile of four packages, of which one is of the default registry.
+const FOUR_PACKAGES: &str = "version = 3
+
+[[package]]
+name = \"base\"
+version = \"1.0.0\"
+source = \"registry+https://github.com/rust-lang/crates.io-index\"
+
+[[package]]
+name = \"base\"
+version = \"1.0.0\"
+
+[[package]]
+name = \"base\"
+version = \"1.0.0\"
+source = \"git+https://example.com/base?branch=x#abc\"
+
+[[package]]
+name = \"base\"
+version = \"1.0.0\"
+source = \"sparse+https://index.crates.io/\"
+";
+
+/// Writes a file below a root.
+fn put_file<T: Files + AllocGlobal>(
+    rt: &T,
+    root: &str,
+    path: &str,
+    text: &str,
+) -> Result<(), Fail> {
+    let path = format!(in rt.alloc(); "{root}/{path}")?;
+    fs::write(rt, path.as_str(), text)?;
+    Ok(())
+}
+
+/// Makes a root with these advisories and this lockfile.
+fn make_root<T: Files + AllocGlobal>(
+    rt: &T,
+    root: &str,
+    advisories: &[(&str, &str)],
+    lockfile: &str,
+) -> Result<(), Fail> {
+    let folder = format!(in rt.alloc(); "{root}/crates/base")?;
+    fs::create_dir_all(rt, folder.as_str())?;
+    for (path, text) in advisories {
+        put_file(rt, root, path, text)?;
+    }
+    put_file(rt, root, "Cargo.lock", lockfile)
+}
+
+/// Checks what words write over a root that is made for them and removed behind them.
+fn expect_over_root<T: Files + AllocGlobal + Abort>(
+    rt: &T,
+    root: &str,
+    advisories: &[(&str, &str)],
+    lockfile: &str,
+    rows: &[CommandRow<'_>],
+) -> Result<(), Fail> {
+    make_root(rt, root, advisories, lockfile)?;
+    expect_outputs(rt, rows)?;
+    fs::remove_dir_all(rt, root)?;
+    Ok(())
+}
+
+#[test]
+fn audit_command(rt: HostRuntime) -> Result<(), Fail> {
+    let root = "audit-command";
+    let lock = "audit-command/Cargo.lock";
+    let both = "vulnerability RUSTSEC-2001-0001 base 1.0.0\nwarning unmaintained RUSTSEC-2001-0003 base 1.0.0\n1 vulnerabilities, 1 warnings\n";
+    let warning = "warning unmaintained RUSTSEC-2001-0003 base 1.0.0\n0 vulnerabilities, 1 warnings\n";
+    let usage = "usage: rustsec_audit COMMAND\n";
+    expect_over_root(
+        &rt,
+        root,
+        ADVISORIES,
+        FOUR_PACKAGES,
+        &[
+            (&["audit", root, lock], "", 1, both),
+            (&["audit", root, lock, "--ignore", "RUSTSEC-2001-0001"], "", 0, warning),
+            (
+                &["audit", root, lock, "--deny-warnings", "--ignore", "RUSTSEC-2001-0001"],
+                "",
+                1,
+                warning,
+            ),
+            (
+                &["audit", root, lock, "--ignore", "RUSTSEC-2001-0001", "--ignore", "RUSTSEC-2001-0003", "--deny-warnings", "--deny-warnings"],
+                "",
+                0,
+                "0 vulnerabilities, 0 warnings\n",
+            ),
+            (&["audit", root, lock, "--ignore", "RUSTSEC-2001"], "", 2, "refused: parse error\n"),
+            (&["audit", root, lock, "--ignore"], "", 2, usage),
+            (&["audit", root, lock, "--quiet"], "", 2, usage),
+            (&["audit", root], "", 2, usage),
+            (&["report", root], "", 2, usage),
+            (&["report", root, lock, "--deny-warnings"], "", 2, usage),
+            (&["audit", "audit-command/crates/base", lock], "", 2, "refused: I/O operation failed\n"),
+            (&["audit", root, "audit-command/absent"], "", 2, "refused: I/O operation failed\n"),
+            (&["report", root, "audit-command/crates/base/RUSTSEC-2001-0001.md"], "", 2, "refused: parse error\n"),
+        ],
+    )
+}
+
+#[test]
+fn empty_report(rt: HostRuntime) -> Result<(), Fail> {
+    let root = "empty-report";
+    let lock = "empty-report/Cargo.lock";
+    expect_over_root(
+        &rt,
+        root,
+        &[],
+        "",
+        &[
+            (
+                &["report", root, lock],
+                "",
+                0,
+                "{\"lockfile\":{\"dependency-count\":0},\"settings\":{\"ignore\":[],\"informational_warnings\":[\"notice\",\"unmaintained\",\"unsound\"],\"severity\":null,\"target_arch\":[],\"target_os\":[]},\"vulnerabilities\":{\"count\":0,\"found\":false,\"list\":[]},\"warnings\":{}}\n",
+            ),
+            (&["audit", root, lock, "--deny-warnings"], "", 0, "0 vulnerabilities, 0 warnings\n"),
+        ],
+    )
+}
+
+/// A report of a lockfile without a vulnerability, and with one warning that no advisory gives.
+fn report_of_a_notice(alloc: Global) -> Result<Report, Fail> {
+    let lockfile = Lockfile::from_str(
+        alloc,
+        "[[package]]\nname = \"base\"\nversion = \"1.0.0\"\n",
+    )?;
+    let mut notices = Items::new(alloc);
+    for package in &lockfile.packages {
+        notices.push(Warning::new(alloc, WarningKind::Notice, package, None, None, None)?)?;
+    }
+    let mut warnings = WarningInfo::new(alloc);
+    warnings.insert(WarningKind::Notice, notices)?;
+    let vulnerabilities: Vec<Vulnerability> = Vec::new(alloc);
+    Ok(Report {
+        lockfile: LockfileInfo::new(&lockfile),
+        settings: Settings::new(alloc),
+        vulnerabilities: VulnerabilityInfo::new(vulnerabilities),
+        warnings,
+    })
+}
+
+/// Whether this is answered for the report of a notice, and then this is written, if a write fails.
+fn gives(
+    alloc: Global,
+    deny_warnings: bool,
+    fails_at: u64,
+    expected: (Result<u8, Fault>, &[u8]),
+) -> Result<bool, Fail> {
+    let report = report_of_a_notice(alloc)?;
+    let mut writer = ByteWriter::new(Vec::new(alloc), fails_at);
+    let found = write_audit(alloc, &report, deny_warnings, &mut writer);
+    Ok(found == expected.0 && writer.held() == expected.1)
+}
+
+/// What is written of a warning that no advisory gives.
+const NOTICE: &[u8] = b"warning notice - base 1.0.0\n0 vulnerabilities, 1 warnings\n";
+
+#[test]
+fn a_warning_without_an_advisory(rt: HostRuntime) -> Result<(), Fail> {
+    assert!(rt; gives(rt.alloc(), false, 0, (Ok(0), NOTICE))?);
+    assert!(rt; gives(rt.alloc(), true, 0, (Ok(1), NOTICE))?);
+    Ok(())
+}
+
+#[test]
+fn an_audit_fails_at_each_write(rt: HostRuntime) -> Result<(), Fail> {
+    for taken in 0..NOTICE.len() {
+        let fails_at = taken as u64 + 1;
+        assert!(rt; gives(rt.alloc(), true, fails_at, (Err(Fault::Write), &NOTICE[..taken]))?);
+    }
+    Ok(())
+}
