@@ -91,8 +91,9 @@ function-plain f = list-plain _ (λ r. refl) f.1
 
 affected-plain : (a : Affected) → Plain (affected_tree a)
 affected-plain a = object-plain (affected_entries a) (
-    list-plain _ (λ x. refl) a.arch,
-    (object-plain (functions a.functions) (map-plain _ function-plain a.functions), (list-plain _ (λ x. refl) a.os, tt)))
+  list-plain _ (λ x. refl) a.arch,
+  (object-plain (functions a.functions) (map-plain _ function-plain a.functions), (list-plain _ (λ x. refl) a.os, tt)),
+)
 
 versions-plain : (v : Lists) → Plain (versions_tree v)
 versions-plain v = object-plain (versions_entries v) (list-plain _ (λ r. refl) v.patched, (list-plain _ (λ r. refl) v.unaffected, tt))
@@ -102,8 +103,15 @@ subject-plain m = (list-plain _ (λ x. refl) m.aliases, (refl, (refl, (refl, (li
 
 kinds-plain : (m : Metadata) → AllPlain (kinds m)
 kinds-plain m = (
-    list-plain _ (λ x. refl) m.categories, (optional-plain _ (λ x. refl) m.collection, (optional-plain _ (λ x. refl) m.cvss,
-    (optional-plain _ (λ x. refl) m.informational, (list-plain _ (λ x. refl) m.keywords, tt)))))
+  list-plain _ (λ x. refl) m.categories,
+  (
+    optional-plain _ (λ x. refl) m.collection,
+    (
+      optional-plain _ (λ x. refl) m.cvss,
+      (optional-plain _ (λ x. refl) m.informational, (list-plain _ (λ x. refl) m.keywords, tt)),
+    ),
+  ),
+)
 
 origin-plain : (m : Metadata) → AllPlain (origin m)
 origin-plain m = (list-plain _ (λ x. refl) m.references, (optional-plain _ (λ x. refl) m.source, (optional-plain _ (λ x. refl) m.url, tt)))
@@ -131,9 +139,16 @@ warning-plain w = object-plain (warning_entries w)
     (optional-plain _ metadata-plain w.advisory, (optional-plain _ affected-plain w.affected, (refl, (package-plain w.«package», (optional-plain _ versions-plain w.versions, tt)))))
 
 settings-plain : (s : Settings) → Plain (settings_tree s)
-settings-plain s = object-plain (settings_entries s)
-    (list-plain _ (λ x. refl) s.ignore, (list-plain _ (λ x. refl) s.informational_warnings, (optional-plain _ (λ x. refl) s.severity,
-    (list-plain _ (λ x. refl) s.target_arch, (list-plain _ (λ x. refl) s.target_os, tt)))))
+settings-plain s = object-plain (settings_entries s) (
+  list-plain _ (λ x. refl) s.ignore,
+  (
+    list-plain _ (λ x. refl) s.informational_warnings,
+    (
+      optional-plain _ (λ x. refl) s.severity,
+      (list-plain _ (λ x. refl) s.target_arch, (list-plain _ (λ x. refl) s.target_os, tt)),
+    ),
+  ),
+)
 
 vulnerabilities-plain : (i : VulnerabilityInfo) → Plain (vulnerabilities_tree i)
 vulnerabilities-plain i = object-plain (info_entries i) (refl, (refl, (list-plain vulnerability_tree vulnerability-plain i.list, tt)))
@@ -143,6 +158,13 @@ kind-plain e = list-plain warning_tree warning-plain e.1
 
 pub report_plain : (r : Report) → Plain (report_tree r)
 unfolding report_tree
-report_plain r = object-plain (report_entries r)
-    (object-plain _ (refl, tt), (settings-plain r.settings, (vulnerabilities-plain r.vulnerabilities,
-    (object-plain (kinds_of_warnings r.warnings) (map-plain _ kind-plain r.warnings), tt))))
+report_plain r = object-plain (report_entries r) (
+  object-plain _ (refl, tt),
+  (
+    settings-plain r.settings,
+    (
+      vulnerabilities-plain r.vulnerabilities,
+      (object-plain (kinds_of_warnings r.warnings) (map-plain _ kind-plain r.warnings), tt),
+    ),
+  ),
+)

@@ -94,7 +94,10 @@ fn audit_text(alloc: Global, report: &Report, warnings: usize) -> Result<String,
     add_vulnerabilities(&mut text, report.vulnerabilities.list.as_slice())?;
     add_warnings(&mut text, &report.warnings)?;
     let vulnerabilities = report.vulnerabilities.list.len();
-    writeln!(text, "{vulnerabilities} vulnerabilities, {warnings} warnings")?;
+    writeln!(
+        text,
+        "{vulnerabilities} vulnerabilities, {warnings} warnings"
+    )?;
     Ok(text)
 }
 

@@ -56,7 +56,11 @@ fn report_output(alloc: Global, report: &Report) -> Result<Output, AllocError>
 fn settings_with(alloc: Global, ignored: Items<Id>) -> Result<Settings, AllocError>
     ensures { IfOk result (λ s. s ≡ settings_with ignored) }
 {
-    let kinds = vec![in alloc; Informational::Notice, Informational::Unmaintained, Informational::Unsound]?;
+    let kinds = vec![in alloc;
+        Informational::Notice,
+        Informational::Unmaintained,
+        Informational::Unsound,
+    ]?;
     let mut settings = Settings::new(alloc);
     settings.ignore = ignored;
     settings.informational_warnings = Items::from(kinds);

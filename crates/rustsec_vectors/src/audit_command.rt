@@ -9,11 +9,10 @@ use rustsec_report::{LockfileInfo, Report, Settings, VulnerabilityInfo, Warning,
 use rustsec_texts::WarningKind;
 use rustsec_values::Items;
 use std::alloc::Global;
-use std::fs;
-use std::io;
 use std::process::Abort;
 use std::rt::Files;
 use std::test::Fail;
+use std::{fs, io};
 
 /// Advisories for `base`, by their paths under a root: one of a vulnerability, one that was withdrawn,
 /// and one of a package that nobody maintains.
@@ -100,8 +99,10 @@ fn expect_over_root<T: Files + AllocGlobal + Abort>(
 fn audit_command(rt: HostRuntime) -> Result<(), Fail> {
     let root = "audit-command";
     let lock = "audit-command/Cargo.lock";
-    let both = "vulnerability RUSTSEC-2001-0001 base 1.0.0\nwarning unmaintained RUSTSEC-2001-0003 base 1.0.0\n1 vulnerabilities, 1 warnings\n";
-    let warning = "warning unmaintained RUSTSEC-2001-0003 base 1.0.0\n0 vulnerabilities, 1 warnings\n";
+    let both =
+        "vulnerability RUSTSEC-2001-0001 base 1.0.0\nwarning unmaintained RUSTSEC-2001-0003 base 1.0.0\n1 vulnerabilities, 1 warnings\n";
+    let warning =
+        "warning unmaintained RUSTSEC-2001-0003 base 1.0.0\n0 vulnerabilities, 1 warnings\n";
     let usage = "usage: rustsec_audit COMMAND\n";
     expect_over_root(
         &rt,
@@ -110,28 +111,74 @@ fn audit_command(rt: HostRuntime) -> Result<(), Fail> {
         FOUR_PACKAGES,
         &[
             (&["audit", root, lock], "", 1, both),
-            (&["audit", root, lock, "--ignore", "RUSTSEC-2001-0001"], "", 0, warning),
             (
-                &["audit", root, lock, "--deny-warnings", "--ignore", "RUSTSEC-2001-0001"],
+                &["audit", root, lock, "--ignore", "RUSTSEC-2001-0001"],
+                "",
+                0,
+                warning,
+            ),
+            (
+                &[
+                    "audit",
+                    root,
+                    lock,
+                    "--deny-warnings",
+                    "--ignore",
+                    "RUSTSEC-2001-0001",
+                ],
                 "",
                 1,
                 warning,
             ),
             (
-                &["audit", root, lock, "--ignore", "RUSTSEC-2001-0001", "--ignore", "RUSTSEC-2001-0003", "--deny-warnings", "--deny-warnings"],
+                &[
+                    "audit",
+                    root,
+                    lock,
+                    "--ignore",
+                    "RUSTSEC-2001-0001",
+                    "--ignore",
+                    "RUSTSEC-2001-0003",
+                    "--deny-warnings",
+                    "--deny-warnings",
+                ],
                 "",
                 0,
                 "0 vulnerabilities, 0 warnings\n",
             ),
-            (&["audit", root, lock, "--ignore", "RUSTSEC-2001"], "", 2, "refused: parse error\n"),
+            (
+                &["audit", root, lock, "--ignore", "RUSTSEC-2001"],
+                "",
+                2,
+                "refused: parse error\n",
+            ),
             (&["audit", root, lock, "--ignore"], "", 2, usage),
             (&["audit", root, lock, "--quiet"], "", 2, usage),
             (&["audit", root], "", 2, usage),
             (&["report", root], "", 2, usage),
             (&["report", root, lock, "--deny-warnings"], "", 2, usage),
-            (&["audit", "audit-command/crates/base", lock], "", 2, "refused: I/O operation failed\n"),
-            (&["audit", root, "audit-command/absent"], "", 2, "refused: I/O operation failed\n"),
-            (&["report", root, "audit-command/crates/base/RUSTSEC-2001-0001.md"], "", 2, "refused: parse error\n"),
+            (
+                &["audit", "audit-command/crates/base", lock],
+                "",
+                2,
+                "refused: I/O operation failed\n",
+            ),
+            (
+                &["audit", root, "audit-command/absent"],
+                "",
+                2,
+                "refused: I/O operation failed\n",
+            ),
+            (
+                &[
+                    "report",
+                    root,
+                    "audit-command/crates/base/RUSTSEC-2001-0001.md",
+                ],
+                "",
+                2,
+                "refused: parse error\n",
+            ),
         ],
     )
 }
@@ -152,7 +199,12 @@ fn empty_report(rt: HostRuntime) -> Result<(), Fail> {
                 0,
                 "{\"lockfile\":{\"dependency-count\":0},\"settings\":{\"ignore\":[],\"informational_warnings\":[\"notice\",\"unmaintained\",\"unsound\"],\"severity\":null,\"target_arch\":[],\"target_os\":[]},\"vulnerabilities\":{\"count\":0,\"found\":false,\"list\":[]},\"warnings\":{}}\n",
             ),
-            (&["audit", root, lock, "--deny-warnings"], "", 0, "0 vulnerabilities, 0 warnings\n"),
+            (
+                &["audit", root, lock, "--deny-warnings"],
+                "",
+                0,
+                "0 vulnerabilities, 0 warnings\n",
+            ),
         ],
     )
 }
@@ -205,7 +257,14 @@ fn a_warning_without_an_advisory(rt: HostRuntime) -> Result<(), Fail> {
 fn an_audit_fails_at_each_write(rt: HostRuntime) -> Result<(), Fail> {
     for taken in 0..NOTICE.len() {
         let fails_at = taken as u64 + 1;
-        assert!(rt; gives(rt.alloc(), true, fails_at, (Err(Fault::Write), &NOTICE[..taken]))?);
+        assert!(rt;
+            gives(
+                rt.alloc(),
+                true,
+                fails_at,
+                (Err(Fault::Write), &NOTICE[..taken])
+            )?
+        );
     }
     Ok(())
 }

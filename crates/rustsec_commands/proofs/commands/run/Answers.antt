@@ -19,6 +19,6 @@ returns-in_ok-report-in-report-clause-report g c root lock h =
 pub returns-in_ok-audit-in-audit-clause-audit : goal.returns-in_ok-audit-in-audit-clause-audit
 returns-in_ok-audit-in-audit-clause-audit g c root lock options h =
     let is_output = rw (words.second-of c.args.words.now _ (codes "audit") root (lock ∷ options) h, words.behind-three c.args.words.now (codes "audit") root lock options h)
-        at c.in_ok-audit-in-audit.ensures in
+    at c.in_ok-audit-in-audit.ensures in
     words.answered c.write-in-audit-2.result (IsAuditOutput root options) c.in_ok-audit-in-audit.field-0 (g.W.Write.contents c.args.output.now) (g.W.Write.contents c.write-in-audit-2.new.output)
     is_output c.write-in-audit-2.ensures.status c.write-in-audit-2.ensures.text
