@@ -12,6 +12,8 @@ mod advisory_texts;
 #[cfg(test)]
 mod ample_memory;
 #[cfg(test)]
+mod audit_command;
+#[cfg(test)]
 mod categories_and_licenses;
 #[cfg(test)]
 mod commands;
