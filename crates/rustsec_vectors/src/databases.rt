@@ -23,6 +23,18 @@ const DRAFT: &str = "crates/base/RUSTSEC-0000-0000.md";
 /// A file: its path, and a change of the valid advisory.
 type Change<'a> = (&'a str, &'a str, &'a str);
 
+/// The valid advisory where it belongs.
+const GOOD: Change<'static> = (PLACE, "", "");
+
+/// A draft that has no ID yet.
+const PLACEHOLDER: Change<'static> = (DRAFT, "RUSTSEC-2001-2101", "RUSTSEC-0000-0000");
+
+/// A file whose name is not its ID.
+const MISPLACED: Change<'static> = ("crates/base/x.md", "2101\"\np", "2102\"\np");
+
+/// A text that is no advisory.
+const BROKEN: Change<'static> = (PLACE, "package", "packag");
+
 /// The kind of the refusal of the last of some files, and how many advisories are stored then.
 fn loaded(alloc: Global, files: &[Change<'_>]) -> Result<(Option<ErrorKind>, usize), Fail> {
     let mut entries = Entries::new(alloc);
@@ -86,13 +98,12 @@ fn expect_rows<T: AllocGlobal + Abort>(rt: &T, rows: &[Row<'_>]) -> Result<(), F
 
 #[test]
 fn load_paths(rt: HostRuntime) -> Result<(), Fail> {
-    let placeholder = (DRAFT, "RUSTSEC-2001-2101", "RUSTSEC-0000-0000");
     expect_rows(
         &rt,
         &[
             (&[(DRAFT, "", "")], None, 1),
-            (&[placeholder], None, 0),
-            (&[placeholder, placeholder], None, 0),
+            (&[PLACEHOLDER], None, 0),
+            (&[PLACEHOLDER, PLACEHOLDER], None, 0),
             (
                 &[(DRAFT, "", ""), (PLACE, "", "")],
                 Some(ErrorKind::Parse),
@@ -107,25 +118,28 @@ fn load_paths(rt: HostRuntime) -> Result<(), Fail> {
     )
 }
 
+/// A line that names the collection of the language, before the date.
+const OF_RUST: &str = "collection = \"rust\"\ndate";
+
+/// The placeholder with that line.
+const DRAFT_OF_RUST: &str = "RUSTSEC-0000-0000\"\ncollection = \"rust";
+
 #[test]
 fn checks_in_order(rt: HostRuntime) -> Result<(), Fail> {
-    let broken = ("x", "package", "packag");
-    let explicit = "collection = \"rust\"\ndate";
-    let draft_of_rust = "RUSTSEC-0000-0000\"\ncollection = \"rust";
     expect_rows(
         &rt,
         &[
             // A text that is no advisory comes before its path.
-            (&[broken], Some(ErrorKind::Parse), 0),
-            (&[(PLACE, "date", explicit)], Some(ErrorKind::Parse), 0),
+            (&[("x", "package", "packag")], Some(ErrorKind::Parse), 0),
+            (&[(PLACE, "date", OF_RUST)], Some(ErrorKind::Parse), 0),
             (
-                &[("rust/base/RUSTSEC-2001-2101.md", "date", explicit)],
+                &[("rust/base/RUSTSEC-2001-2101.md", "date", OF_RUST)],
                 None,
                 1,
             ),
             // A draft with another collection is at fault before the placeholder ends the checks.
             (
-                &[(DRAFT, "RUSTSEC-2001-2101", draft_of_rust)],
+                &[(DRAFT, "RUSTSEC-2001-2101", DRAFT_OF_RUST)],
                 Some(ErrorKind::Parse),
                 0,
             ),
@@ -144,31 +158,35 @@ fn source_files(alloc: Global, files: &[Change<'_>]) -> Result<Vec<SourceFile>, 
     Ok(list)
 }
 
-/// The kind of a database's refusal, or how many advisories it has.
-fn database(alloc: Global, files: &[Change<'_>]) -> Result<Result<usize, ErrorKind>, Fail> {
+/// The kind of a database's refusal, and how many advisories it has.
+fn database(alloc: Global, files: &[Change<'_>]) -> Result<(Option<ErrorKind>, usize), Fail> {
     let files = source_files(alloc, files)?;
     Ok(match Database::load(alloc, files.as_slice()) {
-        Ok(database) => Ok(database.iter().count()),
-        Err(e) => Err(e.kind()),
+        Ok(database) => (None, database.iter().count()),
+        Err(e) => (Some(e.kind()), 0),
     })
+}
+
+/// Checks the databases of files: the kind of the refusal, and how many advisories there are.
+fn expect_databases<T: AllocGlobal + Abort>(rt: &T, rows: &[Row<'_>]) -> Result<(), Fail> {
+    for (i, (files, expected, count)) in rows.iter().enumerate() {
+        let (kind, loaded) = database(rt.alloc(), files)?;
+        assert!(rt; kind == *expected && loaded == *count, "row {i}");
+    }
+    Ok(())
 }
 
 #[test]
 fn load_first_fault(rt: HostRuntime) -> Result<(), Fail> {
-    let good = (PLACE, "", "");
-    let misplaced = ("crates/base/x.md", "2101\"\np", "2102\"\np");
-    let broken = (PLACE, "package", "packag");
-    let rows: [(&[Change<'_>], Result<usize, ErrorKind>); 4] = [
-        (&[good, misplaced, broken], Err(ErrorKind::Repo)),
-        (&[good, broken, misplaced], Err(ErrorKind::Parse)),
-        (&[], Ok(0)),
-        (&[good], Ok(1)),
-    ];
-    for (i, (files, expected)) in rows.iter().enumerate() {
-        let found = database(rt.alloc(), files)?;
-        assert!(rt; found == *expected, "row {i}");
-    }
-    Ok(())
+    expect_databases(
+        &rt,
+        &[
+            (&[GOOD, MISPLACED, BROKEN], Some(ErrorKind::Repo), 0),
+            (&[GOOD, BROKEN, MISPLACED], Some(ErrorKind::Parse), 0),
+            (&[], None, 0),
+            (&[GOOD], None, 1),
+        ],
+    )
 }
 
 /// The database of the valid advisory in `crates` and another one in `rust`.
