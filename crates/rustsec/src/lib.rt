@@ -14,11 +14,11 @@ pub mod advisory {
         pub use rustsec_texts::{FunctionPath, Identifier};
     }
 
-    pub use rustsec_advisory::linter;
-    pub use rustsec_advisory::{Address, Advisory, Affected, Linter, Metadata};
+    pub use rustsec_advisory::{Address, Advisory, Affected, Linter, Metadata, linter, metadata};
     pub use rustsec_lock::Severity;
     pub use rustsec_texts::{
-        Category, Date, FunctionPath, Id, IdKind, Identifier, Informational, Keyword, License, Parts,
+        Category, Date, FunctionPath, Id, IdKind, Identifier, Informational, Keyword, License,
+        Parts,
     };
     pub use rustsec_versions::Versions;
 }
@@ -87,7 +87,9 @@ pub use rustsec_query::Vulnerability;
 pub use rustsec_registry::{IndexVersion, Lookup};
 pub use rustsec_report::{Report, Warning};
 pub use rustsec_texts::{Collection, WarningKind};
+pub use rustsec_values::{Items, SortedMap, Text};
 pub use rustsec_versions::{
-    Bound, Error, ErrorKind, Result, Steps, UnaffectedRange, requirement_text, successor,
+    Bound, Error, ErrorKind, Requirements, Result, Steps, UnaffectedRange, requirement_text,
+    successor,
 };
 pub use semver::{Version, VersionReq};
