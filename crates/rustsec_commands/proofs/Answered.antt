@@ -1,5 +1,5 @@
 -- What is written for some words.
-use Rattle.std.proofs.Common.{◌≡◌, ◌≢◌, ◌-◌, ◌∙◌, ℕ, List, [], ◌∷◌, Option, None, Some, ap, arith, drop, inl, inr, length, map, get_or, take, Bor}
+use Rattle.std.proofs.Common.{◌≡◌, ◌≢◌, ◌-◌, ◌≤◌, ◌∙◌, ℕ, List, [], ◌∷◌, Option, None, Some, ap, arith, codes, drop, false, nat_eq, true, inl, inr, length, map, get_or, take, Bor}
 use Rattle.std.specs.Io.KnownBytes.{Appends}
 use Rattle.std.specs.Prelude.{IfOk, OnOk, Result, Ok, Err}
 use Rattle.rustsec_commands.specs.Answer.{Answers}
@@ -12,6 +12,7 @@ use Rattle.rustsec_commands.specs.Lint.{refused_as}
 use Rattle.rustsec_commands.specs.Options.{Options, options_of}
 use Rattle.rustsec_commands.specs.Output.{Output}
 use Rattle.rustsec_commands.specs.Reports.{IsAuditOutput, misread}
+use Rattle.rustsec_commands.specs.Words.{names_command}
 
 pub answered : {E : Type 0} (r : Result ℕ E) (IsOutput : Output → Type 0) (o : Output) (old new : Option (List ℕ)) → IsOutput o
     → IfOk r (λ s. s ≡ o.status) → OnOk r (Appends old new o.text) → IfOk r (λ s. Answers IsOutput s old new)
@@ -42,3 +43,14 @@ pub misread-by : (root : List ℕ) (words : List (List ℕ)) (o : Output) (p : O
     → IsRefusal kind.Parse (read_all id_of p.ignored ≡ None) e → e.kind ≢ kind.OutOfMemory → o ≡ refused_as e.kind → IsAuditOutput root words o
 misread-by root words o p e known (inl (k, none)) other is = misread p known none (is ∙ ap refused_as k)
 misread-by root words o p e known (inr memory) other is = absurd (other (ap (λ (f : Failure). f.kind) memory))
+
+-- ---- words that name `audit`
+
+-- three or more words of which the first is `audit` name a command
+pub names-audit : (words : List (Bor (List ℕ))) (d : Bor (List ℕ)) → names_command (map (λ w. w.now) words) ≡ false → 3 ≤ length words
+    → (get_or words 0 d).now ≡ codes "audit" → ⊥
+names-audit [] d other many is = omega (arith, many)
+names-audit (x ∷ []) d other many is = omega (arith, many)
+names-audit (x ∷ y ∷ []) d other many is = omega (arith, many)
+names-audit (x ∷ y ∷ z ∷ []) d other many is = cc (rw is at other)
+names-audit (x ∷ y ∷ z ∷ u ∷ more) d other many is = cc (rw is at other)

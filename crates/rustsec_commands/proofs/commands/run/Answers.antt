@@ -1,8 +1,9 @@
-use Rattle.std.proofs.Common.{[], ◌∷◌, codes}
+use Rattle.std.proofs.Common.{[], ◌∷◌, arith, codes, rules}
 use Rattle.rustsec_commands.proofs.Answered as words
 use Rattle.rustsec_commands.specs.Reports.{IsAuditOutput, IsReportOutput}
 use Rattle.rustsec_commands.proofs.LintAnswer.{answered, second-word}
 use Rattle.rustsec_commands.proofs.commands.run.Goals as goal
+use Rattle.rustsec_commands.proofs.commands.run.Goals.{then-words-lt4+in-audit-1, else-words-lt4+in-audit-1}
 
 pub returns-in_ok-lint_output-in-lint-clause-lint : goal.returns-in_ok-lint_output-in-lint-clause-lint
 returns-in_ok-lint_output-in-lint-clause-lint g c path h =
@@ -22,3 +23,9 @@ returns-in_ok-audit-in-audit-clause-audit g c root lock options h =
     at c.in_ok-audit-in-audit.ensures in
     words.answered c.write-in-audit-2.result (IsAuditOutput root options) c.in_ok-audit-in-audit.field-0 (g.W.Write.contents c.args.output.now) (g.W.Write.contents c.write-in-audit-2.new.output)
     is_output c.write-in-audit-2.ensures.status c.write-in-audit-2.ensures.text
+
+pub returns-in_ok-audit-in-audit-clause-usage_status : goal.returns-in_ok-audit-in-audit-clause-usage_status
+returns-in_ok-audit-in-audit-clause-usage_status g c other = elim c.in-audit-1.branch [
+  | then-words-lt4+in-audit-1 w ↦ absurd (search (rules, words.names-audit))
+  | else-words-lt4+in-audit-1 w ↦ absurd (search (rules, words.names-audit))
+]
