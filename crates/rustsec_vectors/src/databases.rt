@@ -96,26 +96,26 @@ fn expect_rows<T: AllocGlobal + Abort>(rt: &T, rows: &[Row<'_>]) -> Result<(), F
     Ok(())
 }
 
+/// Drafts with an ID and without one, and an ID that stands twice.
+const LOAD_PATHS: &[Row<'static>] = &[
+    (&[(DRAFT, "", "")], None, 1),
+    (&[PLACEHOLDER], None, 0),
+    (&[PLACEHOLDER, PLACEHOLDER], None, 0),
+    (
+        &[(DRAFT, "", ""), (PLACE, "", "")],
+        Some(ErrorKind::Parse),
+        1,
+    ),
+    (
+        &[(PLACE, "", ""), (PLACE, "", "")],
+        Some(ErrorKind::Parse),
+        1,
+    ),
+];
+
 #[test]
 fn load_paths(rt: HostRuntime) -> Result<(), Fail> {
-    expect_rows(
-        &rt,
-        &[
-            (&[(DRAFT, "", "")], None, 1),
-            (&[PLACEHOLDER], None, 0),
-            (&[PLACEHOLDER, PLACEHOLDER], None, 0),
-            (
-                &[(DRAFT, "", ""), (PLACE, "", "")],
-                Some(ErrorKind::Parse),
-                1,
-            ),
-            (
-                &[(PLACE, "", ""), (PLACE, "", "")],
-                Some(ErrorKind::Parse),
-                1,
-            ),
-        ],
-    )
+    expect_rows(&rt, LOAD_PATHS)
 }
 
 /// A line that names the collection of the language, before the date.
@@ -124,27 +124,27 @@ const OF_RUST: &str = "collection = \"rust\"\ndate";
 /// The placeholder with that line.
 const DRAFT_OF_RUST: &str = "RUSTSEC-0000-0000\"\ncollection = \"rust";
 
+/// Texts and collections that are at fault.
+const CHECKS: &[Row<'static>] = &[
+    // A text that is no advisory comes before its path.
+    (&[("x", "package", "packag")], Some(ErrorKind::Parse), 0),
+    (&[(PLACE, "date", OF_RUST)], Some(ErrorKind::Parse), 0),
+    (
+        &[("rust/base/RUSTSEC-2001-2101.md", "date", OF_RUST)],
+        None,
+        1,
+    ),
+    // A draft with another collection is at fault before the placeholder ends the checks.
+    (
+        &[(DRAFT, "RUSTSEC-2001-2101", DRAFT_OF_RUST)],
+        Some(ErrorKind::Parse),
+        0,
+    ),
+];
+
 #[test]
 fn checks_in_order(rt: HostRuntime) -> Result<(), Fail> {
-    expect_rows(
-        &rt,
-        &[
-            // A text that is no advisory comes before its path.
-            (&[("x", "package", "packag")], Some(ErrorKind::Parse), 0),
-            (&[(PLACE, "date", OF_RUST)], Some(ErrorKind::Parse), 0),
-            (
-                &[("rust/base/RUSTSEC-2001-2101.md", "date", OF_RUST)],
-                None,
-                1,
-            ),
-            // A draft with another collection is at fault before the placeholder ends the checks.
-            (
-                &[(DRAFT, "RUSTSEC-2001-2101", DRAFT_OF_RUST)],
-                Some(ErrorKind::Parse),
-                0,
-            ),
-        ],
-    )
+    expect_rows(&rt, CHECKS)
 }
 
 /// Files of a database.
@@ -176,17 +176,17 @@ fn expect_databases<T: AllocGlobal + Abort>(rt: &T, rows: &[Row<'_>]) -> Result<
     Ok(())
 }
 
+/// Databases: files, the kind of the refusal, or how many advisories are loaded.
+const FIRST_FAULTS: &[Row<'static>] = &[
+    (&[GOOD, MISPLACED, BROKEN], Some(ErrorKind::Repo), 0),
+    (&[GOOD, BROKEN, MISPLACED], Some(ErrorKind::Parse), 0),
+    (&[], None, 0),
+    (&[GOOD], None, 1),
+];
+
 #[test]
 fn load_first_fault(rt: HostRuntime) -> Result<(), Fail> {
-    expect_databases(
-        &rt,
-        &[
-            (&[GOOD, MISPLACED, BROKEN], Some(ErrorKind::Repo), 0),
-            (&[GOOD, BROKEN, MISPLACED], Some(ErrorKind::Parse), 0),
-            (&[], None, 0),
-            (&[GOOD], None, 1),
-        ],
-    )
+    expect_databases(&rt, FIRST_FAULTS)
 }
 
 /// The database of the valid advisory in `crates` and another one in `rust`.
