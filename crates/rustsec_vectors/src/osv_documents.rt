@@ -198,10 +198,11 @@ fn osv_accessors(rt: HostRuntime) -> Result<(), Fail> {
 /// Whether copies of a range and of its events are like them.
 fn range_is_copied(alloc: Global, range: &OsvJsonRange) -> Result<bool, Fail> {
     let copy = range.clone(alloc)?;
-    for event in &copy.events {
+    let copied = &copy;
+    for event in &copied.events {
         let _event = event.clone(alloc)?;
     }
-    Ok(copy.kind == range.kind && copy.events.len() == 2)
+    Ok(copied.kind == range.kind && copied.events.len() == 2)
 }
 
 /// Whether copies of what an ecosystem adds are like it.
