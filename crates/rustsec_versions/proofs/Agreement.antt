@@ -1,32 +1,33 @@
 -- What accepted lists give: the ranges that their intervals leave, and what these hold.
 use Rattle.std.proofs.Common.{◌≡◌, ◌||◌, ◌<◌, ◌++◌, ◌↔◌, ℕ, zero, suc, Bool, true, false, List, [], ◌∷◌, Option, Some, None, length, get_or, map, refl, sym, ap, ◌∙◌, arith, subst, inl, inr, IsPermutation}
-use Rattle.std.specs.Prelude.{filter_map, is_some}
+use Rattle.std.specs.Prelude.{filter_map, is_some, not}
 use Rattle.std.specs.Borrow.{Bor}
 use Rattle.std.specs.List.{cons_option, list_all, list_any}
 use Rattle.std.specs.List.Sorted.{IsSortedByKey}
 use Rattle.std.specs.Option.{option_map}
 use Rattle.std.proofs.lemmas.Bool.{cases_Bool}
-use Rattle.std.proofs.lemmas.List.Sorted.{IsPermutation-refl}
+use Rattle.std.proofs.lemmas.List.Sorted.{IsPermutation-refl, list_any-IsPermutation}
 use Rattle.semver.specs.Parse.{Held, Parts}
 use Rattle.semver.specs.declared.Op.{Op}
 use Rattle.semver.specs.declared.Op.TheVariants as op
-use Rattle.rustsec_versions.specs.Gaps.{HasValidBounds, IsValidBound, cut, gaps_from, start_order}
-use Rattle.rustsec_versions.specs.Interval.{Endpoint, Interval, exclusive, inclusive, unbounded}
+use Rattle.rustsec_versions.specs.Between.{AreGapsOf, gaps_between}
+use Rattle.rustsec_versions.specs.Gaps.{cut, gaps_from, start_order}
+use Rattle.rustsec_versions.specs.Interval.{Endpoint, Interval, exclusive, holds, inclusive, unbounded}
 use Rattle.rustsec_versions.specs.Lists.{Lists, accepted, affected, all_admissible, intervals}
 use Rattle.rustsec_versions.specs.Precedence.{IsVersion}
 use Rattle.rustsec_versions.specs.Ranges.{AreRanges, HasCuts, Range, SameRequirements, affects, has_bound, in_ranges, lower_cut, upper_cut, whole}
 use Rattle.rustsec_versions.specs.Requirement.{Side, caret_end, interval_of, is_admissible, is_end, is_start, lower, named, names_version, neither, of_comparators, of_one, of_sides, side_of, stated, tilde_end, up_to, upper}
-use Rattle.rustsec_versions.specs.StoredRanges.{AreInTurn, AreRangesOf}
-use Rattle.rustsec_versions.proofs.AreRanges.{AreFit, apart_shuffled, gaps-AreRanges, gaps-affected, sound_shuffled}
+use Rattle.rustsec_versions.specs.StoredRanges.{AreRangesOf}
+use Rattle.rustsec_versions.proofs.AreRanges.{AreFit, apart_shuffled, fit-IsPermutation, gaps-AreRanges}
 use Rattle.rustsec_versions.proofs.Chain.{AllAdmissible, starts-rise}
-use Rattle.rustsec_versions.proofs.Clashes.{AllSound, accepted-all, accepted-precedence, accepted-refused, intervals-sound}
+use Rattle.rustsec_versions.proofs.Clashes.{accepted-all, accepted-precedence, accepted-refused, intervals-sound}
+use Rattle.rustsec_versions.proofs.Complement.{AllFit, IsRow, fit-held, fit-valid, from-nothing, gaps-cut, gaps-fit, gaps-hold, gaps-in_turn, row}
 use Rattle.rustsec_versions.proofs.LeastAbove.{successor-there}
 use Rattle.rustsec_versions.proofs.OwnOrder.{all-affect, cuts-plain, gaps-plain}
 use Rattle.rustsec_versions.proofs.RangeEnds.{list_all-IsPermutation}
 use Rattle.rustsec_versions.proofs.Shuffled.{IsPermutation-filter_map, shuffled}
-use Rattle.rustsec_versions.proofs.Sound.{IsSoundEnd, admissible-end, admissible-start, admitted-is, and-first, and-second, interval_of-admissible, only_if-true, some-same}
+use Rattle.rustsec_versions.proofs.Sound.{admissible-end, admissible-start, admitted-is, and-first, and-second, interval_of-admissible, only_if-true, some-same}
 use Rattle.rustsec_versions.proofs.Unique.{AreRanges-unique}
-use Rattle.rustsec_versions.proofs.Walk.{cuts_of}
 
 -- ---- accepted lists have fit intervals
 
@@ -59,26 +60,6 @@ same-accepted ls ms p =
           ∙ sym (accepted-precedence ls fine)
       | inr other ↦ accepted-refused ms (sym all ∙ other) ∙ sym (accepted-refused ls other)
     ]
-
--- ---- intervals in the order of their starts
-
-cuts-map : (xs : List (Bor Interval)) → cuts_of xs ≡ map cut (map (λ x. x.now) xs)
-cuts-map [] = refl
-cuts-map (x ∷ xs) = ap (λ (cs : List Range). cut x.now ∷ cs) (cuts-map xs)
-
-bound-valid : (e : Endpoint) → IsSoundEnd e → IsValidBound e
-bound-valid unbounded h = tt
-bound-valid (exclusive v) h = h.version
-bound-valid (inclusive v) h = h.version
-
-all-valid : (xs : List (Bor Interval)) → AllSound (map (λ x. x.now) xs) → (k : ℕ) (d : Bor Interval) → k < length xs → HasValidBounds (get_or xs k d).now
-all-valid [] a k d h = absurd (omega arith)
-all-valid (x ∷ xs) a zero d h = record { start = bound-valid x.now.start a.0.start; end = bound-valid x.now.end a.0.end }
-all-valid (x ∷ xs) a (suc k) d h = all-valid xs a.1 k d (omega arith)
-
-pub sorted-valid : (ls : Lists) (xs : List (Bor Interval)) → IsPermutation (intervals ls) (map (λ x. x.now) xs)
-    → (k : ℕ) (d : Bor Interval) → k < length xs → HasValidBounds (get_or xs k d).now
-sorted-valid ls xs p = all-valid xs (sound_shuffled (shuffled _ _ p) (intervals-sound (ls.patched ++ ls.unaffected)))
 
 -- ---- a requirement whose interval has no bound has no comparator
 
@@ -174,21 +155,44 @@ whole-back rs e = rw e refl
 
 module _ (ls : Lists) (accepts : accepted ls ≡ true) (xs : List (Bor Interval)) (same : IsPermutation (intervals ls) (map (λ x. x.now) xs))
     (sorted : IsSortedByKey (λ x. x.now.start) start_order xs) where
-  walk-AreRanges : AreRanges (intervals ls) (gaps_from None (cuts_of xs))
-  walk-AreRanges = rw (cuts-map xs) (gaps-AreRanges (intervals ls) _ same (fit-lists ls accepts) (starts-rise xs sorted))
+  walk-fit : AreFit (map (λ x. x.now) xs)
+  walk-fit = fit-IsPermutation (intervals ls) _ same (fit-lists ls accepts)
 
-  walk-agree : (w : Parts) → IsVersion w → in_ranges (gaps_from None (cuts_of xs)) w ≡ affected ls w
+  walk-row : IsRow (map (λ x. x.now) xs)
+  walk-row = row _ walk-fit.sound walk-fit.admissible (starts-rise xs sorted) walk-fit.apart
+
+  walk-all_fit : AllFit (gaps_between unbounded (map (λ x. x.now) xs))
+  walk-all_fit = gaps-fit unbounded _ tt refl walk-fit.sound walk-fit.admissible
+
+  walk-decide : (v : Parts) → list_any (λ g. holds g v) (gaps_between unbounded (map (λ x. x.now) xs)) ≡ affected ls v
   unfolding affected
-  walk-agree w valid = rw (cuts-map xs) (gaps-affected (intervals ls) _ w same (fit-lists ls accepts) (starts-rise xs sorted) valid)
+  walk-decide v =
+      gaps-hold unbounded _ v (from-nothing (map (λ x. x.now) xs)) walk-row
+      ∙ ap not (sym (list_any-IsPermutation (λ i. holds i v) (intervals ls) _ same))
 
-  walk-affects : (w : Parts) → IsVersion w → list_any (λ r. affects r w) (gaps_from None (cuts_of xs)) ≡ affected ls w
+  walk-cut : map cut (gaps_between unbounded (map (λ x. x.now) xs)) ≡ gaps_from None (map cut (map (λ x. x.now) xs))
+  walk-cut = gaps-cut unbounded _ walk-fit.admissible
+
+  walk-agree : (w : Parts) → IsVersion w → in_ranges (map cut (gaps_between unbounded (map (λ x. x.now) xs))) w ≡ affected ls w
+  walk-agree w valid = fit-held _ w walk-all_fit valid ∙ walk-decide w
+
+  walk-affects : (w : Parts) → IsVersion w → list_any (λ r. affects r w) (map cut (gaps_between unbounded (map (λ x. x.now) xs))) ≡ affected ls w
   walk-affects w valid =
-      let sound = sound_shuffled (shuffled _ _ same) (intervals-sound (ls.patched ++ ls.unaffected)) in
-      let plain = gaps-plain None (map cut (map (λ x. x.now) xs)) tt (cuts-plain (map (λ x. x.now) xs) sound) in
-      all-affect (gaps_from None (cuts_of xs)) w (rw (cuts-map xs) plain) ∙ walk-agree w valid
+      let plain = gaps-plain None (map cut (map (λ x. x.now) xs)) tt (cuts-plain (map (λ x. x.now) xs) walk-fit.sound) in
+      all-affect _ w (rw walk-cut plain) ∙ walk-agree w valid
 
-  pub walk-AreRangesOf : AreRangesOf ls (gaps_from None (cuts_of xs))
-  walk-AreRangesOf = record { accepts = accepts; ranges = walk-AreRanges; agree = walk-agree; agree_affects = walk-affects }
+  pub walk-AreGapsOf : AreGapsOf ls (gaps_between unbounded (map (λ x. x.now) xs))
+  walk-AreGapsOf = record {
+    ranges = record {
+      accepts = accepts;
+      ranges = rw walk-cut (gaps-AreRanges (intervals ls) _ same (fit-lists ls accepts) (starts-rise xs sorted));
+      agree = walk-agree;
+      agree_affects = walk-affects;
+    };
+    decide = walk-decide;
+    valid = fit-valid _ walk-all_fit;
+    in_turn = gaps-in_turn _ walk-row;
+  }
 
 -- ---- what the ranges of accepted lists give
 
@@ -206,9 +210,6 @@ module _ (ls : Lists) (rs : List Range) (kept : AreRangesOf ls rs) where
   -- any ranges of the same lists are as many
   pub kept-length : (us : List Range) → AreRanges (intervals ls) us → length us ≡ length rs
   kept-length us r = ap length (kept-order ls us (IsPermutation-refl (ls.patched ++ ls.unaffected)) r)
-
-  pub kept-in_turn : AreInTurn rs
-  kept-in_turn = record { in_order = kept.ranges.in_order; followed = kept.ranges.followed }
 
 -- ---- cuts
 

@@ -1,4 +1,4 @@
--- The gaps between intervals, in the order of their starts, are the ranges that the intervals leave, and hold what no interval holds.
+-- The gaps between the cuts of intervals, in the order of their starts, are the ranges that the intervals leave.
 use Rattle.std.proofs.Common.{◌≡◌, ◌&&◌, ◌||◌, Bool, true, false, List, [], ◌∷◌, None, map, refl, sym, ap, ◌∙◌, arith, IsPermutation}
 use Rattle.std.specs.Prelude.{filter_map, not}
 use Rattle.std.specs.List.{list_any}
@@ -7,13 +7,11 @@ use Rattle.std.proofs.lemmas.List.Sorted.{IsPermutation-sym, length_permutation,
 use Rattle.semver.specs.Parse.{Parts}
 use Rattle.rustsec_versions.specs.Apart.{are_apart}
 use Rattle.rustsec_versions.specs.Gaps.{cut, gaps_from}
-use Rattle.rustsec_versions.specs.Interval.{Interval, holds, overlap}
-use Rattle.rustsec_versions.specs.Precedence.{IsVersion, precedence}
-use Rattle.rustsec_versions.specs.Ranges.{AreRanges, has_bound, in_ranges, lower_cut, lower_cuts, upper_cut, upper_cuts, whole}
-use Rattle.rustsec_versions.proofs.Chain.{AllAdmissible, StartsRise, chain}
+use Rattle.rustsec_versions.specs.Interval.{Interval, overlap}
+use Rattle.rustsec_versions.specs.Precedence.{precedence}
+use Rattle.rustsec_versions.specs.Ranges.{AreRanges, has_bound, lower_cut, lower_cuts, upper_cut, upper_cuts, whole}
+use Rattle.rustsec_versions.proofs.Chain.{AllAdmissible, IsChain, StartsRise, chain}
 use Rattle.rustsec_versions.proofs.Clashes.{AllSound, overlap-sym}
-use Rattle.rustsec_versions.proofs.Complement.{IsChain, gaps-complement}
-use Rattle.rustsec_versions.proofs.Cuts.{holds-cut}
 use Rattle.rustsec_versions.proofs.RangeEnds.{all-ends, all-starts, gaps-first_introduction, gaps-last_fix, gaps-none, gaps-whole, list_all-IsPermutation, one-IsPermutation}
 use Rattle.rustsec_versions.proofs.RangeList.{chain-begins, chain-ends, cuts-fixed, cuts-introduced, followed-from, gaps-fixed, gaps-followed, gaps-in_order, gaps-introduced, gaps-length}
 use Rattle.rustsec_versions.proofs.Rising.{IsSorted-from}
@@ -90,18 +88,3 @@ gaps-AreRanges is js p f sorted =
         λ e. let one = one-IsPermutation whole js (rw e at p) in rw one gaps-whole,
       );
     }
-
--- ---- what the ranges hold
-
-held_cut : (is : List Interval) (v : Parts) → AllAdmissible is → IsVersion v → in_ranges (map cut is) v ≡ list_any (λ i. holds i v) is
-held_cut [] v a valid = refl
-held_cut (i ∷ is) v a valid =
-    rw (← holds-cut i v (admissible-start i a.0) (admissible-end i a.0) valid, held_cut is v a.1 valid) refl
-
--- the gaps hold the valid versions that no interval holds
-pub gaps-affected : (is js : List Interval) (v : Parts) → IsPermutation is js → AreFit is → StartsRise js → IsVersion v
-    → in_ranges (gaps_from None (map cut js)) v ≡ not (list_any (λ i. holds i v) is)
-gaps-affected is js v p f sorted valid =
-    let fit = fit-IsPermutation is js p f in
-    gaps-complement None (map cut js) v tt (fit-chain js fit sorted)
-    ∙ ap not (held_cut js v fit.admissible valid ∙ sym (list_any-IsPermutation (λ i. holds i v) is js p))

@@ -1,5 +1,5 @@
 -- Intervals that are apart follow one another, by their cuts, in the order of their starts.
-use Rattle.std.proofs.Common.{◌≡◌, ◌||◌, ◌+◌, suc, Bool, true, false, List, [], ◌∷◌, map, refl, arith, inl, inr}
+use Rattle.std.proofs.Common.{◌≡◌, ◌||◌, ◌+◌, suc, Bool, true, false, List, [], ◌∷◌, Option, Some, None, map, refl, arith, inl, inr}
 use Rattle.std.specs.Prelude.{not}
 use Rattle.std.specs.Borrow.{Bor}
 use Rattle.std.specs.List.Sorted.{IsSortedByKey}
@@ -12,13 +12,42 @@ use Rattle.rustsec_versions.specs.Apart.{are_apart}
 use Rattle.rustsec_versions.specs.Gaps.{cut, start_order}
 use Rattle.rustsec_versions.specs.Interval.{Endpoint, Interval, exclusive, inclusive, overlap, reaches, unbounded}
 use Rattle.rustsec_versions.specs.Precedence.{is_at_most, is_below, precedence, version_order}
-use Rattle.rustsec_versions.specs.Ranges.{lower_cut, upper_cut}
+use Rattle.rustsec_versions.specs.Ranges.{Range, lower_cut, upper_cut}
 use Rattle.rustsec_versions.specs.Requirement.{is_admissible, is_end, is_start}
 use Rattle.rustsec_versions.proofs.Clashes.{AllSound}
-use Rattle.rustsec_versions.proofs.Complement.{Follows, InOrder, IsChain}
 use Rattle.rustsec_versions.proofs.LeastAbove.{successor-least, successor-there, successor-valid}
 use Rattle.rustsec_versions.proofs.PrecedenceLaws.{at_most-below, at_most-trans, below-at_most, below-weak, not_at_most, not_below}
 use Rattle.rustsec_versions.proofs.Sound.{IsSoundEnd, IsSoundInterval, admissible-end, admissible-reaches, admissible-start, and-first, and-second, order-plain}
+
+-- ---- ranges that follow one another
+
+-- an end is there, and the next start is there and not below it
+abbrev pub Follows : Option Parts → Option Parts → Type 0
+Follows (Some u) (Some l) = is_at_most u l ≡ true
+Follows (Some u) None = ⊥
+Follows None l = ⊥
+
+-- a start is not above its end
+abbrev pub InOrder : Option Parts → Option Parts → Type 0
+InOrder None f = Unit {0}
+InOrder (Some l) None = Unit {0}
+InOrder (Some l) (Some u) = is_at_most l u ≡ true
+
+-- ranges that follow what ends here
+abbrev pub FollowOn : Option Parts → List Range → Type 0
+FollowOn u [] = Unit {0}
+FollowOn u (c ∷ cs) = Follows u c.introduced
+
+abbrev pub IsChain : List Range → Type 0
+IsChain [] = Unit {0}
+IsChain (c ∷ cs) = InOrder c.introduced c.fixed × FollowOn c.fixed cs × IsChain cs
+
+-- what the gaps start from: nothing, or an end that the ranges follow
+abbrev pub StartsFrom : Option Parts → List Range → Type 0
+StartsFrom None cs = Unit {0}
+StartsFrom (Some u) cs = FollowOn (Some u) cs
+
+-- ---- bounds
 
 -- a start that is not at or below an end is, by their cuts, at or above it
 pub start-after : (s e : Endpoint) → reaches precedence s e ≡ false → is_start s ≡ true → is_end e ≡ true → IsSoundEnd s
@@ -128,7 +157,7 @@ later-starts i j p q a b rise far =
     let behind : reaches precedence j.start i.end ≡ false = rw near at far in
     start-after j.start i.end behind (admissible-start j b) (admissible-end i a) q.start
 
-not-or-first : (a b : Bool) → (not (a || b)) ≡ true → a ≡ false
+pub not-or-first : (a b : Bool) → (not (a || b)) ≡ true → a ≡ false
 not-or-first true b h = cc h
 not-or-first false b h = refl
 

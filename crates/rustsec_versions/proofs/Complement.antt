@@ -1,117 +1,316 @@
--- The gaps between ranges that follow one another hold the versions that no range holds.
-use Rattle.std.proofs.Common.{◌≡◌, ◌&&◌, ◌||◌, Bool, true, false, List, [], ◌∷◌, Option, Some, None, refl, ap, ◌∙◌}
+-- The gaps between intervals that follow one another: they hold what no interval holds, stand in turn, and are the ranges by their cuts.
+use Rattle.std.proofs.Common.{◌≡◌, ◌&&◌, ◌||◌, ◌+◌, ◌<◌, ℕ, zero, suc, Bool, true, false, List, [], ◌∷◌, Option, Some, get_or, length, map, refl, sym, ap, ◌∙◌, arith, inl, inr}
 use Rattle.std.specs.Prelude.{not}
+use Rattle.std.specs.List.{AllAdjacentBelow, list_any}
+use Rattle.std.specs.Ordering.{is_lt}
+use Rattle.std.proofs.lemmas.Bool.{cases_Bool}
 use Rattle.semver.specs.Parse.{Parts}
-use Rattle.rustsec_versions.specs.Precedence.{is_at_most, is_below}
-use Rattle.rustsec_versions.specs.Ranges.{Range, in_range, in_ranges, is_from}
-use Rattle.rustsec_versions.specs.Gaps.{gap_before, gaps_beyond, gaps_from}
-use Rattle.rustsec_versions.proofs.PrecedenceLaws.{at_most-trans, below-at_most, below-not, below-not_at_most}
+use Rattle.rustsec_versions.specs.Apart.{are_apart}
+use Rattle.rustsec_versions.specs.Between.{AreInTurn, gap_to, gaps_after, gaps_between, turned}
+use Rattle.rustsec_versions.specs.Gaps.{HasValidBounds, IsValidBound, cut, gap_before, gaps_beyond, gaps_from, start_order}
+use Rattle.rustsec_versions.specs.Interval.{Endpoint, Interval, exclusive, holds, inclusive, is_after, is_before, overlap, reaches, unbounded}
+use Rattle.rustsec_versions.specs.Precedence.{IsVersion, is_at_most, is_below, precedence}
+use Rattle.rustsec_versions.specs.Ranges.{Range, in_ranges, lower_cut, upper_cut}
+use Rattle.rustsec_versions.specs.Requirement.{is_admissible, is_end, is_start}
+use Rattle.rustsec_versions.proofs.Chain.{AllAdmissible, StartsRise, earlier-reaches, not-or-first}
+use Rattle.rustsec_versions.proofs.Clashes.{AllSound}
+use Rattle.rustsec_versions.proofs.Cuts.{holds-cut}
+use Rattle.rustsec_versions.proofs.LeastAbove.{successor-there}
+use Rattle.rustsec_versions.proofs.PrecedenceLaws.{at_most-below, at_most-not_below, at_most-trans, below-at_most, below-not, below-not_at_most, below-weak, not_at_most, not_below}
+use Rattle.rustsec_versions.proofs.Sound.{IsSoundEnd, IsSoundInterval, admissible-end, admissible-reaches, admissible-start, and-first, and-second}
 
--- an end is there, and the next start is there and not below it
-abbrev pub Follows : Option Parts → Option Parts → Type 0
-Follows (Some u) (Some l) = is_at_most u l ≡ true
-Follows (Some u) None = ⊥
-Follows None l = ⊥
+-- ---- intervals that follow one another
 
--- a start is not above its end
-abbrev pub InOrder : Option Parts → Option Parts → Type 0
-InOrder None f = Unit {0}
-InOrder (Some l) None = Unit {0}
-InOrder (Some l) (Some u) = is_at_most l u ≡ true
+-- what is before an end is not behind a start
+abbrev pub IsBehind : Endpoint → Endpoint → Type 0
+IsBehind e s = (v : Parts) → is_before e v ≡ true → is_after s v ≡ false
 
--- ranges that follow what ends here
-abbrev pub FollowOn : Option Parts → List Range → Type 0
-FollowOn u [] = Unit {0}
-FollowOn u (c ∷ cs) = Follows u c.introduced
+-- what is not behind its start is before its end
+abbrev pub IsOrdered : Interval → Type 0
+IsOrdered i = (v : Parts) → is_after i.start v ≡ false → is_before i.end v ≡ true
 
-abbrev pub IsChain : List Range → Type 0
-IsChain [] = Unit {0}
-IsChain (c ∷ cs) = InOrder c.introduced c.fixed × FollowOn c.fixed cs × IsChain cs
+abbrev pub AreBehind : Endpoint → List Interval → Type 0
+AreBehind e [] = Unit {0}
+AreBehind e (i ∷ is) = IsBehind e i.start
 
--- what the gaps start from: nothing, or an end that the ranges follow
-abbrev pub StartsFrom : Option Parts → List Range → Type 0
-StartsFrom None cs = Unit {0}
-StartsFrom (Some u) cs = FollowOn (Some u) cs
+abbrev pub IsRow : List Interval → Type 0
+IsRow [] = Unit {0}
+IsRow (i ∷ is) = IsOrdered i × AreBehind i.end is × IsRow is
 
--- no later range holds what is below an end
-none-in : (u : Parts) (lo up : Option Parts) (v : Parts) → Follows (Some u) lo → is_below v u ≡ true
-    → in_range (record { introduced = lo; fixed = up }) v ≡ false
-none-in u None up v h low = absurd h
-none-in u (Some l) up v h low = rw (below-not_at_most v l (below-at_most v u l low h)) refl
+-- what the gaps begin from: what is not behind it is not behind the first start
+abbrev pub BeginsFrom : Endpoint → List Interval → Type 0
+BeginsFrom from [] = Unit {0}
+BeginsFrom from (i ∷ is) = (v : Parts) → is_after from v ≡ false → is_after i.start v ≡ false
 
-end-above : (u : Parts) (lo : Option Parts) (t v : Parts) → Follows (Some u) lo → InOrder lo (Some t) → is_below v u ≡ true → is_below v t ≡ true
-end-above u None t v h o low = absurd h
-end-above u (Some l) t v h o low = below-at_most v l t (below-at_most v u l low h) o
+ordered : (s e : Endpoint) → reaches precedence s e ≡ true → IsOrdered (record { start = s; end = e })
+ordered unbounded e near v h = cc h
+ordered (exclusive s) unbounded near v h = refl
+ordered (inclusive s) unbounded near v h = refl
+ordered (inclusive s) (inclusive e) near v h = below-weak v e (below-at_most v s e (not_at_most s v h) near)
+ordered (inclusive s) (exclusive e) near v h = below-at_most v s e (not_at_most s v h) (below-weak s e near)
+ordered (exclusive s) (inclusive e) near v h = below-weak v e (at_most-below v s e (not_below s v h) near)
+ordered (exclusive s) (exclusive e) near v h = at_most-below v s e (not_below s v h) near
 
-none-after : (u : Parts) (lo up : Option Parts) (cs : List Range) (v : Parts) → Follows (Some u) lo → InOrder lo up → FollowOn up cs
-    → is_below v u ≡ true → ((t : Parts) → FollowOn (Some t) cs → is_below v t ≡ true → in_ranges cs v ≡ false) → in_ranges cs v ≡ false
-none-after u lo up [] v f o g low later = refl
-none-after u lo None (d ∷ cs) v f o g low later = absurd g
-none-after u lo (Some t) (d ∷ cs) v f o g low later = later t g (end-above u lo t v f o low)
+behind : (s e : Endpoint) → reaches precedence s e ≡ false → IsBehind e s
+behind unbounded e far v h = cc far
+behind (inclusive s) unbounded far v h = cc far
+behind (exclusive s) unbounded far v h = cc far
+behind (inclusive s) (inclusive e) far v h = below-not_at_most v s (at_most-below v e s h (not_at_most s e far))
+behind (inclusive s) (exclusive e) far v h = below-not_at_most v s (below-at_most v e s h (not_below s e far))
+behind (exclusive s) (inclusive e) far v h = at_most-not_below v s (at_most-trans v e s h (not_below s e far))
+behind (exclusive s) (exclusive e) far v h = at_most-not_below v s (at_most-trans v e s (below-weak v e h) (not_below s e far))
 
-none-later : (u : Parts) (cs : List Range) (v : Parts) → FollowOn (Some u) cs → IsChain cs → is_below v u ≡ true → in_ranges cs v ≡ false
-none-later u [] v f c low = refl
-none-later u (r ∷ cs) v f c low =
-    rw (none-in u r.introduced r.fixed v f low)
-    (none-after u r.introduced r.fixed cs v f c.0 c.1 low (λ t g k. none-later t cs v g c.2 k))
+next-behind : (i j : Interval) → IsSoundInterval i → IsSoundInterval j → is_admissible j ≡ true → is_lt (start_order j.start i.start) ≡ false
+    → overlap precedence i j ≡ false → IsBehind i.end j.start
+next-behind i j p q b rise far =
+    let near = earlier-reaches i.start j.start j.end p.start q.start rise (admissible-reaches j b) in
+    behind j.start i.end (rw near at far)
 
--- what is from an end on is from what came before it
-from-on : (from : Option Parts) (l u v : Parts) → StartsFrom from (record { introduced = Some l; fixed = Some u } ∷ []) → is_at_most l u ≡ true
-    → is_at_most u v ≡ true → is_from from v ≡ true
-from-on None l u v s o h = refl
-from-on (Some w) l u v s o h = at_most-trans w u v (at_most-trans w l u s o) h
+-- intervals in the order of their starts, of which no two overlap, follow one another
+pub row : (is : List Interval) → AllSound is → AllAdmissible is → StartsRise is → are_apart precedence is ≡ true → IsRow is
+row [] sound all rise apart = tt
+row (i ∷ []) sound all rise apart = (ordered i.start i.end (admissible-reaches i all.0), tt, tt)
+row (i ∷ j ∷ is) sound all rise apart = (
+  ordered i.start i.end (admissible-reaches i all.0),
+  next-behind i j sound.0 sound.1.0 all.1.0 rise.0 (not-or-first _ _ (and-first _ _ apart)),
+  row (j ∷ is) sound.1 all.1 rise.1 (and-second _ _ apart),
+)
 
--- a range between two gaps, by the tests of its version: from the start on, from the end on, and in later ranges
-between-gaps : (f a b x : Bool) → (b ≡ true → a ≡ true) → (b ≡ true → f ≡ true) → (b ≡ false → x ≡ false)
-    → ((f && not a) || (b && not x)) ≡ (f && not ((a && not b) || x))
-between-gaps true true true true p q r = refl
-between-gaps true true true false p q r = refl
-between-gaps true true false true p q r = cc (r refl)
-between-gaps true true false false p q r = refl
-between-gaps true false true x p q r = cc (p refl)
-between-gaps true false false true p q r = cc (r refl)
-between-gaps true false false false p q r = refl
-between-gaps false a true x p q r = cc (q refl)
-between-gaps false a false x p q r = refl
+-- ---- the other side of a bound
 
-last-gap : (f a : Bool) → ((f && not a) || false) ≡ (f && not ((a && true) || false))
-last-gap true true = refl
-last-gap true false = refl
-last-gap false a = refl
+double : (a b : Bool) → a ≡ not b → b ≡ not a
+double true true h = cc h
+double true false h = refl
+double false true h = refl
+double false false h = cc h
+
+-- what is not behind an end is before it
+not-behind : (e : Endpoint) (v : Parts) → is_after (turned e) v ≡ false → is_before e v ≡ true
+not-behind unbounded v h = refl
+not-behind (exclusive e) v h = not_at_most e v h
+not-behind (inclusive e) v h = not_below e v h
+
+begins-behind : (e : Endpoint) (is : List Interval) → AreBehind e is → BeginsFrom (turned e) is
+begins-behind e [] b = tt
+begins-behind e (i ∷ is) b = λ v h. b v (not-behind e v h)
+
+-- ---- what the gaps hold
+
+none-later : (e : Endpoint) (is : List Interval) (v : Parts) → AreBehind e is → IsRow is → is_before e v ≡ true → list_any (λ i. holds i v) is ≡ false
+none-later e [] v b r h = refl
+none-later e (i ∷ is) v b r h = rw (b v h) (none-later i.end is v r.1 r.2 (r.0 v (b v h)))
+
+nothing : (f x : Bool) → x ≡ ((f && false) || x)
+nothing true x = refl
+nothing false x = refl
+
+to-held : (from s : Endpoint) (rest : List Interval) (v : Parts)
+    → list_any (λ g. holds g v) (gap_to from s rest) ≡ ((is_after from v && not (is_after s v)) || list_any (λ g. holds g v) rest)
+to-held from unbounded rest v = nothing (is_after from v) (list_any (λ g. holds g v) rest)
+to-held from (exclusive s) rest v =
+    ap (λ (b : Bool). (is_after from v && b) || list_any (λ g. holds g v) rest) (double _ _ (below-not s v))
+to-held from (inclusive s) rest v = ap (λ (b : Bool). (is_after from v && b) || list_any (λ g. holds g v) rest) (below-not v s)
+
+after-held : (e : Endpoint) (rest : List Interval) (v : Parts) (x : Bool) → list_any (λ g. holds g v) rest ≡ (is_after (turned e) v && not x)
+    → list_any (λ g. holds g v) (gaps_after e rest) ≡ (not (is_before e v) && not x)
+after-held unbounded rest v x h = refl
+after-held (exclusive e) rest v x h = h ∙ ap (λ (b : Bool). b && not x) (double _ _ (below-not v e))
+after-held (inclusive e) rest v x h = h ∙ ap (λ (b : Bool). b && not x) (below-not e v)
+
+-- one interval and the gaps round it, by the tests of a version: behind what the gaps begin from, behind the start,
+-- before the end, and in a later interval
+round : (f a b x : Bool) → (f ≡ false → a ≡ false) → (a ≡ false → b ≡ true) → (b ≡ true → x ≡ false)
+    → ((f && not a) || (not b && not x)) ≡ (f && not ((a && b) || x))
+round false true b x p q r = cc (p refl)
+round false false true x p q r = refl
+round false false false x p q r = cc (q refl)
+round true true true true p q r = cc (r refl)
+round true true true false p q r = refl
+round true true false x p q r = refl
+round true false true true p q r = cc (r refl)
+round true false true false p q r = refl
+round true false false x p q r = cc (q refl)
 
 last : (f : Bool) → ((f && true) || false) ≡ (f && true)
 last true = refl
 last false = refl
 
-first-range : (b x : Bool) → (b && not x) ≡ (true && not ((true && not b) || x))
-first-range true x = refl
-first-range false x = refl
+-- the gaps hold what no interval holds, valid versions or not
+pub gaps-hold : (from : Endpoint) (is : List Interval) (v : Parts) → BeginsFrom from is → IsRow is
+    → list_any (λ g. holds g v) (gaps_between from is) ≡ (is_after from v && not (list_any (λ i. holds i v) is))
+unfolding gaps_between
+gaps-hold from [] v s r = last (is_after from v)
+gaps-hold from (i ∷ is) v s r =
+    let rest = gaps-hold (turned i.end) is v (begins-behind i.end is r.1) r.2 in
+    let later = list_any (λ j. holds j v) is in
+    to-held from i.start (gaps_after i.end (gaps_between (turned i.end) is)) v
+    ∙ ap (λ (b : Bool). (is_after from v && not (is_after i.start v)) || b) (after-held i.end (gaps_between (turned i.end) is) v later rest)
+    ∙ round (is_after from v) (is_after i.start v) (is_before i.end v) later (s v) (r.0 v) (none-later i.end is v r.1 r.2)
 
--- one range and the gaps round it
-gap_step : (from lo up : Option Parts) (cs : List Range) (v : Parts)
-    → StartsFrom from (record { introduced = lo; fixed = up } ∷ []) → InOrder lo up → FollowOn up cs → IsChain cs
-    → ((w : Option Parts) → StartsFrom w cs → in_ranges (gaps_from w cs) v ≡ (is_from w v && not (in_ranges cs v)))
-    → in_ranges (gap_before from lo (gaps_beyond up (gaps_from up cs))) v
-    ≡ (is_from from v && not (in_ranges (record { introduced = lo; fixed = up } ∷ cs) v))
-gap_step None None None [] v s o g c ih = refl
-gap_step from lo None (d ∷ cs) v s o g c ih = absurd g
-gap_step (Some w) None up cs v s o g c ih = absurd s
-gap_step None None (Some u) cs v s o g c ih = rw (ih (Some u) g, below-not v u) (first-range (is_at_most u v) (in_ranges cs v))
-gap_step from (Some l) None [] v s o g c ih = rw (below-not v l) (last-gap (is_from from v) (is_at_most l v))
-gap_step from (Some l) (Some u) cs v s o g c ih =
-    rw (ih (Some u) g, below-not v l, below-not v u)
-    (between-gaps (is_from from v) (is_at_most l v) (is_at_most u v) (in_ranges cs v)
-    (λ h. at_most-trans l u v o h) (from-on from l u v s o)
-    (λ h. none-later u cs v g c (below-not v u ∙ ap not h)))
+-- ---- the gaps stand in turn
 
-starts_one : (from : Option Parts) (c : Range) (cs : List Range) → StartsFrom from (c ∷ cs) → StartsFrom from (c ∷ [])
-starts_one None c cs s = s
-starts_one (Some w) c cs s = s
+abbrev pub Turn : Interval → Interval → Type 0
+Turn g h = (v : Parts) → is_after h.start v ≡ true → (is_after g.start v ≡ true) × (is_before g.end v ≡ false)
 
--- the gaps hold what no range holds
-pub gaps-complement : (from : Option Parts) (cs : List Range) (v : Parts) → StartsFrom from cs → IsChain cs
-    → in_ranges (gaps_from from cs) v ≡ (is_from from v && not (in_ranges cs v))
-unfolding gaps_from
-gaps-complement from [] v s c = last (is_from from v)
-gaps-complement from (r ∷ cs) v s c =
-    gap_step from r.introduced r.fixed cs v (starts_one from r cs s) c.0 c.1 c.2 (λ w t. gaps-complement w cs v t c.2)
+abbrev pub AllTurn : List Interval → Type 0
+AllTurn [] = Unit {0}
+AllTurn (g ∷ []) = Unit {0}
+AllTurn (g ∷ h ∷ gs) = Turn g h × AllTurn (h ∷ gs)
+
+-- what is behind the start of the first gap is behind a bound
+abbrev pub LeadsOn : Endpoint → List Interval → Type 0
+LeadsOn from [] = Unit {0}
+LeadsOn from (g ∷ gs) = (v : Parts) → is_after g.start v ≡ true → is_after from v ≡ true
+
+not-false : (a b : Bool) → (a ≡ false → b ≡ false) → b ≡ true → a ≡ true
+not-false true b h k = refl
+not-false false b h k = cc (h refl)
+
+is-behind : (e : Endpoint) (v : Parts) → is_after (turned e) v ≡ true → (e ≡ unbounded → ⊥) → is_before e v ≡ false
+is-behind unbounded v h b = absurd (b refl)
+is-behind (exclusive e) v h b = at_most-not_below e v h
+is-behind (inclusive e) v h b = below-not_at_most e v h
+
+leads-to : (from s e : Endpoint) (rest : List Interval) → ((v : Parts) → is_after from v ≡ false → is_after s v ≡ false) → LeadsOn (turned e) rest
+    → LeadsOn from (gap_to from s (gaps_after e rest))
+leads-to from (exclusive s) e rest b l = λ v h. h
+leads-to from (inclusive s) e rest b l = λ v h. h
+leads-to from unbounded unbounded rest b l = tt
+leads-to from unbounded (exclusive e) [] b l = tt
+leads-to from unbounded (inclusive e) [] b l = tt
+leads-to from unbounded (exclusive e) (g ∷ gs) b l = λ v h. not-false _ true (b v) refl
+leads-to from unbounded (inclusive e) (g ∷ gs) b l = λ v h. not-false _ true (b v) refl
+
+gaps-lead : (from : Endpoint) (is : List Interval) → BeginsFrom from is → IsRow is → LeadsOn from (gaps_between from is)
+unfolding gaps_between
+gaps-lead from [] s r = λ v h. h
+gaps-lead from (i ∷ is) s r = leads-to from i.start i.end _ s (gaps-lead (turned i.end) is (begins-behind i.end is r.1) r.2)
+
+turn-cons : (g : Interval) (from : Endpoint) (gs : List Interval)
+    → ((v : Parts) → is_after from v ≡ true → (is_after g.start v ≡ true) × (is_before g.end v ≡ false)) → LeadsOn from gs → AllTurn gs → AllTurn (g ∷ gs)
+turn-cons g from [] step l t = tt
+turn-cons g from (h ∷ gs) step l t = (λ v k. step v (l v k), t)
+
+-- a version behind the end of an interval is behind its start
+behind-both : (s e : Endpoint) (v : Parts) → IsOrdered (record { start = s; end = e }) → is_before e v ≡ false → is_after s v ≡ true
+behind-both s e v o h = not-false (is_after s v) (not (is_before e v)) (λ k. rw (o v k) refl) (rw h refl)
+
+turns-to : (from s e : Endpoint) (rest : List Interval) → ((v : Parts) → is_after from v ≡ false → is_after s v ≡ false)
+    → IsOrdered (record { start = s; end = e }) → LeadsOn (turned e) rest → AllTurn rest → AllTurn (gap_to from s (gaps_after e rest))
+turns-to from unbounded unbounded rest b o l t = tt
+turns-to from unbounded (exclusive e) rest b o l t = t
+turns-to from unbounded (inclusive e) rest b o l t = t
+turns-to from (exclusive s) unbounded rest b o l t = tt
+turns-to from (inclusive s) unbounded rest b o l t = tt
+turns-to from (exclusive s) (exclusive e) rest b o l t = turn-cons (record { start = from; end = inclusive s }) (inclusive e) rest (λ v h.
+    let past = behind-both (exclusive s) (exclusive e) v o (at_most-not_below e v h) in
+    (not-false _ _ (b v) past, below-not_at_most s v past)) l t
+turns-to from (exclusive s) (inclusive e) rest b o l t = turn-cons (record { start = from; end = inclusive s }) (exclusive e) rest (λ v h.
+    let past = behind-both (exclusive s) (inclusive e) v o (below-not_at_most e v h) in
+    (not-false _ _ (b v) past, below-not_at_most s v past)) l t
+turns-to from (inclusive s) (exclusive e) rest b o l t = turn-cons (record { start = from; end = exclusive s }) (inclusive e) rest (λ v h.
+    let past = behind-both (inclusive s) (exclusive e) v o (at_most-not_below e v h) in
+    (not-false _ _ (b v) past, at_most-not_below s v past)) l t
+turns-to from (inclusive s) (inclusive e) rest b o l t = turn-cons (record { start = from; end = exclusive s }) (exclusive e) rest (λ v h.
+    let past = behind-both (inclusive s) (inclusive e) v o (below-not_at_most e v h) in
+    (not-false _ _ (b v) past, at_most-not_below s v past)) l t
+
+gaps-all_turn : (from : Endpoint) (is : List Interval) → BeginsFrom from is → IsRow is → AllTurn (gaps_between from is)
+unfolding gaps_between
+gaps-all_turn from [] s r = tt
+gaps-all_turn from (i ∷ is) s r =
+    let begins = begins-behind i.end is r.1 in
+    turns-to from i.start i.end _ s r.0 (gaps-lead (turned i.end) is begins r.2) (gaps-all_turn (turned i.end) is begins r.2)
+
+turn-at : (gs : List Interval) → AllTurn gs → (v : Parts)
+    → AllAdjacentBelow (λ g h. is_after h.start v ≡ true → (is_after g.start v ≡ true) × (is_before g.end v ≡ false)) gs (length gs)
+turn-at [] t v k d high = absurd (omega arith)
+turn-at (g ∷ []) t v k d high = absurd (omega arith)
+turn-at (g ∷ h ∷ gs) t v zero d high = t.0 v
+turn-at (g ∷ h ∷ gs) t v (suc k) d high =
+    let e : suc k + 1 ≡ suc (k + 1) = omega arith in
+    rw e (turn-at (h ∷ gs) t.1 v k d (omega arith))
+
+-- no bound is one from which all intervals begin
+pub from-nothing : (is : List Interval) → BeginsFrom unbounded is
+from-nothing [] = tt
+from-nothing (i ∷ is) = λ v h. cc h
+
+pub gaps-in_turn : (is : List Interval) → IsRow is → AreInTurn (gaps_between unbounded is)
+gaps-in_turn is r = record { turn = turn-at _ (gaps-all_turn unbounded is (from-nothing is) r) }
+
+-- ---- the ranges by their cuts
+
+turned-cut : (e : Endpoint) → lower_cut (turned e) ≡ upper_cut e
+turned-cut unbounded = refl
+turned-cut (exclusive v) = refl
+turned-cut (inclusive v) = refl
+
+to-cut : (from s : Endpoint) (gs : List Interval) (rs : List Range) → is_start s ≡ true → map cut gs ≡ rs
+    → map cut (gap_to from s gs) ≡ gap_before (lower_cut from) (lower_cut s) rs
+to-cut from unbounded gs rs h e = e
+to-cut from (inclusive s) gs rs h e = ap (λ (us : List Range). record { introduced = lower_cut from; fixed = Some s } ∷ us) e
+to-cut from (exclusive s) gs rs h e =
+    let t = successor-there s h in
+    rw t.1 (ap (λ (us : List Range). record { introduced = lower_cut from; fixed = Some t.0 } ∷ us) e)
+
+after-cut : (e : Endpoint) (gs : List Interval) (rs : List Range) → is_end e ≡ true → map cut gs ≡ rs
+    → map cut (gaps_after e gs) ≡ gaps_beyond (upper_cut e) rs
+after-cut unbounded gs rs h k = refl
+after-cut (exclusive e) gs rs h k = k
+after-cut (inclusive e) gs rs h k = let t = successor-there e h in rw t.1 k
+
+-- by their cuts, the gaps between intervals are those between the intervals' cuts
+pub gaps-cut : (from : Endpoint) (is : List Interval) → AllAdmissible is → map cut (gaps_between from is) ≡ gaps_from (lower_cut from) (map cut is)
+unfolding gaps_between gaps_from
+gaps-cut from [] a = refl
+gaps-cut from (i ∷ is) a =
+    let rest = gaps-cut (turned i.end) is a.1 ∙ ap (λ (o : Option Parts). gaps_from o (map cut is)) (turned-cut i.end) in
+    to-cut from i.start _ _ (admissible-start i a.0) (after-cut i.end _ _ (admissible-end i a.0) rest)
+
+-- ---- the bounds of gaps
+
+-- gaps whose bounds are valid versions, with the versions above that they want
+abbrev pub IsFit : Interval → Type 0
+IsFit g = HasValidBounds g × (is_start g.start ≡ true) × (is_end g.end ≡ true)
+
+abbrev pub AllFit : List Interval → Type 0
+AllFit [] = Unit {0}
+AllFit (g ∷ gs) = IsFit g × AllFit gs
+
+turned-valid : (e : Endpoint) → IsSoundEnd e → IsValidBound (turned e)
+turned-valid unbounded h = tt
+turned-valid (exclusive v) h = h.version
+turned-valid (inclusive v) h = h.version
+
+turned-start : (e : Endpoint) → is_end e ≡ true → is_start (turned e) ≡ true
+turned-start unbounded h = refl
+turned-start (exclusive v) h = refl
+turned-start (inclusive v) h = h
+
+to-fit : (from s : Endpoint) (gs : List Interval) → IsValidBound from → is_start from ≡ true → IsSoundEnd s → is_start s ≡ true → AllFit gs → AllFit (gap_to from s gs)
+to-fit from unbounded gs v b p h a = a
+to-fit from (exclusive s) gs v b p h a = ((record { start = v; end = p.version }, b, h), a)
+to-fit from (inclusive s) gs v b p h a = ((record { start = v; end = p.version }, b, refl), a)
+
+after-fit : (e : Endpoint) (gs : List Interval) → AllFit gs → AllFit (gaps_after e gs)
+after-fit unbounded gs a = tt
+after-fit (exclusive e) gs a = a
+after-fit (inclusive e) gs a = a
+
+pub gaps-fit : (from : Endpoint) (is : List Interval) → IsValidBound from → is_start from ≡ true → AllSound is → AllAdmissible is → AllFit (gaps_between from is)
+unfolding gaps_between
+gaps-fit from [] v b sound a = ((record { start = v; end = tt }, b, refl), tt)
+gaps-fit from (i ∷ is) v b sound a =
+    to-fit from i.start _ v b sound.0.start (admissible-start i a.0) (after-fit i.end _
+    (gaps-fit (turned i.end) is (turned-valid i.end sound.0.end) (turned-start i.end (admissible-end i a.0)) sound.1 a.1))
+
+pub fit-valid : (gs : List Interval) → AllFit gs → (k : ℕ) (d : Interval) → k < length gs → HasValidBounds (get_or gs k d)
+fit-valid [] a k d h = absurd (omega arith)
+fit-valid (g ∷ gs) a zero d h = a.0.0
+fit-valid (g ∷ gs) a (suc k) d h = fit-valid gs a.1 k d (omega arith)
+
+-- a valid version is in a range where it is in its gap
+pub fit-held : (gs : List Interval) (v : Parts) → AllFit gs → IsVersion v → in_ranges (map cut gs) v ≡ list_any (λ g. holds g v) gs
+fit-held [] v a valid = refl
+fit-held (g ∷ gs) v a valid = rw (← holds-cut g v a.0.1 a.0.2 valid, fit-held gs v a.1 valid) refl

@@ -9,7 +9,7 @@ use Rattle.rustsec_versions.specs.Interval.{Endpoint, Interval, exclusive, inclu
 use Rattle.rustsec_versions.specs.Ranges.{Range, has_bound, lower_cut, upper_cut, whole}
 use Rattle.rustsec_versions.specs.Requirement.{is_end, is_start}
 use Rattle.rustsec_versions.proofs.Chain.{AllAdmissible}
-use Rattle.rustsec_versions.proofs.Complement.{FollowOn, Follows, IsChain}
+use Rattle.rustsec_versions.proofs.Chain.{FollowOn, Follows, IsChain}
 use Rattle.rustsec_versions.proofs.LeastAbove.{successor-there}
 use Rattle.rustsec_versions.proofs.RangeList.{gaps-first}
 use Rattle.rustsec_versions.proofs.Sound.{admissible-end, admissible-start}

@@ -7,7 +7,7 @@ use Rattle.rustsec_versions.specs.Gaps.{cut, gap_before, gaps_beyond, gaps_from}
 use Rattle.rustsec_versions.specs.Interval.{Interval}
 use Rattle.rustsec_versions.specs.Precedence.{is_at_most}
 use Rattle.rustsec_versions.specs.Ranges.{Range, is_followed, is_in_order, lower_cut, lower_cuts, upper_cut, upper_cuts}
-use Rattle.rustsec_versions.proofs.Complement.{FollowOn, Follows, InOrder, IsChain, StartsFrom}
+use Rattle.rustsec_versions.proofs.Chain.{FollowOn, Follows, InOrder, IsChain, StartsFrom}
 use Rattle.rustsec_versions.proofs.PrecedenceLaws.{at_most-trans}
 use Rattle.rustsec_versions.proofs.Rising.{Rises, Rises-cons}
 

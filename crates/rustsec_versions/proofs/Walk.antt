@@ -1,46 +1,63 @@
 -- How the walk over intervals goes on.
-use Rattle.std.proofs.Common.{◌≡◌, ◌<◌, ◌≤◌, ◌+◌, ◌++◌, ℕ, List, [], ◌∷◌, Option, Some, None, length, get_or, drop, map, refl, sym, ap, ◌∙◌, append_assoc, append-nil}
+use Rattle.std.proofs.Common.{◌≡◌, ◌<◌, ◌≤◌, ◌+◌, ◌++◌, ℕ, List, [], ◌∷◌, length, get_or, drop, map, refl, sym, ap, ◌∙◌, append_assoc, append-nil}
 use Rattle.std.proofs.lemmas.List.{drop_all, drop_more}
 use Rattle.std.specs.Borrow.{Bor}
-use Rattle.semver.specs.Parse.{Parts}
-use Rattle.rustsec_versions.specs.Gaps.{cut, gap_before, gaps_beyond, gaps_from}
-use Rattle.rustsec_versions.specs.Interval.{Interval}
-use Rattle.rustsec_versions.specs.Ranges.{Range, lower_cut, upper_cut}
+use Rattle.rustsec_versions.specs.Between.{gap_to, gaps_after, gaps_between, turned}
+use Rattle.rustsec_versions.specs.Interval.{Endpoint, Interval, exclusive, inclusive, unbounded}
+use Rattle.rustsec_versions.specs.Views.{endpoint_of}
+use Rattle.rustsec_versions.specs.declared.interval.Bound.{Bound}
+use Rattle.rustsec_versions.specs.declared.interval.Bound.TheVariants as bound
 
--- the intervals behind references, by their cuts
-abbrev pub cuts_of : List (Bor Interval) → List Range
-cuts_of xs = map (λ x. cut x.now) xs
+-- the intervals behind references
+abbrev pub behind : List (Bor Interval) → List Interval
+behind xs = map (λ x. x.now) xs
 
-before-split : (from lo : Option Parts) (rest : List Range) → gap_before from lo rest ≡ gap_before from lo [] ++ rest
-before-split from None rest = refl
-before-split from (Some l) rest = refl
+to-split : (from s : Endpoint) (rest : List Interval) → gap_to from s rest ≡ gap_to from s [] ++ rest
+to-split from unbounded rest = refl
+to-split from (exclusive s) rest = refl
+to-split from (inclusive s) rest = refl
 
 -- one more interval
-pub walk-more : (done : List Range) (from : Option Parts) (xs : List (Bor Interval)) (i : ℕ) (x : Bor Interval) → i < length xs → x ≡ get_or xs i x
-    → done ++ gaps_from from (cuts_of (drop i xs))
-    ≡ (done ++ gap_before from (lower_cut x.now.start) [])
-    ++ gaps_beyond (upper_cut x.now.end) (gaps_from (upper_cut x.now.end) (cuts_of (drop (i + 1) xs)))
-unfolding gaps_from
+pub walk-more : (done : List Interval) (from : Endpoint) (xs : List (Bor Interval)) (i : ℕ) (x : Bor Interval) → i < length xs → x ≡ get_or xs i x
+    → done ++ gaps_between from (behind (drop i xs))
+    ≡ (done ++ gap_to from x.now.start []) ++ gaps_after x.now.end (gaps_between (turned x.now.end) (behind (drop (i + 1) xs)))
+unfolding gaps_between
 walk-more done from xs i x l at =
-    let rest = gaps_beyond (upper_cut x.now.end) (gaps_from (upper_cut x.now.end) (cuts_of (drop (i + 1) xs))) in
+    let rest = gaps_after x.now.end (gaps_between (turned x.now.end) (behind (drop (i + 1) xs))) in
     rw (drop_more xs i x l, ← at)
-    (ap (λ (rs : List Range). done ++ rs) (before-split from (lower_cut x.now.start) rest) ∙ sym (append_assoc done (gap_before from (lower_cut x.now.start) []) rest))
+    (ap (λ (gs : List Interval). done ++ gs) (to-split from x.now.start rest) ∙ sym (append_assoc done (gap_to from x.now.start []) rest))
+
+after-some : (e next : Endpoint) (rest : List Interval) → turned e ≡ next → (next ≡ unbounded → ⊥) → gaps_after e rest ≡ rest
+after-some unbounded next rest h b = absurd (b (sym h))
+after-some (exclusive v) next rest h b = refl
+after-some (inclusive v) next rest h b = refl
+
+after-none : (e : Endpoint) (rest : List Interval) → turned e ≡ unbounded → gaps_after e rest ≡ []
+after-none unbounded rest h = refl
+after-none (exclusive v) rest h = cc h
+after-none (inclusive v) rest h = cc h
+
+-- a bound that is not missing
+pub bound-there : (b : Bound) → (b ≡ bound.Unbounded → ⊥) → endpoint_of b ≡ unbounded → ⊥
+bound-there bound.Unbounded h e = h refl
+bound-there (bound.Exclusive v) h e = cc e
+bound-there (bound.Inclusive v) h e = cc e
 
 -- an interval that is over somewhere
-pub walk-on : (done : List Range) (from : Option Parts) (xs : List (Bor Interval)) (i : ℕ) (x : Bor Interval) (next : Parts) → i < length xs → x ≡ get_or xs i x
-    → upper_cut x.now.end ≡ Some next
-    → done ++ gaps_from from (cuts_of (drop i xs))
-    ≡ (done ++ gap_before from (lower_cut x.now.start) []) ++ gaps_from (Some next) (cuts_of (drop (i + 1) xs))
-walk-on done from xs i x next l at e = walk-more done from xs i x l at ∙ rw e refl
+pub walk-on : (done : List Interval) (from next : Endpoint) (xs : List (Bor Interval)) (i : ℕ) (x : Bor Interval) → i < length xs → x ≡ get_or xs i x
+    → turned x.now.end ≡ next → (next ≡ unbounded → ⊥)
+    → done ++ gaps_between from (behind (drop i xs))
+    ≡ (done ++ gap_to from x.now.start []) ++ gaps_between next (behind (drop (i + 1) xs))
+walk-on done from next xs i x l at e b = walk-more done from xs i x l at ∙ rw (after-some x.now.end next _ e b, e) refl
 
 -- an interval without end
-pub walk-over : (done : List Range) (from : Option Parts) (xs : List (Bor Interval)) (i : ℕ) (x : Bor Interval) → i < length xs → x ≡ get_or xs i x
-    → upper_cut x.now.end ≡ None → done ++ gaps_from from (cuts_of (drop i xs)) ≡ done ++ gap_before from (lower_cut x.now.start) []
+pub walk-over : (done : List Interval) (from : Endpoint) (xs : List (Bor Interval)) (i : ℕ) (x : Bor Interval) → i < length xs → x ≡ get_or xs i x
+    → turned x.now.end ≡ unbounded → done ++ gaps_between from (behind (drop i xs)) ≡ done ++ gap_to from x.now.start []
 walk-over done from xs i x l at e =
-    walk-more done from xs i x l at ∙ rw e (append-nil (done ++ gap_before from (lower_cut x.now.start) []))
+    walk-more done from xs i x l at ∙ rw (after-none x.now.end _ e) (append-nil (done ++ gap_to from x.now.start []))
 
 -- the gap behind the last interval
-pub walk-end : (done : List Range) (from : Option Parts) (xs : List (Bor Interval)) (i : ℕ) → length xs ≤ i
-    → done ++ gaps_from from (cuts_of (drop i xs)) ≡ done ++ record { introduced = from; fixed = None } ∷ []
-unfolding gaps_from
+pub walk-end : (done : List Interval) (from : Endpoint) (xs : List (Bor Interval)) (i : ℕ) → length xs ≤ i
+    → done ++ gaps_between from (behind (drop i xs)) ≡ done ++ record { start = from; end = unbounded } ∷ []
+unfolding gaps_between
 walk-end done from xs i l = rw (drop_all i xs l) refl

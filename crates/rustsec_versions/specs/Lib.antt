@@ -1,4 +1,5 @@
 pub mod Apart
+pub mod Between
 pub mod Equality
 pub mod EqualityLaws
 pub mod Failure

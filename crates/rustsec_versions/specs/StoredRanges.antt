@@ -1,11 +1,11 @@
--- The ranges that accepted lists keep, and how many comparisons a search among them may make.
+-- The ranges of accepted lists, and how many comparisons a search among them may make.
 -- It carries meaning: public contracts cite it.
-use Rattle.std.specs.Prelude.{◌≡◌, ◌<◌, ◌≤◌, ◌^◌, ℕ, true, List, length}
-use Rattle.std.specs.List.{AllAdjacentBelow, list_all, list_any}
+use Rattle.std.specs.Prelude.{◌≡◌, ◌<◌, ◌≤◌, ◌^◌, ℕ, true, List}
+use Rattle.std.specs.List.{list_any}
 use Rattle.semver.specs.Parse.{Parts}
 use Rattle.rustsec_versions.specs.Lists.{Lists, accepted, affected, intervals}
 use Rattle.rustsec_versions.specs.Precedence.{IsVersion}
-use Rattle.rustsec_versions.specs.Ranges.{AreRanges, Range, affects, in_ranges, is_followed, is_in_order}
+use Rattle.rustsec_versions.specs.Ranges.{AreRanges, Range, affects, in_ranges}
 
 -- the ranges of accepted lists, which have the valid versions that the lists leave affected, in precedence and in
 -- the order of `Version`
@@ -14,11 +14,6 @@ pub record AreRangesOf (ls : Lists) (rs : List Range) : Type 0 where
   pub ranges : AreRanges (intervals ls) rs
   pub agree : (v : Parts) → IsVersion v → in_ranges rs v ≡ affected ls v
   pub agree_affects : (v : Parts) → IsVersion v → list_any (λ r. affects r v) rs ≡ affected ls v
-
--- ranges that begin at or below their ends, of which each but the last ends, at or below where the next one begins
-pub record AreInTurn (rs : List Range) : Type 0 where
-  pub in_order : list_all (λ r. is_in_order r.introduced r.fixed) rs ≡ true
-  pub followed : AllAdjacentBelow (λ r s. is_followed r.fixed s.introduced ≡ true) rs (length rs)
 
 -- a number has the fewest binary digits that can write it; 0 has none
 pub record HasBinaryDigits (n digits : ℕ) : Type 0 where

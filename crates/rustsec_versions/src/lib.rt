@@ -4,6 +4,7 @@
 mod comparator;
 mod error;
 mod from_text;
+mod gap;
 mod interval;
 mod next_version;
 mod overlaps;

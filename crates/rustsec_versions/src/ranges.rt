@@ -1,11 +1,11 @@
 //! The ranges of affected versions that an advisory's requirements leave.
 
-ghost use Rattle.std.specs.Prelude.{◌≡◌, ◌++◌, ◌↔◌, [], ◌∷◌, IfErr, IfOk, List, None, OnOk, Some, map, option_map};
+ghost use Rattle.std.specs.Prelude.{◌≡◌, ◌++◌, ◌↔◌, [], ◌∷◌, IfErr, IfOk, List, Some, map, option_map};
 ghost use Rattle.std.specs.List.{All, list_any};
 ghost use Rattle.semver.specs.Identifiers.{parts_of};
 ghost use Rattle.semver.specs.Parse.{Held, Parts};
 ghost use Rattle.rustsec_versions.specs.Failure.{IsMemory};
-ghost use Rattle.rustsec_versions.specs.Gaps.{HasValidBounds, IsValidBound, cut, gap_before, gaps_from};
+ghost use Rattle.rustsec_versions.specs.Gaps.{HasValidBounds, IsValidBound, cut};
 ghost use Rattle.rustsec_versions.specs.Lists.{Lists, affected, intervals};
 ghost use Rattle.rustsec_versions.specs.Precedence.{IsVersion};
 ghost use Rattle.rustsec_versions.specs.Ranges.{AreRanges, HasCuts, Range, SameRequirements, affects, affects_from, affects_till, in_ranges, lower_cut, upper_cut};
@@ -13,7 +13,8 @@ ghost use Rattle.rustsec_versions.specs.Successor.{IsLeastAbove, successor};
 ghost use Rattle.rustsec_versions.specs.Views.{endpoint_of, range_of};
 
 use crate::error::{Error, Result};
-use crate::interval::{Bound, UnaffectedRange};
+use crate::gap::Gap;
+use crate::interval::Bound;
 use crate::next_version::successor;
 use crate::versions::Versions;
 use rustsec_values::ExactClone;
@@ -97,7 +98,7 @@ fn is_till(fixed: &Option<Version>, version: &Version) -> bool
 }
 
 /// Where an interval with this start begins.
-fn lower_cut(alloc: Global, start: &Bound) -> Result<Option<Version>>
+pub(crate) fn lower_cut(alloc: Global, start: &Bound) -> Result<Option<Version>>
     requires { IsValidBound (endpoint_of start.now) }
     ensures ok { IfOk result (λ o. option_map parts_of o ≡ lower_cut (endpoint_of start.now)) }
     ensures err { IfErr result IsMemory }
@@ -113,7 +114,7 @@ fn lower_cut(alloc: Global, start: &Bound) -> Result<Option<Version>>
 }
 
 /// Where an interval with this end is over.
-fn upper_cut(alloc: Global, end: &Bound) -> Result<Option<Version>>
+pub(crate) fn upper_cut(alloc: Global, end: &Bound) -> Result<Option<Version>>
     requires { IsValidBound (endpoint_of end.now) }
     ensures ok { IfOk result (λ o. option_map parts_of o ≡ upper_cut (endpoint_of end.now)) }
     ensures err { IfErr result IsMemory }
@@ -128,49 +129,18 @@ fn upper_cut(alloc: Global, end: &Bound) -> Result<Option<Version>>
     }
 }
 
-/// Appends the gap before an interval with this start, where it has one.
-fn add_gap(
-    alloc: Global,
-    introduced: Option<Version>,
-    start: &Bound,
-    ranges: &mut Vec<OsvRange>,
-) -> Result<()>
-    requires { IsValidBound (endpoint_of start.now) }
-    ensures ok { OnOk result (ranges.new.items
-        ≡ ranges.old.items ++ gap_before (option_map parts_of introduced) (lower_cut (endpoint_of start.now)) []) }
+/// The ranges of gaps, in order.
+pub(crate) fn ranges_of(alloc: Global, gaps: &[Gap]) -> Result<Vec<OsvRange>>
+    requires { All HasValidBounds gaps.now }
+    ensures ok { IfOk result (λ v. v.items ≡ map cut gaps.now) }
     ensures err { IfErr result IsMemory }
 {
-    if let Some(fixed) = lower_cut(alloc, start)? {
-        let gap = OsvRange {
-            introduced,
-            fixed: Some(fixed),
-        };
-        ranges.push(gap).map_err(|_| AllocError)?;
+    let mut all = Vec::new(alloc);
+    for gap in gaps {
+        let range = gap.range(alloc)?;
+        all.push(range).map_err(|_| AllocError)?;
     }
-    Ok(())
-}
-
-/// The gaps between intervals that stand in the order of their starts.
-pub(crate) fn gaps(alloc: Global, sorted: &[&UnaffectedRange]) -> Result<Vec<OsvRange>>
-    requires { All (λ x. HasValidBounds x.now) sorted.now }
-    ensures ok { IfOk result (λ v. v.items ≡ gaps_from None (map (λ x. cut x.now) sorted.now)) }
-    ensures err { IfErr result IsMemory }
-{
-    let mut ranges = Vec::new(alloc);
-    let mut introduced = None;
-    for interval in sorted {
-        add_gap(alloc, introduced, interval.start(), &mut ranges)?;
-        match upper_cut(alloc, interval.end())? {
-            Some(cut) => introduced = Some(cut),
-            None => return Ok(ranges),
-        }
-    }
-    let last = OsvRange {
-        introduced,
-        fixed: None,
-    };
-    ranges.push(last).map_err(|_| AllocError)?;
-    Ok(ranges)
+    Ok(all)
 }
 
 /// The ranges of affected versions, in rising order: the gaps between the intervals of the
@@ -200,6 +170,6 @@ pub fn ranges_for_advisory(alloc: Global, versions: &Versions) -> Result<Vec<Osv
         → AreRanges (intervals ls) rs → rs ≡ v.items) }
     ensures err { IfErr result IsMemory }
 {
-    let stored = versions.ranges()?;
-    Ok(stored)
+    let ranges = versions.ranges(alloc)?;
+    Ok(ranges)
 }

@@ -2,26 +2,26 @@
 
 ghost use Rattle.std.specs.Prelude.{◌≡◌, ◌+◌, ◌-◌, ◌^◌, ◌≤◌, ◌++◌, ℕ, IfErr, IfOk, List, OnOk, false, filter_map, length, map, true};
 ghost use Rattle.std.specs.Cmp.{partial_equiv_from_equiv};
-ghost use Rattle.std.specs.List.{list_any};
 ghost use Rattle.semver.specs.Identifiers.{parts_of};
 ghost use Rattle.rustsec_versions.specs.Apart.{meets_next, neighbours_apart};
+ghost use Rattle.rustsec_versions.specs.Between.{AreGapsOf};
 ghost use Rattle.rustsec_versions.specs.Equality.{lists_eq, lists_equiv};
 ghost use Rattle.rustsec_versions.specs.EqualityLaws.{lists_decides};
 ghost use Rattle.rustsec_versions.specs.Failure.{IsMemory, IsRefusal};
-ghost use Rattle.rustsec_versions.specs.Interval.{holds};
 ghost use Rattle.rustsec_versions.specs.Lists.{Lists, accepted, affected, all_admissible, intervals, no_lists};
-ghost use Rattle.rustsec_versions.specs.Precedence.{IsVersion, version_order, with_build};
+ghost use Rattle.rustsec_versions.specs.Precedence.{version_order, with_build};
 ghost use Rattle.rustsec_versions.specs.Ranges.{AreRanges, Range, SameRequirements};
 ghost use Rattle.rustsec_versions.specs.Requirement.{interval_of};
 ghost use Rattle.rustsec_versions.specs.StoredRanges.{AreRangesOf, HasBinaryDigits};
 ghost use Rattle.rustsec_versions.specs.Views.{comparators_of, lists_of};
 
 use crate::error::{Error, ErrorKind, Result};
+use crate::gap::{Gap, gaps};
 use crate::interval::UnaffectedRange;
 use crate::overlaps::overlap_refused;
-use crate::ranges::{OsvRange, gaps};
+use crate::ranges::{OsvRange, ranges_of};
 use crate::requirements::Requirements;
-use crate::search::in_ranges;
+use crate::search::in_gaps;
 use crate::starts::by_start;
 use crate::steps::Steps;
 use rustsec_values::{ExactClone, ExactEq};
@@ -34,21 +34,19 @@ use std::marker::Model;
 pub struct Versions {
     patched: Requirements,
     unaffected: Requirements,
-    intervals: Vec<UnaffectedRange>,
-    ranges: Vec<OsvRange>,
+    /// The affected versions: what the intervals of the requirements leave, in order.
+    gaps: Vec<Gap>,
 }
 
 impl Model for Versions {
-    ghost use Rattle.std.specs.Prelude.{◌≡◌};
-    ghost use Rattle.rustsec_versions.specs.Lists.{Lists, intervals as listed_intervals};
-    ghost use Rattle.rustsec_versions.specs.StoredRanges.{AreRangesOf};
+    ghost use Rattle.rustsec_versions.specs.Between.{AreGapsOf};
+    ghost use Rattle.rustsec_versions.specs.Lists.{Lists};
 
     ghost Value = { Lists };
 
     ghost view = { λ v. record { patched = v.patched; unaffected = v.unaffected } };
 
-    ghost invariant = { λ v. AreRangesOf (record { patched = v.patched; unaffected = v.unaffected }) v.ranges.items
-        × (v.intervals.items ≡ listed_intervals (record { patched = v.patched; unaffected = v.unaffected })) };
+    ghost invariant = { λ v. AreGapsOf (record { patched = v.patched; unaffected = v.unaffected }) v.gaps.items };
 }
 
 /// Appends the interval of each requirement.
@@ -107,17 +105,17 @@ fn neighbours_apart(intervals: &[&UnaffectedRange]) -> bool
     true
 }
 
-/// The ranges between the intervals of the requirements. Behind the order of starts it is enough to
-/// look at neighbours for overlaps.
-fn ranges_between(
+/// The gaps between the intervals of the requirements. Behind the order of starts it is enough to look
+/// at neighbours for overlaps.
+fn gaps_between(
     alloc: Global,
     patched: &Requirements,
     unaffected: &Requirements,
     intervals: &[UnaffectedRange],
-) -> Result<Vec<OsvRange>>
+) -> Result<Vec<Gap>>
     requires admissible { all_admissible (patched.now ++ unaffected.now) ≡ true }
     requires intervals { intervals.now ≡ filter_map interval_of (patched.now ++ unaffected.now) }
-    ensures ok { IfOk result (λ v. AreRangesOf (record { patched = patched.now; unaffected = unaffected.now }) v.items) }
+    ensures ok { IfOk result (λ v. AreGapsOf (record { patched = patched.now; unaffected = unaffected.now }) v.items) }
     ensures err { IfErr result (IsRefusal ErrorKind.BadParam
         (accepted (record { patched = patched.now; unaffected = unaffected.now }) ≡ false)) }
 {
@@ -126,26 +124,8 @@ fn ranges_between(
     if !neighbours_apart(in_order) {
         return Err(overlap_refused(alloc, patched, unaffected, intervals, in_order));
     }
-    gaps(alloc, in_order)
-}
-
-/// Whether some interval holds a version.
-fn any_holds(intervals: &[UnaffectedRange], version: &Version) -> bool
-    ensures { result ≡ list_any (λ i. holds i (parts_of version.now)) intervals.now }
-{
-    intervals.iter().any(|interval| interval.holds(version))
-}
-
-/// Whether a version has no pre-release. It is valid then, since its numbers have 64 bits; the
-/// prover knows so of numbers that the body reads.
-#[tactic(auto, using(crate::proofs::Parsed::release_valid))]
-fn is_release(version: &Version) -> bool
-    ensures { result ≡ true → IsVersion (parts_of version.now) }
-{
-    let _major = version.major;
-    let _minor = version.minor;
-    let _patch = version.patch;
-    version.pre.is_empty()
+    let gaps = gaps(alloc, in_order)?;
+    Ok(gaps)
 }
 
 impl Versions {
@@ -171,12 +151,11 @@ impl Versions {
         let patched = Requirements::from(patched);
         let unaffected = Requirements::from(unaffected);
         let intervals = intervals_of(alloc, &patched, &unaffected)?;
-        let ranges = ranges_between(alloc, &patched, &unaffected, &intervals)?;
+        let gaps = gaps_between(alloc, &patched, &unaffected, &intervals)?;
         Ok(Versions {
             patched,
             unaffected,
-            intervals,
-            ranges,
+            gaps,
         })
     }
 
@@ -207,8 +186,7 @@ impl Versions {
     }
 
     /// Whether a version is affected: whether no requirement's interval holds it, in precedence
-    /// (SemVer 2.0.0, section 11). The ranges answer for a version without a pre-release. One with a
-    /// pre-release may be made by hand and not be valid, so the intervals answer for it.
+    /// (SemVer 2.0.0, section 11). The search is that of `is_vulnerable_counted`.
     pub fn is_vulnerable(&self, version: &Version) -> bool
         ensures answer { result ≡ affected self.now (parts_of version.now) }
 
@@ -216,32 +194,30 @@ impl Versions {
         ensures build { (b : List ℕ) → affected self.now (with_build b (parts_of version.now)) ≡ result }
         ensures accepted { accepted self.now ≡ true }
     {
-        if is_release(version) {
-            let mut steps = Steps::new();
-            return self.is_vulnerable_counted(version, &mut steps);
-        }
-        !any_holds(&self.intervals, version)
+        let mut steps = Steps::new();
+        self.is_vulnerable_counted(version, &mut steps)
     }
 
-    /// Whether a valid version is affected, by a search among the ranges that halves them. It counts
-    /// the comparisons of versions: at most one more than the number of ranges has binary digits.
+    /// Whether a version is affected, by a search among the affected versions that halves them. It
+    /// counts the comparisons of versions: at most one more than the number of ranges has binary digits.
     pub fn is_vulnerable_counted(&self, version: &Version, steps: &mut Steps) -> bool
-        ensures answer { IsVersion (parts_of version.now) → result ≡ affected self.now (parts_of version.now) }
-        ensures build { IsVersion (parts_of version.now) → (b : List ℕ) → affected self.now (with_build b (parts_of version.now)) ≡ result }
+        ensures answer { result ≡ affected self.now (parts_of version.now) }
+        ensures build { (b : List ℕ) → affected self.now (with_build b (parts_of version.now)) ≡ result }
         ensures accepted { accepted self.now ≡ true }
         ensures count { (rs : List Range) (digits : ℕ) → AreRanges (intervals self.now) rs → HasBinaryDigits (length rs) digits
             → steps.new ≤ steps.old + digits + 1 }
         ensures rises { steps.old ≤ steps.new }
         ensures stays { steps.old ≡ 2 ^ 64 - 1 → steps.new ≡ 2 ^ 64 - 1 }
     {
-        in_ranges(&self.ranges, version, steps)
+        in_gaps(&self.gaps, version, steps)
     }
 
-    /// A copy of the ranges that the requirements leave.
-    pub(crate) fn ranges(&self) -> std::result::Result<Vec<OsvRange>, AllocError>
-        ensures { IfOk result (λ v. AreRangesOf self.now v.items) }
+    /// The ranges that the requirements leave.
+    pub(crate) fn ranges(&self, alloc: Global) -> Result<Vec<OsvRange>>
+        ensures ok { IfOk result (λ v. AreRangesOf self.now v.items) }
+        ensures err { IfErr result IsMemory }
     {
-        copied(&self.ranges)
+        ranges_of(alloc, &self.gaps)
     }
 
     /// An equal value.
@@ -258,21 +234,11 @@ impl Versions {
     }
 }
 
-/// A copy of a list of intervals.
-fn copied_intervals(
-    intervals: &Vec<UnaffectedRange>,
-) -> std::result::Result<Vec<UnaffectedRange>, AllocError>
-    ensures { IfOk result (λ v. v.items ≡ intervals.now.items) }
+/// A copy of a list of gaps.
+fn copied(gaps: &Vec<Gap>) -> std::result::Result<Vec<Gap>, AllocError>
+    ensures { IfOk result (λ v. v.items ≡ gaps.now.items) }
 {
-    let copy = intervals.clone()?;
-    Ok(copy)
-}
-
-/// A copy of a list of ranges.
-fn copied(ranges: &Vec<OsvRange>) -> std::result::Result<Vec<OsvRange>, AllocError>
-    ensures { IfOk result (λ v. v.items ≡ ranges.now.items) }
-{
-    let copy = ranges.clone()?;
+    let copy = gaps.clone()?;
     Ok(copy)
 }
 
@@ -282,13 +248,11 @@ impl Clone for Versions {
     fn clone(&self) -> std::result::Result<Versions, AllocError> {
         let patched = Clone::clone(&self.patched)?;
         let unaffected = Clone::clone(&self.unaffected)?;
-        let intervals = copied_intervals(&self.intervals)?;
-        let ranges = copied(&self.ranges)?;
+        let gaps = copied(&self.gaps)?;
         Ok(Versions {
             patched,
             unaffected,
-            intervals,
-            ranges,
+            gaps,
         })
     }
 }

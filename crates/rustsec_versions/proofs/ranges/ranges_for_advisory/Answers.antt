@@ -3,28 +3,28 @@ use Rattle.rustsec_versions.proofs.LeastAbove.{successor-least}
 use Rattle.rustsec_versions.proofs.ranges.ranges_for_advisory.Goals as goal
 
 pub returns-clause-ranges : goal.returns-clause-ranges
-returns-clause-ranges c = c.in_ok-stored.ensures.ranges
+returns-clause-ranges c = c.in_ok-ranges.ensures.ok.ranges
 
 pub returns-clause-empty : goal.returns-clause-empty
-returns-clause-empty c = kept-empty c.args.versions.now c.in_ok-stored.stored.items c.in_ok-stored.ensures
+returns-clause-empty c = kept-empty c.args.versions.now c.in_ok-ranges.ranges.items c.in_ok-ranges.ensures.ok
 
 pub returns-clause-agree : goal.returns-clause-agree
-returns-clause-agree c = c.in_ok-stored.ensures.agree
+returns-clause-agree c = c.in_ok-ranges.ensures.ok.agree
 
 pub returns-clause-affects : goal.returns-clause-affects
-returns-clause-affects c = c.in_ok-stored.ensures.agree_affects
+returns-clause-affects c = c.in_ok-ranges.ensures.ok.agree_affects
 
 pub returns-clause-order : goal.returns-clause-order
-returns-clause-order c = kept-order c.args.versions.now c.in_ok-stored.stored.items c.in_ok-stored.ensures
+returns-clause-order c = kept-order c.args.versions.now c.in_ok-ranges.ranges.items c.in_ok-ranges.ensures.ok
 
 pub returns-clause-cuts : goal.returns-clause-cuts
 returns-clause-cuts c = successor-least
 
-pub returns-in_err-stored-clause-cuts : goal.returns-in_err-stored-clause-cuts
-returns-in_err-stored-clause-cuts c = successor-least
+pub returns-in_err-ranges-clause-cuts : goal.returns-in_err-ranges-clause-cuts
+returns-in_err-ranges-clause-cuts c = successor-least
 
 pub returns-clause-has_cuts : goal.returns-clause-has_cuts
 returns-clause-has_cuts c = all-cuts c.args.versions.now
 
-pub returns-in_err-stored-clause-has_cuts : goal.returns-in_err-stored-clause-has_cuts
-returns-in_err-stored-clause-has_cuts c = all-cuts c.args.versions.now
+pub returns-in_err-ranges-clause-has_cuts : goal.returns-in_err-ranges-clause-has_cuts
+returns-in_err-ranges-clause-has_cuts c = all-cuts c.args.versions.now

@@ -1,17 +1,17 @@
 use Rattle.std.proofs.Common.{◌-◌, ◌≡◌, ◌<◌, ◌≤◌, ◌^◌, ℕ, false, get_or, length, true}
 use Rattle.semver.specs.Identifiers.{parts_of}
-use Rattle.rustsec_versions.specs.Ranges.{Range, is_from}
+use Rattle.rustsec_versions.specs.Interval.{Interval, is_after}
 use Rattle.rustsec_versions.proofs.Halving.{WithinDigits}
 use Rattle.rustsec_versions.proofs.search.begun.Given as goal
 
--- each range before `low` begins at or below the version, and each from `high` on above it
+-- each gap before `low` begins before the version, and none from `high` on
 abbrev pub invariant-loop-low : goal.invariant-loop-low
 invariant-loop-low l = record {
   low : l.low ≤ l.high;
-  high : l.high ≤ length l.ranges;
-  before : (k : ℕ) (d : Range) → k < l.low → is_from (get_or l.ranges k d).introduced (parts_of l.version) ≡ true;
-  after : (k : ℕ) (d : Range) → l.high ≤ k → k < length l.ranges → is_from (get_or l.ranges k d).introduced (parts_of l.version) ≡ false;
-  count : WithinDigits (length l.ranges) l.fn.steps (l.high - l.low) l.steps;
+  high : l.high ≤ length l.gaps;
+  before : (k : ℕ) (d : Interval) → k < l.low → is_after (get_or l.gaps k d).start (parts_of l.version) ≡ true;
+  after : (k : ℕ) (d : Interval) → l.high ≤ k → k < length l.gaps → is_after (get_or l.gaps k d).start (parts_of l.version) ≡ false;
+  count : WithinDigits (length l.gaps) l.fn.steps (l.high - l.low) l.steps;
   rises : l.fn.steps ≤ l.steps;
   stays : l.fn.steps ≡ 2 ^ 64 - 1 → l.steps ≡ 2 ^ 64 - 1;
 }

@@ -11,23 +11,20 @@ returns-in_err-intervals-clause-err c =
     let bad = rw (c.from-patched.ensures, c.from-unaffected.ensures) at c.in_err-intervals.ensures.err in
     rw (p.1, p.2) (refused_by _ c.in_err-intervals.field-0.0 (accepted-refused (lists_of c.args.patched.items c.args.unaffected.items)) bad)
 
-pub returns-in_err-ranges-clause-err : goal.returns-in_err-ranges-clause-err
-returns-in_err-ranges-clause-err c =
-    let p = err_from_is_err_and c.from_residual-in_err-ranges.result c.from_residual-in_err-ranges.ensures.1 in
-    let bad = rw (c.from-patched.ensures, c.from-unaffected.ensures) at c.in_err-ranges.ensures.err in
+pub returns-in_err-gaps-clause-err : goal.returns-in_err-gaps-clause-err
+returns-in_err-gaps-clause-err c =
+    let p = err_from_is_err_and c.from_residual-in_err-gaps.result c.from_residual-in_err-gaps.ensures.1 in
+    let bad = rw (c.from-patched.ensures, c.from-unaffected.ensures) at c.in_err-gaps.ensures.err in
     rw (p.1, p.2) bad
 
-pub invariant_of-result : goal.invariant_of-result
-invariant_of-result c = (c.in_ok-ranges.ensures.ok, c.in_ok-intervals.ensures.ok)
-
 pub returns-clause-accepted : goal.returns-clause-accepted
-returns-clause-accepted c = (rw (c.from-patched.ensures, c.from-unaffected.ensures) at c.in_ok-ranges.ensures.ok).accepts
+returns-clause-accepted c = (rw (c.from-patched.ensures, c.from-unaffected.ensures) at c.in_ok-gaps.ensures.ok).ranges.accepts
 
 pub returns-in_err-intervals-clause-order : goal.returns-in_err-intervals-clause-order
 returns-in_err-intervals-clause-order c = same-accepted (lists_of c.args.patched.items c.args.unaffected.items)
 
-pub returns-in_err-ranges-clause-order : goal.returns-in_err-ranges-clause-order
-returns-in_err-ranges-clause-order c = same-accepted (lists_of c.args.patched.items c.args.unaffected.items)
+pub returns-in_err-gaps-clause-order : goal.returns-in_err-gaps-clause-order
+returns-in_err-gaps-clause-order c = same-accepted (lists_of c.args.patched.items c.args.unaffected.items)
 
 pub returns-clause-order : goal.returns-clause-order
 returns-clause-order c = same-accepted (lists_of c.args.patched.items c.args.unaffected.items)

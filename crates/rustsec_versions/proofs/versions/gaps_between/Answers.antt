@@ -1,19 +1,12 @@
 use Rattle.std.proofs.Common.{◌≡◌, ◌++◌, ◌∙◌, IsPermutation, map, refl, sym, true}
 use Rattle.std.specs.List.Sorted.{IsSortedByKey}
-use Rattle.std.proofs.lemmas.Result.{IfOk-weaker}
 use Rattle.rustsec_versions.specs.Gaps.{start_order}
 use Rattle.rustsec_versions.specs.Lists.{Lists, accepted, intervals}
-use Rattle.rustsec_versions.proofs.Agreement.{sorted-valid, walk-AreRangesOf}
+use Rattle.rustsec_versions.proofs.Agreement.{walk-AreGapsOf}
 use Rattle.rustsec_versions.proofs.Clashes.{accepted-admissible}
 use Rattle.rustsec_versions.proofs.Neighbours.{sorted-apart}
 use Rattle.rustsec_versions.proofs.Refusals.{refusal}
-use Rattle.rustsec_versions.proofs.versions.ranges_between.Goals as goal
-
-pub gaps-requires : goal.gaps-requires
-gaps-requires c =
-    let lists : Lists = record { patched = c.args.patched.now; unaffected = c.args.unaffected.now } in
-    let same = rw c.requires.intervals at c.in_ok-sorted.ensures.same in
-    sorted-valid lists c.deref-in_order.result.now (rw c.deref-in_order.ensures.value same)
+use Rattle.rustsec_versions.proofs.versions.gaps_between.Goals as goal
 
 pub returns-then-not-neighbours_apart-clause-err : goal.returns-then-not-neighbours_apart-clause-err
 returns-then-not-neighbours_apart-clause-err c =
@@ -32,5 +25,5 @@ returns-clause-ok c =
     rw c.deref-in_order.ensures.value c.in_ok-sorted.ensures.sorted in
     let apart = sorted-apart (c.args.patched.now ++ c.args.unaffected.now) (intervals lists) c.deref-in_order.result.now refl here sorted in
     let accepts : accepted lists ≡ true = accepted-admissible lists c.requires.admissible ∙ sym apart ∙ sym c.if-not-neighbours_apart.ensures in
-    let fact = walk-AreRangesOf lists accepts c.deref-in_order.result.now here sorted in
-    IfOk-weaker c.gaps.result _ _ (λ v e. rw e fact) c.gaps.ensures.ok
+    let fact = walk-AreGapsOf lists accepts c.deref-in_order.result.now here sorted in
+    rw c.in_ok-gaps.ensures fact

@@ -1,0 +1,104 @@
+//! The gaps between intervals of versions that are not affected: the affected versions.
+
+ghost use Rattle.std.specs.Prelude.{◌≡◌, ◌++◌, [], IfErr, IfOk, OnOk, map};
+ghost use Rattle.rustsec_versions.specs.Between.{gap_to, gaps_between, turned};
+ghost use Rattle.rustsec_versions.specs.Failure.{IsMemory};
+ghost use Rattle.rustsec_versions.specs.Gaps.{HasValidBounds, cut};
+ghost use Rattle.rustsec_versions.specs.Interval.{unbounded};
+ghost use Rattle.rustsec_versions.specs.Views.{endpoint_of};
+
+use crate::error::Result;
+use crate::interval::{Bound, UnaffectedRange};
+use crate::ranges::{OsvRange, lower_cut, upper_cut};
+use rustsec_values::ExactClone;
+use std::alloc::{AllocError, Global};
+use std::marker::Model;
+
+/// The affected versions between two bounds, which may be none.
+#[derive(Debug, Drop)]
+pub(crate) struct Gap {
+    pub(crate) start: Bound,
+    pub(crate) end: Bound,
+}
+
+impl Model for Gap {
+    ghost use Rattle.rustsec_versions.specs.Interval.{Interval};
+    ghost use Rattle.rustsec_versions.specs.Views.{interval_between};
+
+    ghost Value = { Interval };
+
+    ghost view = { λ g. interval_between g.start g.end };
+}
+
+impl Clone for Gap {
+    ghost is_clone = { λ a b. b ≡ a };
+
+    fn clone(&self) -> std::result::Result<Gap, AllocError> {
+        let start = Clone::clone(&self.start)?;
+        let end = Clone::clone(&self.end)?;
+        Ok(Gap { start, end })
+    }
+}
+
+impl ExactClone for Gap {
+    ghost exact = { λ x y e. e };
+}
+
+impl Gap {
+    /// The range of the same valid versions: from the version least above an exclusive start on, and below
+    /// the version least above an inclusive end.
+    pub(crate) fn range(&self, alloc: Global) -> Result<OsvRange>
+        requires { HasValidBounds self.now }
+        ensures ok { IfOk result (λ r. r ≡ cut self.now) }
+        ensures err { IfErr result IsMemory }
+    {
+        let introduced = lower_cut(alloc, &self.start)?;
+        let fixed = upper_cut(alloc, &self.end)?;
+        Ok(OsvRange { introduced, fixed })
+    }
+}
+
+/// Where what an interval leaves begins, by its end, or is over, by its start.
+fn turned(bound: &Bound) -> std::result::Result<Bound, AllocError>
+    ensures { IfOk result (λ b. endpoint_of b ≡ turned (endpoint_of bound.now)) }
+{
+    match bound {
+        Bound::Unbounded => Ok(Bound::Unbounded),
+        Bound::Exclusive(version) => Ok(Bound::Inclusive(version.clone()?)),
+        Bound::Inclusive(version) => Ok(Bound::Exclusive(version.clone()?)),
+    }
+}
+
+/// Appends the gap before an interval with this start, where it has one.
+fn add_gap(from: Bound, start: &Bound, gaps: &mut Vec<Gap>) -> std::result::Result<(), AllocError>
+    ensures { OnOk result (gaps.new.items ≡ gaps.old.items ++ gap_to (endpoint_of from) (endpoint_of start.now) []) }
+{
+    match turned(start)? {
+        Bound::Unbounded => Ok(()),
+        end => gaps.push(Gap { start: from, end }).map_err(|_| AllocError),
+    }
+}
+
+/// The gaps between intervals that stand in the order of their starts.
+pub(crate) fn gaps(
+    alloc: Global,
+    sorted: &[&UnaffectedRange],
+) -> std::result::Result<Vec<Gap>, AllocError>
+    ensures { IfOk result (λ v. v.items ≡ gaps_between unbounded (map (λ x. x.now) sorted.now)) }
+{
+    let mut gaps = Vec::new(alloc);
+    let mut from = Bound::Unbounded;
+    for interval in sorted {
+        add_gap(from, interval.start(), &mut gaps)?;
+        match turned(interval.end())? {
+            Bound::Unbounded => return Ok(gaps),
+            next => from = next,
+        }
+    }
+    let last = Gap {
+        start: from,
+        end: Bound::Unbounded,
+    };
+    gaps.push(last).map_err(|_| AllocError)?;
+    Ok(gaps)
+}
