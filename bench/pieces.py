@@ -65,6 +65,27 @@ KNOWN = {
 READERS = {reader: 3 for reader in KNOWN} | {"advisory": 6, "lint": 6, "parts": 5, "lockfile": 8, "osv": 14}
 
 
+def places_of(tree):
+    """Each place below a tree: what holds it, and its key or number there."""
+    keys = list(tree) if isinstance(tree, dict) else range(len(tree)) if isinstance(tree, list) else []
+    return [(tree, key) for key in keys] + [place for key in keys for place in places_of(tree[key])]
+
+
+def change_tree(r, tree):
+    """Another value at one place, none, one more, or two values in one another's place."""
+    places = places_of(tree)
+    (held, key), (other, at) = r.choice(places), r.choice(places)
+    kind = r.random()
+    if kind < 0.5:
+        held[key] = r.choice([None, True, 0, 1.5, 2**64, "", [], {}, [None], {"": ""}, "\0", r.choice(SHORT), r.choice(NUMBERS)])
+    elif kind < 0.7:
+        del held[key]
+    elif kind < 0.8 and isinstance(held, dict):
+        held[r.choice(["", "x", "fixed", "Introduced", key + " "])] = held[key]
+    else:
+        held[key], other[at] = json.loads(json.dumps([other[at], held[key]]))
+
+
 def osv_document(r):
     """A document of the OSV schema, mostly one that is read."""
     one = lambda values: r.choice(values[0] if r.random() < 0.97 else values[0] + values[1])
@@ -87,8 +108,8 @@ def osv_document(r):
         "severity": r.choice([[], [{"type": "CVSS_V3", "score": advisories.VECTORS[0][0]}], [{"type": "CVSS_V4", "score": "CVSS:4.0/x"}]]),
         "database_specific": {"license": r.choice([None, "CC0-1.0"])},
     }
-    for key in r.sample(sorted(document), r.choice([0, 0, 0, 1])):
-        del document[key]
+    for _ in range(r.choice([0, 0, 1, 1, 2])):
+        change_tree(r, document)
     return json.dumps(document, ensure_ascii=False, indent=r.choice([None, None, 1]))
 
 
@@ -175,7 +196,9 @@ def text_for(r, reader):
 def reader_input(r):
     """A reader and its text."""
     reader = r.choices(list(READERS), READERS.values())[0]
-    data = changed(r, text_for(r, reader).encode(), text_for(r, reader).encode())
+    data = text_for(r, reader).encode()
+    if reader != "osv" or r.random() < 0.3:
+        data = changed(r, data, text_for(r, reader).encode())
     return reader, data.decode(errors="replace")
 
 
