@@ -2,11 +2,16 @@
 //! that the call can be timed from outside.
 //!
 //!     rustsec_bench document|lockfile|parts|advisory|lint N FILE
+//!     rustsec_bench read FILE
 //!
 //! `document` reads the text as a TOML document and no more, and `parts` takes an advisory apart and
 //! reads its front matter as one. It writes nothing. Its status is 0, 2 for other words, and 1 where the
 //! file or a call refuses.
+//!
+//! `read` gives each input of a file to the reader that the input names, and writes a line for each.
 #![tactic(auto)]
+
+mod readers;
 
 use rustsec_advisory::{Advisory, Linter};
 use rustsec_lock::Lockfile;
@@ -97,6 +102,9 @@ fn main(rt: HostRuntime) -> ExitCode {
     let Some(words) = words(&rt) else {
         return ExitCode::from(2);
     };
+    if let Some(path) = readers::asked(&words) {
+        return readers::read_file(&rt, path);
+    }
     let Some((call, times, path)) = asked(&words) else {
         return ExitCode::from(2);
     };

@@ -106,17 +106,37 @@ pub fn text_of<R: Read>(alloc: Global, reader: &mut R, path: &str) -> Result<Str
     }
 }
 
-/// The text of a file. It is opened, and `text_of` reads it.
-///
-/// # Errors
-///
-/// `Io` if the file cannot be opened; then as `text_of`.
-pub fn text_of_file<R: Files>(rt: &R, alloc: Global, path: &str) -> Result<String>
+/// The text of a regular file. It is opened, and `text_of` reads it.
+fn text_of_regular<R: Files>(rt: &R, alloc: Global, path: &str) -> Result<String>
     ensures kind { IfErr result (IsOfKind ErrorKind.Io) }
     ensures names { IfErr result (IsReadFailure path.now) }
 {
     match fs::File::open(rt, path) {
         Ok(mut file) => text_of(alloc, &mut file, path),
+        Err(e) => Err(failed(alloc, path, e)),
+    }
+}
+
+/// Whether a path leads to a file that can be read to its end: to no folder, pipe, device or socket,
+/// whose opening or reading could wait.
+fn is_regular<R: Files>(rt: &R, path: &str) -> io::Result<bool> {
+    let metadata = fs::metadata(rt, path)?;
+    Ok(metadata.is_file())
+}
+
+/// The text of a file. What is no regular file is never opened, so that no pipe, device or socket keeps
+/// the call waiting.
+///
+/// # Errors
+///
+/// `Io` if the file is no regular one or cannot be opened; then as `text_of`.
+pub fn text_of_file<R: Files>(rt: &R, alloc: Global, path: &str) -> Result<String>
+    ensures kind { IfErr result (IsOfKind ErrorKind.Io) }
+    ensures names { IfErr result (IsReadFailure path.now) }
+{
+    match is_regular(rt, path) {
+        Ok(true) => text_of_regular(rt, alloc, path),
+        Ok(false) => Err(failure(alloc, path, "it is no regular file")),
         Err(e) => Err(failed(alloc, path, e)),
     }
 }

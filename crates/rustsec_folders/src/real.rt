@@ -102,25 +102,6 @@ fn entries<R: Files>(rt: &R, alloc: Global, path: &str) -> Result<Items<FolderEn
     Ok(entries)
 }
 
-/// Whether a path leads to a file that can be read to its end: to no folder, pipe, device or socket,
-/// whose opening or reading could wait.
-fn is_regular<R: Files>(rt: &R, path: &str) -> io::Result<bool> {
-    let metadata = fs::metadata(rt, path)?;
-    Ok(metadata.is_file())
-}
-
-/// The text of a regular file.
-fn text<R: Files>(rt: &R, alloc: Global, path: &str) -> Result<String>
-    ensures kind { IfErr result (IsOfKind ErrorKind.Io) }
-    ensures names { IfErr result (IsReadFailure path.now) }
-{
-    match is_regular(rt, path) {
-        Ok(true) => reading::text_of_file(rt, alloc, path),
-        Ok(false) => Err(refused(alloc, path, "it is no regular file")),
-        Err(e) => Err(failed(alloc, path, e)),
-    }
-}
-
 /// The folders and files of a runtime. Nothing is known of what they hold, so every answer is allowed.
 ///
 /// A link in a folder is listed as no folder, and is read as the file that it leads to. What is no
@@ -160,7 +141,7 @@ impl<'a, R: Files> Folders for RealFolders<'a, R> {
         ensures same { AllowSame every_answer every_answer }
         ensures names { IfErr result (IsReadFailure path.now) }
     {
-        let text = text(self.files, alloc, path)?;
+        let text = reading::text_of_file(self.files, alloc, path)?;
         Ok(Text::from(text))
     }
 }

@@ -38,6 +38,8 @@ mod folders_in_memory;
 #[cfg(test)]
 mod function_paths;
 #[cfg(test)]
+mod hostile_input;
+#[cfg(test)]
 mod ids;
 #[cfg(test)]
 mod intervals;

@@ -1,0 +1,217 @@
+"""Inputs that try to take the program down: the shipped examples, the texts of the tests and random files, taken apart
+and put together again."""
+import json
+import os
+import re
+
+import advisories
+import databases
+import grammars
+import lines
+
+TOP = os.path.join(os.path.dirname(os.path.abspath(__file__)), "..")
+NUMBERS = [
+    "0", "1", "9", "00", "255", "256", "65536", "4294967295", "4294967296", "9223372036854775807", "9223372036854775808",
+    "18446744073709551614", "18446744073709551615", "18446744073709551616", "340282366920938463463374607431768211456",
+    "9" * 40, "-1", "+1", "1e9", "1e400", "0x10", "1_000", "inf", "nan", "2^64",
+]
+SPACES = [c.encode() for c in grammars.WHITE] + [b"\xe2\x80\x8b", b"\xef\xbb\xbf", b"\x1c", b"\x00"]
+ENDS = [b"\n", b"\r", b"\r\n", b"\n\r", b"\n\n", b"\x0b", b"\x0c", b"\xc2\x85", b"\xe2\x80\xa8", b"\xe2\x80\xa9", b""]
+NESTS = [(b"[", b"]"), (b"{a=", b"}"), (b'{"a":', b"}"), (b"(", b")"), (b"<", b">"), (b"[[", b"]]"), (b"a.", b""), (b'"', b'"'), (b"'''", b"'''")]
+BYTES = b"\x00\t\n\r !\"#$%&'()*+,-./09:;<=>?@AZ[\\]^_`az{|}~\x7f\x80\xc2\xe2\xf0\xff"
+ESCAPES = {"n": "\n", "r": "\r", "t": "\t", "0": "\0", "\\": "\\", '"': '"', "'": "'"}
+
+
+def unescaped(literal):
+    literal = re.sub(r"\\\n\s*", "", literal)
+    literal = re.sub(r"\\u\{([0-9a-fA-F]+)\}", lambda m: chr(int(m[1], 16)), literal)
+    literal = re.sub(r"\\x([0-9a-fA-F]{2})", lambda m: chr(int(m[1], 16)), literal)
+    return re.sub(r"\\(.)", lambda m: ESCAPES.get(m[1], m[1]), literal)
+
+
+def texts_of_tests():
+    """Each text that a test has written out."""
+    folder, found = os.path.join(TOP, "crates", "rustsec_vectors", "src"), set()
+    for name in sorted(os.listdir(folder)):
+        with open(os.path.join(folder, name), encoding="utf-8") as f:
+            source = f.read()
+        for raw, plain in re.findall(r'r#"(.*?)"#|"((?:[^"\\]|\\.)*)"', source, re.S):
+            found.add(raw or unescaped(plain))
+    return sorted(found)
+
+
+def examples():
+    """The shipped examples."""
+    folder, found = os.path.join(TOP, "examples"), []
+    for top, _, names in sorted(os.walk(folder)):
+        for name in sorted(names):
+            with open(os.path.join(top, name), encoding="utf-8") as f:
+                found.append(f.read())
+    return found
+
+
+TEXTS = [*texts_of_tests(), *examples()]
+SHORT = [t for t in TEXTS if len(t) < 100]
+ADVISORIES = [t for t in TEXTS if t.startswith("```toml")]
+LOCKFILES = [t for t in TEXTS if "[[package]]" in t]
+KNOWN = {
+    "address": advisories.ADDRESSES, "arch": advisories.ARCHES, "category": advisories.KINDS, "collection": advisories.COLLECTIONS,
+    "cvss": advisories.VECTORS, "date": advisories.DATES, "id": advisories.IDS, "identifier": (["base", "<A,B>"], ["0a"]),
+    "informational": (["notice", "unsound"], []), "interval": (lines.ODD_REQUIREMENTS, advisories.REQUIREMENTS[0]),
+    "keyword": (["how"], []), "license": (["CC0-1.0"], []), "name": (["base"], [""]), "os": advisories.SYSTEMS,
+    "path": advisories.PATHS, "source": advisories.SOURCES, "warning": (["notice", "yanked"], []),
+}
+# Each reader, and how often it is asked.
+READERS = {reader: 3 for reader in KNOWN} | {"advisory": 6, "lint": 6, "parts": 5, "lockfile": 8, "osv": 14}
+
+
+def places_of(tree):
+    """Each place below a tree: what holds it, and its key or number there."""
+    keys = list(tree) if isinstance(tree, dict) else range(len(tree)) if isinstance(tree, list) else []
+    return [(tree, key) for key in keys] + [place for key in keys for place in places_of(tree[key])]
+
+
+def change_tree(r, tree):
+    """Another value at one place, none, one more, or two values in one another's place."""
+    places = places_of(tree)
+    (held, key), (other, at) = r.choice(places), r.choice(places)
+    kind = r.random()
+    if kind < 0.5:
+        held[key] = r.choice([None, True, 0, 1.5, 2**64, "", [], {}, [None], {"": ""}, "\0", r.choice(SHORT), r.choice(NUMBERS)])
+    elif kind < 0.7:
+        del held[key]
+    elif kind < 0.8 and isinstance(held, dict):
+        held[r.choice(["", "x", "fixed", "Introduced", key + " "])] = held[key]
+    else:
+        held[key], other[at] = json.loads(json.dumps([other[at], held[key]]))
+
+
+def osv_document(r):
+    """A document of the OSV schema, mostly one that is read."""
+    one = lambda values: r.choice(values[0] if r.random() < 0.97 else values[0] + values[1])
+    some = lambda values, most=2: [one(values) for _ in range(r.randint(0, most))]
+    version = lambda: r.choice(["0", "1", "1.2", "1.2.3", "0.0.0-0", "1.2.3-a+b", "1.2.3"])
+    keys = ["introduced", "fixed", "last_affected"]
+    links = ["https://rustsec.org/advisories/RUSTSEC-2021-0001.html", "https://rustsec.org/advisories/CVE-2021-1"]
+    document = {
+        "id": one(advisories.IDS), "modified": "m", "published": "p", "summary": "T", "details": "D",
+        "aliases": some(advisories.IDS), "related": some(advisories.IDS),
+        "affected": [{
+            "package": {"ecosystem": "crates.io", "name": r.choice(["base", "other"]), "purl": r.choice([None, "pkg:cargo/base"])},
+            "ecosystem_specific": r.choice([None, {"affected_functions": None, "affects": {
+                "arch": some(advisories.ARCHES), "os": some(advisories.SYSTEMS), "functions": some(advisories.PATHS)}}]),
+            "database_specific": {"categories": some(advisories.KINDS), "cvss": r.choice([None, one(advisories.VECTORS)]), "informational": None},
+            "ranges": [{"type": "SEMVER", "events": [{r.choice(keys): version()} for _ in range(r.randint(0, 3))]}],
+            "versions": r.choice([[], None, ["1"]]),
+        } for _ in range(r.randint(0, 2))],
+        "references": [{"type": r.choice(grammars.REFERENCES), "url": r.choice(links)} for _ in range(r.randint(0, 2))],
+        "severity": r.choice([[], [{"type": "CVSS_V3", "score": advisories.VECTORS[0][0]}], [{"type": "CVSS_V4", "score": "CVSS:4.0/x"}]]),
+        "database_specific": {"license": r.choice([None, "CC0-1.0"])},
+    }
+    for _ in range(r.choice([0, 0, 1, 1, 2])):
+        change_tree(r, document)
+    return json.dumps(document, ensure_ascii=False, indent=r.choice([None, None, 1]))
+
+
+def changed_byte(r, data, other):
+    at = r.randrange(len(data) + 1)
+    return data[:at] + bytes([r.choice(BYTES)]) + data[at + r.randint(0, 1):]
+
+
+def cut(r, data, other):
+    a, b = sorted((r.randrange(len(data) + 1), r.randrange(len(data) + 1)))
+    return r.choice([data[:a], data[b:], data[:a] + data[b:], data[a:b]])
+
+
+def doubled(r, data, other):
+    a, b = sorted((r.randrange(len(data) + 1), r.randrange(len(data) + 1)))
+    return data[:b] + data[a:b] * r.choice([1, 1, 2, 9]) + data[b:]
+
+
+def joined(r, data, other):
+    return data[:r.randrange(len(data) + 1)] + other[r.randrange(len(other) + 1):]
+
+
+def exchanged(r, data, other):
+    """Two lines, or two of the words, keys or values, in one another's place."""
+    pieces = re.split(r.choice([rb"(\n)", rb'("[^"\n]*")', rb"([A-Za-z0-9_.-]+)", rb"([/:.,\-+])"]), data)
+    a, b = r.randrange(len(pieces)), r.randrange(len(pieces))
+    pieces[a], pieces[b] = pieces[b], pieces[a]
+    return b"".join(pieces)
+
+
+def numbered(r, data, other):
+    found = list(re.finditer(rb"[0-9]+", data))
+    if not found:
+        return data + r.choice(NUMBERS).encode()
+    at = r.choice(found)
+    return data[:at.start()] + r.choice(NUMBERS).encode() + data[at.end():]
+
+
+def nested(r, data, other):
+    opening, closing = r.choice(NESTS)
+    times = r.choice([1, 2, 8, 64, 127, 128, 129, 1000])
+    a, b = sorted((r.randrange(len(data) + 1), r.randrange(len(data) + 1)))
+    return data[:a] + opening * times + data[a:b] + closing * r.choice([0, times, times, times - 1]) + data[b:]
+
+
+def spaced(r, data, other):
+    at = r.choice([0, len(data), r.randrange(len(data) + 1)])
+    return data[:at] + r.choice(SPACES) * r.choice([1, 1, 2, 30]) + data[at:]
+
+
+def ended(r, data, other):
+    return data.replace(b"\n", r.choice(ENDS)) if b"\n" in data else data + r.choice(ENDS)
+
+
+def long(r, data, other):
+    """A piece so many times that time or memory beyond a multiple of the size would show."""
+    a = r.randrange(len(data) + 1)
+    piece = data[a:a + r.choice([1, 2, 10, 50])] or b"a"
+    return data[:a] + piece * (r.choice([100, 1000, 1000, 20_000]) // len(piece)) + data[a:]
+
+
+CHANGES = [changed_byte] * 4 + [cut] * 4 + [doubled] * 2 + [joined, exchanged, exchanged, exchanged, numbered, numbered, nested, spaced, spaced, ended]
+
+
+def changed(r, data, other):
+    """An input with some changes, now and then with none."""
+    for _ in range(r.choice([0, 1, 1, 1, 2, 3])):
+        data = r.choice(CHANGES)(r, data, other)
+    return long(r, data, other) if r.random() < 0.002 else data
+
+
+def text_for(r, reader):
+    """A text that a reader may take."""
+    kind = r.random()
+    if reader in KNOWN:
+        return r.choice(SHORT) if kind < 0.3 else r.choice(r.choice([v for v in KNOWN[reader] if v]))
+    if reader == "osv":
+        return osv_document(r)
+    if reader == "lockfile":
+        return r.choice(LOCKFILES) if kind < 0.3 else databases.random_lockfile(r).decode()
+    return r.choice(ADVISORIES) if kind < 0.4 else advisories.random_file(r)[1].decode(errors="replace")
+
+
+def reader_input(r):
+    """A reader and its text."""
+    reader = r.choices(list(READERS), READERS.values())[0]
+    data = text_for(r, reader).encode()
+    if reader != "osv" or r.random() < 0.3:
+        data = changed(r, data, text_for(r, reader).encode())
+    return reader, data.decode(errors="replace")
+
+
+def file_input(r):
+    """The bytes of an advisory's file."""
+    return changed(r, *(text_for(r, "advisory").encode() for _ in range(2)))
+
+
+def lockfile_input(r):
+    """The bytes of a lockfile."""
+    return changed(r, *(text_for(r, "lockfile").encode() for _ in range(2)))
+
+
+def lines_input(r, command):
+    """The bytes of an input of `affected` or `ranges`."""
+    return changed(r, lines.random_input(r, command), lines.random_input(r, command))
