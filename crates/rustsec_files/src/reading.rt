@@ -25,7 +25,8 @@ pub fn bytes_of<R: Read>(alloc: Global, reader: &mut R) -> io::Result<Vec<u8>>
     ensures { IfOk result (λ v. IfSome (R.remaining reader.old) (λ bytes. v.items ≡ bytes)) }
 {
     let mut all = Vec::new(alloc);
-    let mut buf = [0u8; 65536];
+    // Every call clears the buffer, so it is small: most advisories fit it.
+    let mut buf = [0u8; 8192];
     'reads: for _ in 0..MAX_READS {
         match reader.read(&mut buf) {
             Ok(0) => return Ok(all),

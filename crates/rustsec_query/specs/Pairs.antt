@@ -13,12 +13,12 @@ pub record Pair : Type 0 where
   pub of : PackageValue
   pub by : Advisory
 
--- a source that is there and is the default registry
+-- a source that is there and is one of the two default registries: the index in git or the sparse one
 abbrev pub is_default_there : Option Source → Bool
 is_default_there None = false
 is_default_there (Some s) = is_default s
 
--- a package is audited where its source is the default registry
+-- a package is audited where its source is one of these two
 abbrev pub is_audited : PackageValue → Bool
 is_audited p = is_default_there p.source
 
