@@ -32,7 +32,7 @@ fn many_are_read(alloc: Global, count: usize) -> Result<bool, Fail> {
 
 #[test]
 fn readers_to_their_end(rt: HostRuntime) -> Result<(), Fail> {
-    for count in &[0, 1, 65535, 65536, 65537, 1200000] {
+    for count in &[0, 1, 8191, 8192, 8193, 65535, 65536, 65537, 1200000] {
         assert!(rt; many_are_read(rt.alloc(), *count)?, "of {count}");
     }
     Ok(())
