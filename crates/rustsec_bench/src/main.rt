@@ -5,16 +5,16 @@
 //!     rustsec_bench copy|from_rustsec|to_value|from_value N FILE
 //!
 //! `document` reads the text as a TOML document and no more, and `parts` takes an advisory apart and
-//! reads its front matter as one. `copy` and `from_rustsec` copy an advisory, `from_rustsec` exports the
-//! copy too; `to_value` is the tree of its document and the tree's text; `from_value` reads a JSON tree.
+//! reads its front matter as one. It writes nothing. Its status is 0, 2 for other words, and 1 where the
+//! file or a call refuses.
 //!
-//! It writes nothing, but for a refusal's kind. Its status is 0, 2 for other words, and 1 where the file
-//! or a call refuses.
+//! `copy` and `from_rustsec` copy an advisory, and `from_rustsec` exports the copy; `to_value` is the tree of
+//! its document and the tree's text; `from_value` reads a JSON tree as a document. The kind of what one of
+//! these refuses is written.
 #![tactic(auto)]
 
 mod osv;
 
-use crate::osv::{OsvCall, osv_call_of, repeat_osv};
 use rustsec_advisory::{Advisory, Linter};
 use rustsec_lock::Lockfile;
 use rustsec_texts::Parts;
@@ -33,13 +33,6 @@ enum Call {
     Lint,
 }
 
-/// A call, by the module that makes it.
-#[derive(Clone, Copy)]
-enum Wanted {
-    OfText(Call),
-    OfOsv(OsvCall),
-}
-
 /// The call of a word.
 fn call_of(word: &str) -> Option<Call> {
     match word {
@@ -49,14 +42,6 @@ fn call_of(word: &str) -> Option<Call> {
         "advisory" => Some(Call::Advisory),
         "lint" => Some(Call::Lint),
         _ => None,
-    }
-}
-
-/// The call of a word, of any module.
-fn wanted_of(word: &str) -> Option<Wanted> {
-    match call_of(word) {
-        Some(call) => Some(Wanted::OfText(call)),
-        None => osv_call_of(word).map(Wanted::OfOsv),
     }
 }
 
@@ -94,14 +79,6 @@ fn repeat(alloc: Global, call: Call, times: u32, text: &str) -> Result<()> {
     Ok(())
 }
 
-/// Makes a call of any module many times.
-fn make(alloc: Global, wanted: Wanted, times: u32, text: &str) -> Result<()> {
-    match wanted {
-        Wanted::OfText(call) => repeat(alloc, call, times, text),
-        Wanted::OfOsv(call) => repeat_osv(alloc, call, times, text),
-    }
-}
-
 /// The words behind the program's name, where they are texts.
 fn words(rt: &HostRuntime) -> Option<Vec<String>> {
     let mut words = Vec::new(rt.alloc());
@@ -112,25 +89,14 @@ fn words(rt: &HostRuntime) -> Option<Vec<String>> {
 }
 
 /// The call, how often it is made, and the file.
-fn asked(words: &[String]) -> Option<(Wanted, u32, &str)> {
+fn asked(words: &[String]) -> Option<(Call, u32, &str)> {
     match words {
-        [word, times, path] => {
-            let wanted = wanted_of(word)?;
+        [call, times, path] => {
+            let call = call_of(call)?;
             let times = times.parse().ok()?;
-            Some((wanted, times, path.as_str()))
+            Some((call, times, path.as_str()))
         }
         _ => None,
-    }
-}
-
-/// The status of an answer. A refusal's kind is written.
-fn status(rt: &HostRuntime, answer: Result<()>) -> ExitCode {
-    match answer {
-        Ok(()) => ExitCode::from(0),
-        Err(error) => {
-            let _ = println!(rt; "refused: {}", error.kind().text());
-            ExitCode::from(1)
-        }
     }
 }
 
@@ -138,11 +104,14 @@ fn main(rt: HostRuntime) -> ExitCode {
     let Some(words) = words(&rt) else {
         return ExitCode::from(2);
     };
-    let Some((wanted, times, path)) = asked(&words) else {
-        return ExitCode::from(2);
+    let Some((call, times, path)) = asked(&words) else {
+        return osv::run(&rt, &words);
     };
     let Ok(text) = fs::read_to_string(&rt, path) else {
         return ExitCode::from(1);
     };
-    status(&rt, make(rt.alloc(), wanted, times, &text))
+    match repeat(rt.alloc(), call, times, &text) {
+        Ok(()) => ExitCode::from(0),
+        Err(_) => ExitCode::from(1),
+    }
 }

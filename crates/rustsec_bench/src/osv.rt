@@ -5,13 +5,15 @@ use rustsec_osv::OsvAdvisory;
 use rustsec_versions::{Error, ErrorKind, Result};
 use serde_json::Value;
 use std::alloc::Global;
+use std::fs;
+use std::process::ExitCode;
 
 /// When the exported documents were last changed.
 const MODIFIED: &str = "2020-01-01T00:00:00Z";
 
 /// The call that is made.
 #[derive(Clone, Copy)]
-pub(crate) enum OsvCall {
+enum OsvCall {
     Copy,
     FromRustsec,
     ToValue,
@@ -19,7 +21,7 @@ pub(crate) enum OsvCall {
 }
 
 /// The call of a word.
-pub(crate) fn osv_call_of(word: &str) -> Option<OsvCall> {
+fn call_of(word: &str) -> Option<OsvCall> {
     match word {
         "copy" => Some(OsvCall::Copy),
         "from_rustsec" => Some(OsvCall::FromRustsec),
@@ -89,11 +91,45 @@ fn readings_of(alloc: Global, text: &str, times: u32) -> Result<()> {
 }
 
 /// Makes a call many times. What it is given is read from the text once.
-pub(crate) fn repeat_osv(alloc: Global, call: OsvCall, times: u32, text: &str) -> Result<()> {
+fn repeat(alloc: Global, call: OsvCall, times: u32, text: &str) -> Result<()> {
     match call {
         OsvCall::Copy => copies(alloc, &Advisory::from_str(alloc, text)?, times),
         OsvCall::FromRustsec => exports(alloc, &Advisory::from_str(alloc, text)?, times),
         OsvCall::ToValue => texts_of(alloc, Advisory::from_str(alloc, text)?, times),
         OsvCall::FromValue => readings_of(alloc, text, times),
     }
+}
+
+/// The call, how often it is made, and the file.
+fn asked(words: &[String]) -> Option<(OsvCall, u32, &str)> {
+    match words {
+        [call, times, path] => {
+            let call = call_of(call)?;
+            let times = times.parse().ok()?;
+            Some((call, times, path.as_str()))
+        }
+        _ => None,
+    }
+}
+
+/// The status of an answer. The kind of a refusal is written.
+fn status(rt: &HostRuntime, answer: Result<()>) -> ExitCode {
+    match answer {
+        Ok(()) => ExitCode::from(0),
+        Err(error) => {
+            let _ = println!(rt; "refused: {}", error.kind().text());
+            ExitCode::from(1)
+        }
+    }
+}
+
+/// Makes the call that words ask for. The status is 2 for other words.
+pub(crate) fn run(rt: &HostRuntime, words: &[String]) -> ExitCode {
+    let Some((call, times, path)) = asked(words) else {
+        return ExitCode::from(2);
+    };
+    let Ok(text) = fs::read_to_string(rt, path) else {
+        return ExitCode::from(1);
+    };
+    status(rt, repeat(rt.alloc(), call, times, &text))
 }
