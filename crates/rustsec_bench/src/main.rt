@@ -2,15 +2,21 @@
 //! that the call can be timed from outside.
 //!
 //!     rustsec_bench document|lockfile|parts|advisory|lint N FILE
+//!     rustsec_bench copy|from_rustsec|to_value|from_value N FILE
 //!     rustsec_bench read FILE
 //!
 //! `document` reads the text as a TOML document and no more, and `parts` takes an advisory apart and
 //! reads its front matter as one. It writes nothing. Its status is 0, 2 for other words, and 1 where the
 //! file or a call refuses.
 //!
+//! `copy` and `from_rustsec` copy an advisory, and `from_rustsec` exports the copy; `to_value` is the tree of
+//! its document and the tree's text; `from_value` reads a JSON tree as a document. The kind of what one of
+//! these refuses is written.
+//!
 //! `read` gives each input of a file to the reader that the input names, and writes a line for each.
 #![tactic(auto)]
 
+mod osv;
 mod readers;
 
 use rustsec_advisory::{Advisory, Linter};
@@ -106,7 +112,7 @@ fn main(rt: HostRuntime) -> ExitCode {
         return readers::read_file(&rt, path);
     }
     let Some((call, times, path)) = asked(&words) else {
-        return ExitCode::from(2);
+        return osv::run(&rt, &words);
     };
     let Ok(text) = fs::read_to_string(&rt, path) else {
         return ExitCode::from(1);

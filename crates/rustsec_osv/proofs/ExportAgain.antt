@@ -106,8 +106,9 @@ pub exported-again : (t : List ℕ) (a : Advisory) (modified : List ℕ) (d : Do
     → All IsReferenceAgain d.references → read_document (document_tree d) ≡ Some d
 exported-again t a modified d h x valid refs = document-again d (export-again t a modified d h x valid refs)
 
--- so it is with what the export answers
+-- so it is with what the export answers, whose references are read again
 pub exported-read : (a : Advisory) (modified : List ℕ) (r : Result Document Failure) → IfOk r (IsDocument a modified) → IfOk r AreEventsValid
-    → IfOk r (λ d. (t : List ℕ) → IsAdvisory t a → All IsReferenceAgain d.references → read_document (document_tree d) ≡ Some d)
-exported-read a modified (Ok d) x valid = λ t h refs. exported-again t a modified d h x valid refs
-exported-read a modified (Err f) x valid = tt
+    → IfOk r (λ d. All IsReferenceAgain d.references)
+    → IfOk r (λ d. (t : List ℕ) → IsAdvisory t a → read_document (document_tree d) ≡ Some d)
+exported-read a modified (Ok d) x valid refs = λ t h. exported-again t a modified d h x valid refs
+exported-read a modified (Err f) x valid refs = tt

@@ -10,6 +10,7 @@ pub mod LeastVersion
 pub mod Links
 pub mod Parts
 pub mod ReadLists
+pub mod ReferencesAgain
 pub mod RisingEvents
 pub mod TablesAgain
 pub mod TextsAgain

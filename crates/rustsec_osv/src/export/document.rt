@@ -83,6 +83,7 @@ fn made_of(alloc: Global, metadata: &Metadata, modified: &str) -> Result<Made>
     ensures severity { IfOk result (λ m. m.severity ≡ map severity_of (option_to_list metadata.now.cvss)) }
     ensures of_crate { IfOk result (λ m. m.«package» ≡ package_of metadata.now.«package») }
     ensures pages { IfOk result (λ m. own_pages metadata.now.«package» metadata.now.id.text ≡ Some m.pages) }
+    ensures again { IfOk result (λ m. All IsReferenceAgain m.pages) }
     ensures err { IfErr result (IsRefusal ErrorKind.Parse (own_pages metadata.now.«package» metadata.now.id.text ≡ None)) }
 {
     let pages = own_pages(alloc, &metadata.package, &metadata.id)?;
@@ -163,7 +164,8 @@ fn with_parts(
     affected: Option<Affected>,
     range: OsvJsonRange,
 ) -> std::result::Result<OsvAdvisory, AllocError>
-    ensures { IfOk result (λ d. d ≡ record {
+    requires { All IsReferenceAgain made.pages }
+    ensures value { IfOk result (λ d. d ≡ record {
       schema_version = None;
       id = parts.subject.id;
       modified = made.texts.modified;
@@ -178,6 +180,7 @@ fn with_parts(
       references = made.pages ++ map reference_of (option_to_list parts.origin.url ++ parts.origin.references);
       database_specific = record { license = Some made.texts.license };
     }) }
+    ensures again { IfOk result (λ d. All IsReferenceAgain d.references) }
 {
     let Made {
         texts,
@@ -215,6 +218,7 @@ fn document_with(
 ) -> Result<OsvAdvisory>
     ensures ok { IfOk result (λ d. (references : List OsvReference) × (references_of metadata ≡ Some references)
         × (d ≡ document_with metadata affected modified.now references range)) }
+    ensures again { IfOk result (λ d. All IsReferenceAgain d.references) }
     ensures err { IfErr result (IsRefusal ErrorKind.Parse (references_of metadata ≡ None)) }
 {
     let made = made_of(alloc, &metadata, modified)?;
@@ -239,10 +243,8 @@ impl OsvAdvisory {
         // The versions of the events are valid, so each event is read again from its tree.
         ensures valid { IfOk result AreEventsValid }
 
-        // If the advisory is that of a text, and its addresses are read again, as each `Address` is, then the
-        // document's tree is read as this document.
-        ensures again { IfOk result (λ d. (t : List ℕ) → IsAdvisory t advisory → All IsReferenceAgain d.references
-            → read_document (document_tree d) ≡ Some d) }
+        // If the advisory is that of a text, then the document's tree is read as this document.
+        ensures again { IfOk result (λ d. (t : List ℕ) → IsAdvisory t advisory → read_document (document_tree d) ≡ Some d) }
         ensures err { IfErr result (λ e. IsRefusal ErrorKind.BadParam (IsStarAlone advisory.versions) e
             ⊎ IsRefusal ErrorKind.Parse ((¬ IsStarAlone advisory.versions) × (references_of advisory.metadata ≡ None)) e) }
     {

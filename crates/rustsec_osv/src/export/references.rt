@@ -1,8 +1,9 @@
 // The references of an advisory's document.
 
-ghost use Rattle.std.specs.Prelude.{◌≡◌, ◌++◌, ◌∷◌, [], IfErr, IfOk, None, OnOk, Some, map, option_to_list};
+ghost use Rattle.std.specs.Prelude.{◌≡◌, ◌++◌, ◌∷◌, [], All, IfErr, IfOk, None, OnOk, Some, map, option_to_list};
 ghost use Rattle.rustsec_advisory.specs.Addresses.{address_of};
 ghost use Rattle.rustsec_versions.specs.Failure.{IsRefusal};
+ghost use Rattle.rustsec_osv.specs.DocumentAgain.{IsReferenceAgain};
 ghost use Rattle.rustsec_osv.specs.References.{advisory_page, has, is_advisory, is_package, is_report, kind_of, own_pages, package_page, reference_of};
 
 use crate::reference::{OsvReference, OsvReferenceKind};
@@ -61,7 +62,10 @@ fn kind_of(address: &str) -> OsvReferenceKind
 
 /// The reference to an address.
 fn reference_of(address: Address) -> OsvReference
-    ensures { result ≡ reference_of address }
+    ensures value { result ≡ reference_of address }
+
+    // The text of any `Address` is read as this address.
+    ensures again { IsReferenceAgain result }
 {
     let kind = kind_of(address.as_str());
     OsvReference { kind, url: address }
@@ -87,13 +91,26 @@ fn advisory_page(alloc: Global, id: &Id) -> Result<Address>
     Address::from_str(alloc, &text)
 }
 
+/// Appends the reference to an address.
+fn add_reference(
+    address: Address,
+    references: &mut Items<OsvReference>,
+) -> std::result::Result<(), AllocError>
+    requires { All IsReferenceAgain references.old }
+    ensures value { OnOk result (references.new ≡ references.old ++ reference_of address ∷ []) }
+    ensures again { OnOk result (All IsReferenceAgain references.new) }
+{
+    references.push(reference_of(address))
+}
+
 /// References to two pages.
 fn two_references(
     alloc: Global,
     first: Address,
     second: Address,
 ) -> std::result::Result<Items<OsvReference>, AllocError>
-    ensures { IfOk result (λ v. v ≡ reference_of first ∷ (reference_of second ∷ [])) }
+    ensures value { IfOk result (λ v. v ≡ reference_of first ∷ (reference_of second ∷ [])) }
+    ensures again { IfOk result (All IsReferenceAgain) }
 {
     let mut references = Items::new(alloc);
     references.push(reference_of(first))?;
@@ -104,6 +121,7 @@ fn two_references(
 /// References to the pages of a package and of an advisory.
 pub(crate) fn own_pages(alloc: Global, name: &Name, id: &Id) -> Result<Items<OsvReference>>
     ensures ok { IfOk result (λ v. own_pages name.now id.now.text ≡ Some v) }
+    ensures again { IfOk result (All IsReferenceAgain) }
     ensures err { IfErr result (IsRefusal ErrorKind.Parse (own_pages name.now id.now.text ≡ None)) }
 {
     let package = package_page(alloc, name)?;
@@ -117,10 +135,12 @@ fn add_references(
     addresses: Items<Address>,
     references: &mut Items<OsvReference>,
 ) -> std::result::Result<(), AllocError>
-    ensures { OnOk result (references.new ≡ references.old ++ map reference_of addresses) }
+    requires { All IsReferenceAgain references.old }
+    ensures value { OnOk result (references.new ≡ references.old ++ map reference_of addresses) }
+    ensures again { OnOk result (All IsReferenceAgain references.new) }
 {
     for address in Vec::from(addresses) {
-        references.push(reference_of(address))?;
+        add_reference(address, references)?;
     }
     Ok(())
 }
@@ -131,7 +151,9 @@ pub(crate) fn with_addresses(
     pages: Items<OsvReference>,
     origin: Origin,
 ) -> std::result::Result<Items<OsvReference>, AllocError>
-    ensures { IfOk result (λ v. v ≡ pages ++ map reference_of (option_to_list origin.url ++ origin.references)) }
+    requires { All IsReferenceAgain pages }
+    ensures value { IfOk result (λ v. v ≡ pages ++ map reference_of (option_to_list origin.url ++ origin.references)) }
+    ensures again { IfOk result (All IsReferenceAgain) }
 {
     let Origin {
         references: addresses,
@@ -140,7 +162,7 @@ pub(crate) fn with_addresses(
     } = origin;
     let mut references = pages;
     if let Some(url) = url {
-        references.push(reference_of(url))?;
+        add_reference(url, &mut references)?;
     }
     add_references(addresses, &mut references)?;
     Ok(references)

@@ -18,4 +18,4 @@ returns-clause-valid c =
     c.document_with.ensures.ok
 
 pub returns-clause-again : goal.returns-clause-again
-returns-clause-again c = exported-read c.args.advisory c.args.modified.now c.document_with.result (returns-clause-ok c) (returns-clause-valid c)
+returns-clause-again c = exported-read c.args.advisory c.args.modified.now c.document_with.result (returns-clause-ok c) (returns-clause-valid c) c.document_with.ensures.again
