@@ -1,6 +1,7 @@
 """Where the answers of the two programs are meant to differ, each with its reason. docs/DIFFERENCES.md
 says the same in words. A departure explains a difference only where ours is what the rules answer."""
 import re
+import tomllib
 
 import rules
 
@@ -55,18 +56,12 @@ def source_that_is_no_address(command, data, ours, theirs):
 
 def message_cut_inside_a_character(command, data, ours, theirs):
     """The Rust crate cuts a message at byte 20, and stops where that is inside a character."""
-    return theirs == PANIC and ours[0] == b"refused: parse error\n" and 0x80 <= data[20] < 0xC0
+    return theirs == PANIC and ours[0] == b"refused: parse error\n" and len(data) > 20 and 0x80 <= data[20] < 0xC0
 
 
 def empty_name(command, data, ours, theirs):
     """The Rust crate reads the empty text as a package's name; in ours a name has a byte at least."""
-    return ours == (b"refused: parse error\n", 2) and re.search(rb'package = ""\s', data)
-
-
-OF_LINT = [
-    number_of_an_advisory, starts_of_an_advisory, fault_of_a_source, source_that_is_no_address,
-    message_cut_inside_a_character, empty_name,
-]
+    return ours == (b"refused: parse error\n", 2) and re.search(rb'(package|name) = ""\s', data)
 
 
 def star_alone(command, data, ours, theirs):
@@ -79,13 +74,63 @@ def checksum_of_another_form(command, data, ours, theirs):
     return b"checksum = " in data and theirs == (b"refused: parse error\n", 2) and ours[1] < 2
 
 
+def files_of(data):
+    """The files of a database and its lockfile, by their paths, out of their joined bytes."""
+    paths = rb"(?:^|\n)(/Cargo\.lock|/root/(?:crates|rust)/[^/\n]*(?:/[^/\n]*)?)\n"
+    _, *parts = re.split(paths, data)
+    return dict(zip(parts[::2], parts[1::2]))
+
+
+def first_of_faults(command, data, ours, theirs):
+    """Ours reads all files before it loads the first, in the order of their names; the Rust crate goes file by file, in the
+    disk's order. So with two faults in a database each may meet another one first."""
+    refused = ours[1] == 2 and ours[0].startswith(b"refused: ")
+    return refused and theirs[1] in (2, 101) and sum(path.startswith(b"/root/") for path in files_of(data)) > 1
+
+
+def message_cut_in_some_file(command, data, ours, theirs):
+    """The message above, of some file of a database."""
+    cut = any(len(text) > 20 and 0x80 <= text[20] < 0xC0 for text in files_of(data).values())
+    return theirs == PANIC and ours[1] == 2 and cut
+
+
+def other_keys_of_a_lockfile(command, data, ours, theirs):
+    """The Rust crate reads a lockfile's version, root, metadata, patches and dependencies too; ours takes any value there."""
+    try:
+        table = tomllib.loads(files_of(data)[b"/Cargo.lock"].decode())
+    except (KeyError, ValueError, RecursionError):
+        return False
+    packages = [p for p in table.get("package", []) if isinstance(p, dict)]
+    odd = table.get("version", 1) not in (1, 2, 3, 4) or table.keys() & {"root", "metadata", "patch"}
+    return theirs == (b"refused: parse error\n", 2) and bool(odd or any(p.keys() & {"dependencies", "replace"} for p in packages))
+
+
+def nesting(command, data, ours, theirs):
+    """Ours reads 80 arrays, tables or parts of a key in one another, and refuses more. The Rust crate's program reads more of
+    some, and ends by a signal at a thousand."""
+    deep = any(line.count(mark) > 64 for line in data.splitlines() for mark in (b"[", b"{", b"."))
+    return ours == (b"refused: parse error\n", 2) and deep
+
+
+def edition_of_toml(command, data, ours, theirs):
+    """Ours reads TOML 1.1, which has more escapes, times without seconds, and inline tables over lines, with a comma at
+    their end."""
+    newer = rb"\\e|\\x[0-9A-Fa-f]{2}|\{[^}\n]*\n|,\s*\}|[0-9]{2}:[0-9]{2}(?![:0-9])"
+    return theirs == (b"refused: parse error\n", 2) and ours[1] < 2 and re.search(newer, data) is not None
+
+
+OF_LINT = [
+    number_of_an_advisory, starts_of_an_advisory, fault_of_a_source, source_that_is_no_address,
+    message_cut_inside_a_character, empty_name, edition_of_toml, nesting,
+]
 OF_OSV = [
     number_of_an_advisory, starts_of_an_advisory, source_that_is_no_address, message_cut_inside_a_character, empty_name,
-    star_alone,
+    star_alone, edition_of_toml, nesting,
 ]
 OF_DATABASES = [
     number_of_an_advisory, starts_of_an_advisory, source_that_is_no_address, message_cut_inside_a_character, empty_name,
-    checksum_of_another_form,
+    checksum_of_another_form, edition_of_toml, other_keys_of_a_lockfile, message_cut_in_some_file,
+    first_of_faults, nesting,
 ]
 
 

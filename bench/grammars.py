@@ -90,6 +90,17 @@ def interval(text):
     return OK
 
 
+def is_at_the_limit(text):
+    """Whether a requirement is refused as a number would have to pass 2^64-1."""
+    try:
+        rules.Interval(rules.comparators_of(text))
+    except rules.Refused as fault:
+        return fault.limit
+    except rules.Malformed:
+        pass
+    return False
+
+
 def depth(value):
     held = value.values() if isinstance(value, dict) else value if isinstance(value, list) else []
     return 1 + max(map(depth, held), default=0)

@@ -76,7 +76,7 @@ def comparators_of(text):
             raise Malformed
         op, major, minor_star, minor, patch, pre, _, minor_alone = match.groups()
         numbers = [None if n is None else number(n) for n in (major, minor_star or minor or minor_alone, patch)]
-        star = re.search(r"\.[*xX]", part)
+        star = re.search(r"\.[*xX]", re.split("[-+]", part)[0])
         out.append((op or ("wildcard" if star else "^"), numbers, pre or ""))
     return out
 
