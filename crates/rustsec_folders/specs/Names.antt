@@ -1,8 +1,9 @@
 -- Names of entries, and paths below a folder.
-use Rattle.std.specs.Prelude.{ℕ, ◌++◌, Bool, IsPermutation, IsSorted, List, codes, filter, map, nat_eq, not}
+use Rattle.std.specs.Prelude.{◌≡◌, ℕ, ◌++◌, Bool, IsPermutation, IsSorted, List, Some, codes, filter, map, nat_eq, not}
 use Rattle.std.specs.Cmp.Lexicographic.{slice_cmp}
 use Rattle.std.specs.List.{starts_with}
 use Rattle.std.specs.Ordering.{nat_cmp}
+use Rattle.rustsec_folders.specs.Allowed.{Allowed}
 use Rattle.rustsec_folders.specs.declared.entry.FolderEntry.{FolderEntry}
 
 -- the path of a name in a folder
@@ -24,6 +25,14 @@ is_folder entry = entry.folder
 -- the names of some entries
 abbrev pub names_of : List FolderEntry → List (List ℕ)
 names_of entries = map (λ (entry : FolderEntry). entry.name) entries
+
+-- the names of an allowed listing
+abbrev pub AreNames : Allowed → List ℕ → List (List ℕ) → Type 0
+AreNames allowed folder names = (entries : List FolderEntry) × allowed.lists folder (Some entries) × (names ≡ names_of entries)
+
+-- a name that begins with no dot
+abbrev pub is_shown_name : List ℕ → Bool
+is_shown_name name = not (begins_with_dot name)
 
 -- the names that a package's folder shows: all but those that begin with a dot
 abbrev pub shown : List FolderEntry → List (List ℕ)

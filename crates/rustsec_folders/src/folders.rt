@@ -2,9 +2,11 @@
 
 ghost use Rattle.std.specs.Prelude.{IfErr, IfOk, None, Some};
 ghost use Rattle.rustsec_folders.specs.Allowed.{Allowed, AllowSame};
+ghost use Rattle.rustsec_folders.specs.Names.{AreNames};
 ghost use Rattle.rustsec_versions.specs.Failure.{IsRefusal};
 
 use crate::entry::FolderEntry;
+use crate::names::names_of;
 use rustsec_values::{Items, Text};
 use rustsec_versions::{ErrorKind, Result};
 use std::alloc::Global;
@@ -24,6 +26,21 @@ pub trait Folders {
         ensures ok { IfOk result (λ entries. (allowed self.old).lists path.now (Some entries)) }
         ensures err { IfErr result (IsRefusal ErrorKind.Io ((allowed self.old).lists path.now None)) }
         ensures same { AllowSame (allowed self.old) (allowed self.new) };
+
+    /// The names of a folder's entries, in any order, where nobody asks which of them are folders.
+    ///
+    /// # Errors
+    ///
+    /// As `list`.
+    fn names(&mut self, alloc: Global, path: &str) -> Result<Items<Text>>
+        ensures ok { IfOk result (AreNames (allowed self.old) path.now) }
+        ensures err { IfErr result (IsRefusal ErrorKind.Io ((allowed self.old).lists path.now None)) }
+        ensures same { AllowSame (allowed self.old) (allowed self.new) }
+    {
+        let entries = self.list(alloc, path)?;
+        let names = names_of(alloc, entries)?;
+        Ok(Items::from(names))
+    }
 
     /// The text of a file.
     ///

@@ -1,9 +1,9 @@
 // Which names an answer shows, and in which order.
 
-ghost use Rattle.std.specs.Prelude.{◌≡◌, IfErr, IfOk, None, string_bytes};
+ghost use Rattle.std.specs.Prelude.{◌≡◌, IfErr, IfOk, None, filter, string_bytes};
 ghost use Rattle.rustsec_folders.specs.Allowed.{AllowSame};
 ghost use Rattle.rustsec_folders.specs.Listed.{ShowsFiles, ShowsFolders};
-ghost use Rattle.rustsec_folders.specs.Names.{AreInOrder, begins_with_dot, names_of, under};
+ghost use Rattle.rustsec_folders.specs.Names.{AreInOrder, begins_with_dot, is_shown_name, names_of, under};
 ghost use Rattle.rustsec_versions.specs.Failure.{IsRefusal};
 
 use crate::entry::FolderEntry;
@@ -43,6 +43,19 @@ impl Test<FolderEntry> for Shown {
     }
 }
 
+/// The test of names that begin with no dot.
+struct ShownName;
+
+impl Test<Text> for ShownName {
+    ghost use Rattle.rustsec_folders.specs.Names.{is_shown_name};
+
+    ghost passes = { λ _ name. is_shown_name name };
+
+    fn passes(&self, name: &Text) -> bool {
+        !begins_with_dot(name.as_str())
+    }
+}
+
 /// The test of entries that are folders.
 struct IsFolder;
 
@@ -57,7 +70,7 @@ impl Test<FolderEntry> for IsFolder {
 }
 
 /// The names of entries, in their order.
-fn names_of(
+pub(crate) fn names_of(
     alloc: Global,
     entries: Items<FolderEntry>,
 ) -> std::result::Result<Vec<Text>, AllocError>
@@ -83,6 +96,16 @@ fn in_order(
     Ok(names)
 }
 
+/// Those of some names that begin with no dot, in the order of their bytes.
+fn shown_in_order(mut names: Items<Text>) -> std::result::Result<Vec<Text>, AllocError>
+    ensures { IfOk result (λ v. AreInOrder (filter is_shown_name names) v.items) }
+{
+    names.retain(&ShownName);
+    let mut ordered = Vec::from(names);
+    ordered.sort()?;
+    Ok(ordered)
+}
+
 /// The names that a package's folder shows, in order.
 pub(crate) fn names_in<F: Folders>(
     alloc: Global,
@@ -93,10 +116,9 @@ pub(crate) fn names_in<F: Folders>(
     ensures err { IfErr result (IsRefusal ErrorKind.Io ((F.allowed folders.old).lists folder.now None)) }
     ensures same { AllowSame (F.allowed folders.old) (F.allowed folders.new) }
 {
-    let mut entries = folders.list(alloc, folder)?;
-    entries.retain(&Shown);
-    let names = in_order(alloc, entries)?;
-    Ok(names)
+    let names = folders.names(alloc, folder)?;
+    let ordered = shown_in_order(names)?;
+    Ok(ordered)
 }
 
 /// The names of the folders that a collection shows, in order.

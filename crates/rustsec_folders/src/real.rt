@@ -3,6 +3,7 @@
 ghost use Rattle.std.specs.Prelude.{◌≡◌, IfErr, IfOk};
 ghost use Rattle.rustsec_files.specs.ReadFailures.{IsReadFailure};
 ghost use Rattle.rustsec_folders.specs.Allowed.{AllowSame, every_answer};
+ghost use Rattle.rustsec_folders.specs.Names.{AreNames};
 ghost use Rattle.rustsec_versions.specs.Failure.{IsOfKind, IsRefusal};
 
 use crate::entry::FolderEntry;
@@ -102,6 +103,21 @@ fn entries<R: Files>(rt: &R, alloc: Global, path: &str) -> Result<Items<FolderEn
     Ok(entries)
 }
 
+/// The names of a folder's entries.
+fn names<R: Files>(rt: &R, alloc: Global, path: &str) -> Result<Items<Text>>
+    ensures kind { IfErr result (IsOfKind ErrorKind.Io) }
+    ensures names { IfErr result (IsReadFailure path.now) }
+{
+    let text = names_text(rt, alloc, path)?;
+    let mut names = Items::new(alloc);
+    for name in text.split('\0') {
+        if is_entry(name) {
+            names.push(Text::from_str(alloc, name)?)?;
+        }
+    }
+    Ok(names)
+}
+
 /// The folders and files of a runtime. Nothing is known of what they hold, so every answer is allowed.
 ///
 /// A link in a folder is listed as no folder, and is read as the file that it leads to. What is no
@@ -133,6 +149,16 @@ impl<'a, R: Files> Folders for RealFolders<'a, R> {
         ensures names { IfErr result (IsReadFailure path.now) }
     {
         entries(self.files, alloc, path)
+    }
+
+    // Without asking the system about each entry.
+    fn names(&mut self, alloc: Global, path: &str) -> Result<Items<Text>>
+        ensures ok { IfOk result (AreNames every_answer path.now) }
+        ensures err { IfErr result (IsRefusal ErrorKind.Io (every_answer.lists path.now None)) }
+        ensures same { AllowSame every_answer every_answer }
+        ensures names { IfErr result (IsReadFailure path.now) }
+    {
+        names(self.files, alloc, path)
     }
 
     fn read(&mut self, alloc: Global, path: &str) -> Result<Text>
