@@ -309,12 +309,13 @@ const ROOT: Paths<'_> = &[
 ];
 
 /// How many advisories a root gives whose call at this place fails, or the kind of the refusal.
-fn opened(alloc: Global, root: &str, at: u64) -> std::result::Result<usize, ErrorKind> {
-    let failing = Failing {
-        at,
-        kind: ErrorKind::Io,
-    };
-    let mut folders = MemoryFolders::new(ROOT, failing);
+fn opened(
+    alloc: Global,
+    paths: Paths<'_>,
+    root: &str,
+    failing: Failing,
+) -> std::result::Result<usize, ErrorKind> {
+    let mut folders = MemoryFolders::new(paths, failing);
     match Database::open_with(alloc, &mut folders, root) {
         Ok(database) => Ok(database.iter().count()),
         Err(e) => Err(e.kind()),
@@ -332,8 +333,58 @@ fn open_folders(rt: HostRuntime) -> Result<(), Fail> {
         ("db", 4, Ok(1)),
         ("absent", 0, Err(ErrorKind::Io)),
     ] {
-        let found = opened(rt.alloc(), root, at);
+        let kind = ErrorKind::Io;
+        let found = opened(rt.alloc(), ROOT, root, Failing { at, kind });
         assert!(rt; found == expected, "{root}, {at}");
+    }
+    Ok(())
+}
+
+/// A root with an advisory in each collection.
+const BOTH: Paths<'_> = &[
+    ("db/crates", Holds::Entries(&[("base", true)])),
+    (
+        "db/crates/base",
+        Holds::Entries(&[("RUSTSEC-2001-2101.md", false)]),
+    ),
+    ("db/crates/base/RUSTSEC-2001-2101.md", Holds::Text(VALID)),
+    ("db/rust", Holds::Entries(&[("std", true)])),
+    (
+        "db/rust/std",
+        Holds::Entries(&[("RUSTSEC-2001-0001.md", false)]),
+    ),
+    (
+        "db/rust/std/RUSTSEC-2001-0001.md",
+        Holds::Text(
+            "```toml\n[advisory]\nid = \"RUSTSEC-2001-0001\"\npackage = \"std\"\n\
+            date = \"2001-02-03\"\n[versions]\npatched = []\n```\n# T\n\nD\n",
+        ),
+    ),
+];
+
+// The calls list `crates`, list `base`, read its advisory, and then the same of `rust` and `std`. Where the
+// listing of `rust` fails, it is skipped; where memory is refused, nothing is.
+#[test]
+fn failing_steps(rt: HostRuntime) -> Result<(), Fail> {
+    let (io, memory) = (ErrorKind::Io, ErrorKind::OutOfMemory);
+    for (at, kind, expected) in [
+        (0, io, Ok(2)),
+        (1, io, Err(io)),
+        (2, io, Err(io)),
+        (3, io, Err(io)),
+        (4, io, Ok(1)),
+        (5, io, Err(io)),
+        (6, io, Err(io)),
+        (7, io, Ok(2)),
+        (1, memory, Err(memory)),
+        (2, memory, Err(memory)),
+        (3, memory, Err(memory)),
+        (4, memory, Err(memory)),
+        (5, memory, Err(memory)),
+        (6, memory, Err(memory)),
+    ] {
+        let found = opened(rt.alloc(), BOTH, "db", Failing { at, kind });
+        assert!(rt; found == expected, "{at}, {kind:?}");
     }
     Ok(())
 }

@@ -21,12 +21,11 @@ enum Said<'a> {
 /// What a registry says of some names. It has no others.
 type Rows<'a> = &'a [(&'a str, Said<'a>)];
 
-/// A registry that says one thing when it is first asked, and another from then on.
+/// A registry that says another thing each time it is asked, and the last of them from then on.
 #[derive(Drop)]
 struct Changing<'a> {
-    first: Rows<'a>,
-    then: Rows<'a>,
-    asked: Cell<u32>,
+    says: &'a [Rows<'a>],
+    asked: Cell<usize>,
 }
 
 /// The versions of a list.
@@ -79,18 +78,20 @@ impl<'a> Lookup for Changing<'a> {
     ) -> rustsec_versions::Result<Option<Items<IndexVersion>>> {
         let asked = self.asked.get();
         self.asked.set(asked.saturating_add(1));
-        let rows = if asked == 0 { self.first } else { self.then };
-        answer(alloc, said_of(rows, name.as_str()))
+        let last = self.says.len().saturating_sub(1);
+        match self.says.get(asked.min(last)) {
+            Some(rows) => answer(alloc, said_of(rows, name.as_str())),
+            None => Ok(None),
+        }
     }
 }
 
-/// A cache over a registry that says one thing when it is first asked, and another from then on.
-fn asked_anew<'a>(alloc: Global, first: Rows<'a>, then: Rows<'a>) -> CachedIndex<Changing<'a>> {
+/// A cache over a registry that says this, one after the other.
+fn asked_anew<'a>(alloc: Global, says: &'a [Rows<'a>]) -> CachedIndex<Changing<'a>> {
     CachedIndex::new(
         alloc,
         Changing {
-            first,
-            then,
+            says,
             asked: Cell::new(0),
         },
     )
@@ -159,20 +160,19 @@ fn finds(
     }
 }
 
-/// Packages, what the registry says of their names at first and later, and what is wanted of the calls one
-/// after another.
+/// Packages, what the registry says of their names at each asking, and what is wanted of the calls one after
+/// another.
 #[derive(Drop)]
 struct Row<'a> {
     packages: &'a [(&'a str, &'a str)],
-    first: Rows<'a>,
-    then: Rows<'a>,
+    says: &'a [Rows<'a>],
     wants: &'a [std::result::Result<&'a [Want<'a>], ErrorKind>],
 }
 
 /// Whether each call answers as it is wanted.
 fn answers_as_wanted(alloc: Global, row: &Row<'_>) -> Result<bool, Fail> {
     let packages = packages(alloc, row.packages)?;
-    let mut index = asked_anew(alloc, row.first, row.then);
+    let mut index = asked_anew(alloc, row.says);
     for want in row.wants {
         if !finds(alloc, &mut index, &packages, want) {
             return Ok(false);
@@ -199,8 +199,7 @@ fn yanked(rt: HostRuntime) -> Result<(), Fail> {
                 ("a", "1.0.0"),
                 ("a", "1.0.0"),
             ],
-            first: rows,
-            then: rows,
+            says: &[rows],
             wants: &[Ok(&[Want::Yanked("a", 1), Want::Refused(ErrorKind::NotFound)])],
         },
     )
@@ -212,8 +211,10 @@ fn changing_look_up(rt: HostRuntime) -> Result<(), Fail> {
         &rt,
         &Row {
             packages: &[("a", "1.0.0"), ("a", "2.0.0")],
-            first: &[("a", Said::Lists(&[("1.0.0", true), ("2.0.0", false)]))],
-            then: &[("a", Said::Lists(&[("1.0.0", false), ("2.0.0", true)]))],
+            says: &[
+                &[("a", Said::Lists(&[("1.0.0", true), ("2.0.0", false)]))],
+                &[("a", Said::Lists(&[("1.0.0", false), ("2.0.0", true)]))],
+            ],
             wants: &[Ok(&[Want::Yanked("a", 1)]), Ok(&[Want::Yanked("a", 1)])],
         },
     )
@@ -226,8 +227,7 @@ fn look_up_doubles(rt: HostRuntime) -> Result<(), Fail> {
         &rt,
         &Row {
             packages: &[("a", "1.0.0"), ("a", "1.0.0+b")],
-            first: doubled,
-            then: doubled,
+            says: &[doubled],
             wants: &[Ok(&[Want::Yanked("a", 1), Want::Refused(ErrorKind::NotFound)])],
         },
     )
@@ -239,8 +239,10 @@ fn look_up_that_fails(rt: HostRuntime) -> Result<(), Fail> {
         &rt,
         &Row {
             packages: &[("a", "1.0.0"), ("a", "2.0.0")],
-            first: &[("a", Said::Fails(ErrorKind::Registry))],
-            then: &[("a", Said::Lists(&[("1.0.0", true), ("2.0.0", true)]))],
+            says: &[
+                &[("a", Said::Fails(ErrorKind::Registry))],
+                &[("a", Said::Lists(&[("1.0.0", true), ("2.0.0", true)]))],
+            ],
             wants: &[
                 Ok(&[
                     Want::Refused(ErrorKind::Registry),
@@ -261,15 +263,34 @@ fn look_up_out_of_memory(rt: HostRuntime) -> Result<(), Fail> {
         &rt,
         &Row {
             packages: &[("a", "1.0.0"), ("b", "1.0.0")],
-            first: &[
-                ("a", Said::Lists(&[("1.0.0", true)])),
-                ("b", Said::Lists(&[("1.0.0", true)])),
-            ],
-            then: &[
-                ("a", Said::Lists(&[("1.0.0", false)])),
-                ("b", Said::Fails(ErrorKind::OutOfMemory)),
+            says: &[
+                &[("a", Said::Lists(&[("1.0.0", true)]))],
+                &[("b", Said::Fails(ErrorKind::OutOfMemory))],
             ],
             wants: &[Err(ErrorKind::OutOfMemory), Err(ErrorKind::OutOfMemory)],
+        },
+    )
+}
+
+// The answer about `a` is kept though the call is refused, and `b` alone is asked about again.
+#[test]
+fn refused_memory_keeps(rt: HostRuntime) -> Result<(), Fail> {
+    expect(
+        &rt,
+        &Row {
+            packages: &[("a", "1.0.0"), ("a", "2.0.0"), ("b", "1.0.0")],
+            says: &[
+                &[("a", Said::Lists(&[("1.0.0", true), ("2.0.0", false)]))],
+                &[("b", Said::Fails(ErrorKind::OutOfMemory))],
+                &[
+                    ("a", Said::Lists(&[("1.0.0", false), ("2.0.0", true)])),
+                    ("b", Said::Lists(&[("1.0.0", true)])),
+                ],
+            ],
+            wants: &[
+                Err(ErrorKind::OutOfMemory),
+                Ok(&[Want::Yanked("a", 1), Want::Yanked("b", 1)]),
+            ],
         },
     )
 }

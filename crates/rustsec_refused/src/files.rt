@@ -1,0 +1,62 @@
+//! The files that the calls are made over.
+
+use rustsec_advisory::Advisory;
+use rustsec_folders::SourceFile;
+use rustsec_values::Text;
+use rustsec_versions::{Error, ErrorKind, Result};
+use semver::VersionReq;
+use std::alloc::{AllocError, Global};
+use std::fs;
+
+/// The text of a file.
+pub fn text_of(rt: &HostRuntime, path: &str) -> Result<String> {
+    match fs::read_to_string(rt, path) {
+        Ok(text) => Ok(text),
+        Err(_) => Err(Error::new(rt.alloc(), ErrorKind::Io, path)),
+    }
+}
+
+/// A file of a database.
+fn source_file(rt: &HostRuntime, path: &str) -> Result<SourceFile> {
+    let text = text_of(rt, path)?;
+    let path = Text::from_str(rt.alloc(), path)?;
+    Ok(SourceFile {
+        path,
+        text: Text::from(text),
+    })
+}
+
+/// Files of a database.
+pub fn source_files(rt: &HostRuntime, paths: &[&str]) -> Result<Vec<SourceFile>> {
+    let mut files = Vec::new(rt.alloc());
+    for path in paths {
+        let file = source_file(rt, path)?;
+        files.push(file).map_err(|_| AllocError)?;
+    }
+    Ok(files)
+}
+
+/// A requirement of a line.
+fn requirement(alloc: Global, line: &str) -> Result<VersionReq> {
+    match VersionReq::parse(alloc, line) {
+        Ok(req) => Ok(req),
+        Err(_) => Err(Error::new(alloc, ErrorKind::Parse, line)),
+    }
+}
+
+/// The requirements of a file, one a line.
+pub fn requirements(rt: &HostRuntime, path: &str) -> Result<Vec<VersionReq>> {
+    let text = text_of(rt, path)?;
+    let mut reqs = Vec::new(rt.alloc());
+    for line in text.lines() {
+        let req = requirement(rt.alloc(), line)?;
+        reqs.push(req).map_err(|_| AllocError)?;
+    }
+    Ok(reqs)
+}
+
+/// The advisory of a file.
+pub fn advisory(rt: &HostRuntime, path: &str) -> Result<Advisory> {
+    let text = text_of(rt, path)?;
+    Advisory::from_str(rt.alloc(), &text)
+}
