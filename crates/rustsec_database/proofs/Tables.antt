@@ -12,7 +12,8 @@ use Rattle.rustsec_texts.specs.Ids.{IdValue}
 use Rattle.rustsec_texts.specs.contracts.collection.Collection.{the_type as collection}
 use Rattle.rustsec_texts.specs.declared.collection.Collection.{Collection}
 use Rattle.rustsec_advisory.specs.declared.advisory.Advisory.{Advisory}
-use Rattle.rustsec_query.specs.Query.{Asked}
+use Rattle.rustsec_lock.specs.Package.{PackageValue}
+use Rattle.rustsec_query.specs.Query.{Asked, of_package}
 use Rattle.rustsec_query.specs.Selects.{as_informational, as_withdrawn, has_name, has_source, has_version, if_there, in_collection, is_severe, of_year, on_arch, on_os, selects}
 use Rattle.rustsec_database.specs.Loaded.{has_id, is_known}
 use Rattle.rustsec_database.specs.Places.{IsIndexOf, IsTableOf, at_places, is_under, places_from}
@@ -103,7 +104,7 @@ first-two q a h =
     (first_so _ (of_year q a) (first_so _ (as_withdrawn q a) (first_so _ (as_informational q a) h)))))))
 
 -- what a query selects is of the collection and the package that it asks for
-selected-under : (q : Asked) (c : Collection) (name : List ℕ) (a : Advisory) → Some c ≡ q.collection → Some name ≡ q.package_name
+pub selected-under : (q : Asked) (c : Collection) (name : List ℕ) (a : Advisory) → Some c ≡ q.collection → Some name ≡ q.package_name
     → selects q a ≡ true → is_under c name a ≡ true
 selected-under q c name a of named h =
     let two = first-two q a h in
@@ -111,11 +112,15 @@ selected-under q c name a of named h =
     (subst (λ o. if_there (λ c. option_eq (sameb collection) (Some c) a.metadata.collection) o ≡ true) (sym of) (first_so (in_collection q a) (has_name q a) two))
     (subst (λ o. if_there (λ n. pointwise nat_eq n a.metadata.«package») o ≡ true) (sym named) (second_so (in_collection q a) (has_name q a) two))
 
--- so the index's places are enough
-pub by-index : (q : Asked) (c : Collection) (name : List ℕ) (advisories : List Advisory) (slots : List ℕ) → Some c ≡ q.collection
-    → Some name ≡ q.package_name → slots ≡ places_from (is_under c name) 0 advisories
-    → filter (selects q) (at_places slots advisories) ≡ filter (selects q) advisories
-by-index q c name advisories slots of named are =
-    ap (λ ps. filter (selects q) (at_places ps advisories)) are
-    ∙ (ap (filter (selects q)) (taken (is_under c name) advisories)
-    ∙ narrow (is_under c name) (selects q) (λ a h. selected-under q c name a of named h) advisories)
+-- and what it selects for a package is of the package's name
+pub selected-of : (q : Asked) (p : PackageValue) (c : Collection) (a : Advisory) → q.collection ≡ Some c → selects (of_package q p) a ≡ true
+    → is_under c p.name a ≡ true
+selected-of q p c a of h = selected-under (of_package q p) c p.name a (sym of) refl h
+
+-- so the index's places are enough for such a test
+pub by-index : (test : Advisory → Bool) (c : Collection) (name : List ℕ) (advisories : List Advisory) (slots : List ℕ)
+    → ((a : Advisory) → test a ≡ true → is_under c name a ≡ true) → slots ≡ places_from (is_under c name) 0 advisories
+    → filter test (at_places slots advisories) ≡ filter test advisories
+by-index test c name advisories slots under are =
+    ap (λ ps. filter test (at_places ps advisories)) are
+    ∙ (ap (filter test) (taken (is_under c name) advisories) ∙ narrow (is_under c name) test under advisories)

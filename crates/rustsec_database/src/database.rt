@@ -1,6 +1,6 @@
 // The database.
 
-ghost use Rattle.std.specs.Prelude.{◌≡◌, ◌++◌, ◌∷◌, ◌⊎◌, ◌<◌, ◌^◌, [], ℕ, Bool, IfErr, IfOk, List, OnErr, OnOk, Option, Some, length, map};
+ghost use Rattle.std.specs.Prelude.{◌≡◌, ◌++◌, ◌∷◌, ◌⊎◌, ◌<◌, ◌^◌, [], ℕ, Bool, IfErr, IfOk, List, OnErr, OnOk, Option, Some, length, map, true};
 ghost use Rattle.std.specs.Iterator.Adapters.{IterYieldsInOrder};
 ghost use Rattle.std.specs.List.{filter, find};
 ghost use Rattle.std.specs.Option.{option_copied};
@@ -22,7 +22,7 @@ use rustsec_lock::Lockfile;
 use rustsec_lock::package::{Name, Package};
 use rustsec_query::{Query, Vulnerability};
 use rustsec_texts::{Collection, Id};
-use rustsec_values::Items;
+use rustsec_values::{Items, Test};
 use rustsec_versions::Result;
 use std::alloc::{AllocError, Global};
 use std::marker::Model;
@@ -114,19 +114,53 @@ fn load_one(
     }
 }
 
-/// The advisories in some slots that match a query.
-fn matching<'a>(
+/// The test whether an advisory matches a query.
+#[derive(Drop)]
+struct Matches<'a> {
+    query: &'a Query,
+}
+
+impl<'a> Test<Advisory> for Matches<'a> {
+    ghost use Rattle.rustsec_query.specs.Selects.{selects};
+
+    ghost passes = { λ test a. selects test.query.now a };
+
+    fn passes(&self, advisory: &Advisory) -> bool {
+        self.query.matches(advisory)
+    }
+}
+
+/// The test whether an advisory matches a query for a package.
+#[derive(Drop)]
+struct MatchesPackage<'a> {
+    query: &'a Query,
+    package: &'a Package,
+}
+
+impl<'a> Test<Advisory> for MatchesPackage<'a> {
+    ghost use Rattle.rustsec_query.specs.Query.{of_package};
+    ghost use Rattle.rustsec_query.specs.Selects.{selects};
+
+    ghost passes = { λ test a. selects (of_package test.query.now test.«package».now) a };
+
+    fn passes(&self, advisory: &Advisory) -> bool {
+        self.query.matches_package(self.package, advisory)
+    }
+}
+
+/// The advisories in some slots that pass a test.
+fn matching<'a, T: Test<Advisory>>(
     alloc: Global,
     entries: &'a Entries,
     slots: &[Slot],
-    query: &Query,
+    test: &T,
 ) -> std::result::Result<Vec<&'a Advisory>, AllocError>
-    ensures { IfOk result (λ v. map (λ a. a.now) v.items ≡ filter (selects query.now) (at_places slots.now entries.now)) }
+    ensures { IfOk result (λ v. map (λ a. a.now) v.items ≡ filter (T.passes test.now) (at_places slots.now entries.now)) }
 {
     let mut found = Vec::new(alloc);
     for slot in slots {
         if let Some(advisory) = entries.get(*slot) {
-            if query.matches(advisory) {
+            if test.passes(advisory) {
                 found.push(advisory)?;
             }
         }
@@ -134,17 +168,17 @@ fn matching<'a>(
     Ok(found)
 }
 
-/// The advisories that match a query.
-fn all_matching<'a>(
+/// The advisories that pass a test.
+fn all_matching<'a, T: Test<Advisory>>(
     alloc: Global,
     entries: &'a Entries,
-    query: &Query,
+    test: &T,
 ) -> std::result::Result<Vec<&'a Advisory>, AllocError>
-    ensures { IfOk result (λ v. map (λ a. a.now) v.items ≡ filter (selects query.now) entries.now) }
+    ensures { IfOk result (λ v. map (λ a. a.now) v.items ≡ filter (T.passes test.now) entries.now) }
 {
     let mut found = Vec::new(alloc);
     for advisory in entries.as_slice() {
-        if query.matches(advisory) {
+        if test.passes(advisory) {
             found.push(advisory)?;
         }
     }
@@ -169,7 +203,7 @@ fn add_vulnerabilities(
     Ok(())
 }
 
-/// Whether a package is audited: whether its source is the default registry.
+/// Whether a package is audited: whether its source is one of the two default registries.
 fn is_audited(package: &Package) -> bool
     ensures { result ≡ is_audited «package».now }
 {
@@ -233,19 +267,18 @@ impl Database {
         }
     }
 
-    /// The advisories that match a query for a collection and a name, by the index.
-    fn indexed(
+    /// The advisories that pass a test which only those of a collection and a name pass, by the index.
+    fn indexed<T: Test<Advisory>>(
         &self,
         alloc: Global,
         collection: Collection,
         name: &Name,
-        query: &Query,
+        test: &T,
     ) -> std::result::Result<Vec<&Advisory>, AllocError>
-        requires collection { Some collection ≡ query.now.collection }
-        requires name { Some name.now ≡ query.now.package_name }
-        ensures { IfOk result (λ v. map (λ a. a.now) v.items ≡ filter (selects query.now) self.now) }
+        requires { (a : given.Advisory) → T.passes test.now a ≡ true → is_under collection name.now a ≡ true }
+        ensures { IfOk result (λ v. map (λ a. a.now) v.items ≡ filter (T.passes test.now) self.now) }
     {
-        matching(alloc, &self.entries, self.slots(collection, name), query)
+        matching(alloc, &self.entries, self.slots(collection, name), test)
     }
 
     /// The advisories that match a query, in the order in which they were loaded. If the query asks for
@@ -260,12 +293,28 @@ impl Database {
     {
         if let Some(collection) = query.asked_collection() {
             if let Some(name) = query.asked_name() {
-                let found = self.indexed(alloc, collection, name, query)?;
+                let found = self.indexed(alloc, collection, name, &Matches { query })?;
                 return Ok(found);
             }
         }
-        let found = all_matching(alloc, &self.entries, query)?;
+        let found = all_matching(alloc, &self.entries, &Matches { query })?;
         Ok(found)
+    }
+
+    /// The advisories that a query finds for a package. It copies no query.
+    fn query_of_package(
+        &self,
+        alloc: Global,
+        query: &Query,
+        package: &Package,
+    ) -> std::result::Result<Vec<&Advisory>, AllocError>
+        ensures { IfOk result (λ v. map (λ a. a.now) v.items ≡ filter (selects (of_package query.now «package».now)) self.now) }
+    {
+        let test = MatchesPackage { query, package };
+        match query.asked_collection() {
+            Some(collection) => self.indexed(alloc, collection, &package.name, &test),
+            None => all_matching(alloc, &self.entries, &test),
+        }
     }
 
     /// Puts what a query finds of one package behind other vulnerabilities.
@@ -283,8 +332,7 @@ impl Database {
         if !is_audited(package) {
             return Ok(());
         }
-        let query = query.clone(alloc)?.package(alloc, package)?;
-        let found = self.query(alloc, &query)?;
+        let found = self.query_of_package(alloc, query, package)?;
         add_vulnerabilities(alloc, vulnerabilities, package, found.as_slice())
     }
 
@@ -307,7 +355,8 @@ impl Database {
 
     /// The packages of a lockfile, each with each advisory that a query finds for it: by package in the
     /// lockfile's order, then by advisory in the order in which they were loaded. A package is looked at
-    /// only if its source is the default registry; it is found by its name, version and source.
+    /// only if its source is one of the two default registries; it is found by its name, version and
+    /// source.
     ///
     /// # Errors
     ///

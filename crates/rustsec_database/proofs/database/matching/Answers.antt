@@ -1,23 +1,22 @@
 use Rattle.std.proofs.Common.{◌∙◌, ap, map, sym}
-use Rattle.rustsec_query.specs.Selects.{selects}
 use Rattle.rustsec_database.proofs.Places.{found-more, found-none, found-other}
 use Rattle.rustsec_database.proofs.database.matching.Goals as goal
-use Rattle.rustsec_database.proofs.database.matching.Goals.{in-Some+then-matches+in_ok-push, in-Some+else-matches, in_default}
+use Rattle.rustsec_database.proofs.database.matching.Goals.{in-Some+then-passes+in_ok-push, in-Some+else-passes, in_default}
 
 pub loop-slot-preserved : goal.loop-slot-preserved
-loop-slot-preserved c =
-    let test = selects c.args.query.now in
+loop-slot-preserved g c =
+    let test = g.T.Test.passes c.args.test.now in
     let places = c.args.slots.now in
     let i = c.loop-slot.slot-index in
     let n = c.slot-item.result in
     let xs = c.args.entries.now in
     elim c.match-get.branch [
-      | in-Some+then-matches+in_ok-push w ↦ ap (λ v. map (λ a. a.now) v.items) w.found-is ∙ (ap (map (λ a. a.now)) w.in_ok-push.ensures.items
+      | in-Some+then-passes+in_ok-push w ↦ ap (λ v. map (λ a. a.now) v.items) w.found-is ∙ (ap (map (λ a. a.now)) w.in_ok-push.ensures.items
           ∙ found-more test places i n xs c.loop-slot.found.items w.in-Some.advisory c.loop-slot-test.true c.slot-item.is c.loop-slot.invariant
-          w.in-Some.ensures (sym w.matches.ensures ∙ w.if-matches.true))
-      | in-Some+else-matches w ↦ ap (λ v. map (λ a. a.now) v.items) w.found-is
+          w.in-Some.ensures (sym w.passes.ensures ∙ w.if-passes.true))
+      | in-Some+else-passes w ↦ ap (λ v. map (λ a. a.now) v.items) w.found-is
           ∙ found-other test places i n xs c.loop-slot.found.items w.in-Some.advisory.now c.loop-slot-test.true c.slot-item.is c.loop-slot.invariant
-          w.in-Some.ensures (sym w.matches.ensures ∙ w.if-matches.false)
+          w.in-Some.ensures (sym w.passes.ensures ∙ w.if-passes.false)
       | in_default w ↦ ap (λ v. map (λ a. a.now) v.items) w.found-is
           ∙ found-none test places i n xs c.loop-slot.found.items c.loop-slot-test.true c.slot-item.is c.loop-slot.invariant w.in_default.ensures
     ]

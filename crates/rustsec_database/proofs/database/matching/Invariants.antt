@@ -1,9 +1,8 @@
 use Rattle.std.proofs.Common.{◌≡◌, map, take}
 use Rattle.std.specs.List.{filter}
-use Rattle.rustsec_query.specs.Selects.{selects}
 use Rattle.rustsec_database.specs.Places.{at_places}
 use Rattle.rustsec_database.proofs.database.matching.Given as goal
 
--- what was found so far is what matches in the slots so far
+-- what was found so far is what passes in the slots so far
 abbrev pub invariant-loop-slot : goal.invariant-loop-slot
-invariant-loop-slot l = map (λ a. a.now) l.found.items ≡ filter (selects l.query) (at_places (take l.slot-index l.slots) l.entries)
+invariant-loop-slot g l = map (λ a. a.now) l.found.items ≡ filter (g.T.Test.passes l.test) (at_places (take l.slot-index l.slots) l.entries)

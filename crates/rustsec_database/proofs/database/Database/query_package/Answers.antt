@@ -1,10 +1,7 @@
 use Rattle.std.proofs.Common.{◌∙◌, ◌++◌, ap, map, sym}
 use Rattle.std.proofs.lemmas.List.{append-nil}
 use Rattle.std.proofs.lemmas.Result.{on_ok_weaker}
-use Rattle.std.specs.List.{filter}
 use Rattle.rustsec_query.specs.Pairs.{vulnerability_of}
-use Rattle.rustsec_query.specs.Query.{of_package}
-use Rattle.rustsec_query.specs.Selects.{selects}
 use Rattle.rustsec_database.proofs.Pairs.{found-pairs, no-pairs}
 use Rattle.rustsec_database.proofs.database.Database.query_package.Goals as goal
 
@@ -16,10 +13,8 @@ returns-then-not-is_audited-clause-ok c =
 pub returns-clause-ok : goal.returns-clause-ok
 returns-clause-ok c =
     let p = c.args.«package».now in
-    let asked = c.in_ok-query.ensures.ok ∙ ap (λ q. of_package q p) c.in_ok-clone.ensures.ok in
-    let found = c.in_ok-found.ensures.ok ∙ ap (λ q. filter (selects q) c.args.self.now) asked in
     on_ok_weaker c.add_vulnerabilities.result
     (λ e. e ∙ ap (λ xs. c.args.vulnerabilities.now ++ xs)
     (ap (map (λ a. vulnerability_of a.now p)) c.as_slice.ensures.value
-    ∙ found-pairs c.args.self.now c.args.query.now p c.in_ok-found.found.items (sym c.is_audited.ensures ∙ c.if-not-is_audited.false) found))
+    ∙ found-pairs c.args.self.now c.args.query.now p c.in_ok-found.found.items (sym c.is_audited.ensures ∙ c.if-not-is_audited.false) c.in_ok-found.ensures))
     c.add_vulnerabilities.ensures.ok

@@ -1,0 +1,6 @@
+use Rattle.std.proofs.Common.{rules}
+use Rattle.rustsec_database.proofs.Tables.{selected-under}
+use Rattle.rustsec_database.proofs.database.Database.query.Goals as goal
+
+pub indexed-requires : goal.indexed-requires
+indexed-requires c = λ a h. selected-under _ _ _ a (search rules) (search rules) h

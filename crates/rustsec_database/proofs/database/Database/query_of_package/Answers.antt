@@ -1,0 +1,6 @@
+use Rattle.std.proofs.Common.{rules}
+use Rattle.rustsec_database.proofs.Tables.{selected-of}
+use Rattle.rustsec_database.proofs.database.Database.query_of_package.Goals as goal
+
+pub indexed-requires : goal.indexed-requires
+indexed-requires c = λ a h. selected-of c.args.query.now c.args.«package».now _ a (search rules) h
