@@ -1,3 +1,4 @@
+pub mod Chain
 pub mod Filter
 pub mod Held
 pub mod Kinds

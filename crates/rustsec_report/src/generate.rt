@@ -1,7 +1,12 @@
 // How a report is made from a database and a lockfile.
 
-ghost use Rattle.std.specs.Prelude.{◌≡◌, IfErr, IfOk};
+ghost use Rattle.std.specs.Prelude.{◌≡◌, IfErr, IfOk, List, Some};
+ghost use Rattle.toml.specs.Data.{Members};
+ghost use Rattle.rustsec_folders.specs.declared.source_file.SourceFile.{SourceFile};
+ghost use Rattle.rustsec_lock.specs.Lockfile.{packages_of};
+ghost use Rattle.rustsec_database.specs.Loaded.{AreLoaded};
 ghost use Rattle.rustsec_versions.specs.Failure.{IsMemory};
+ghost use Rattle.rustsec_report.specs.Chain.{IsReportOf};
 ghost use Rattle.rustsec_report.specs.Held.{ListsWhatIsInForce};
 ghost use Rattle.rustsec_report.specs.Report.{info_of, report_of, vulnerabilities, warnings};
 
@@ -71,6 +76,10 @@ impl Report {
         // No advisory in it is withdrawn or ignored; those of vulnerabilities are not informational,
         // those of warnings are.
         ensures holds { IfOk result ListsWhatIsInForce }
+
+        // It is the report of whatever files the database is loaded from and whatever table holds the packages.
+        ensures chain { IfOk result (λ r. (files : List SourceFile) (table : Members) → AreLoaded files database.now
+            → packages_of table ≡ Some lockfile.now.packages → IsReportOf files table settings.now r) }
         ensures err { IfErr result IsMemory }
     {
         let vulnerabilities = find_vulnerabilities(alloc, database, lockfile, settings)?;
