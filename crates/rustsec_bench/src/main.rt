@@ -4,9 +4,11 @@
 //!     rustsec_bench document|lockfile|parts|advisory|lint N FILE
 //!     rustsec_bench copy|from_rustsec|to_value|from_value N FILE
 //!     rustsec_bench read FILE
+//!     rustsec_bench load|query|vulnerabilities|report N ROOT NAME|LOCKFILE
 //!
 //! `document` reads the text as a TOML document and no more, and `parts` takes an advisory apart and
-//! reads its front matter as one. It writes nothing. Its status is 0, 2 for other words, and 1 where the
+//! reads its front matter as one. The calls over a database take its root,
+//! and the name of a package for `query`, else the path of a lockfile. It writes nothing. Its status is 0, 2 for other words, and 1 where the
 //! file or a call refuses.
 //!
 //! `copy` and `from_rustsec` copy an advisory, and `from_rustsec` exports the copy; `to_value` is the tree of
@@ -16,6 +18,7 @@
 //! `read` gives each input of a file to the reader that the input names, and writes a line for each.
 #![tactic(auto)]
 
+mod databases;
 mod osv;
 mod readers;
 
@@ -104,6 +107,26 @@ fn asked(words: &[String]) -> Option<(Call, u32, &str)> {
     }
 }
 
+/// The call over a database, how often it is made, its root, and the name or lockfile it is made for.
+fn asked_of_database(words: &[String]) -> Option<(databases::Call, u32, &str, &str)> {
+    match words {
+        [call, times, root, of] => {
+            let call = databases::call_of(call)?;
+            let times = times.parse().ok()?;
+            Some((call, times, root.as_str(), of.as_str()))
+        }
+        _ => None,
+    }
+}
+
+/// The status of a call's answer.
+fn status(answer: Result<()>) -> ExitCode {
+    match answer {
+        Ok(()) => ExitCode::from(0),
+        Err(_) => ExitCode::from(1),
+    }
+}
+
 fn main(rt: HostRuntime) -> ExitCode {
     let Some(words) = words(&rt) else {
         return ExitCode::from(2);
@@ -111,14 +134,14 @@ fn main(rt: HostRuntime) -> ExitCode {
     if let Some(path) = readers::asked(&words) {
         return readers::read_file(&rt, path);
     }
+    if let Some((call, times, root, of)) = asked_of_database(&words) {
+        return status(databases::repeat(&rt, call, times, root, of));
+    }
     let Some((call, times, path)) = asked(&words) else {
         return osv::run(&rt, &words);
     };
     let Ok(text) = fs::read_to_string(&rt, path) else {
         return ExitCode::from(1);
     };
-    match repeat(rt.alloc(), call, times, &text) {
-        Ok(()) => ExitCode::from(0),
-        Err(_) => ExitCode::from(1),
-    }
+    status(repeat(rt.alloc(), call, times, &text))
 }

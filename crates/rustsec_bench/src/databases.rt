@@ -1,0 +1,101 @@
+// Calls over a database: its files are read, and it is loaded, before the calls are made.
+
+use rustsec_database::{Database, SourceFile};
+use rustsec_folders::{RealFolders, source_files};
+use rustsec_lock::Lockfile;
+use rustsec_lock::package::Name;
+use rustsec_query::Query;
+use rustsec_report::{Report, Settings};
+use rustsec_texts::{Collection, Informational};
+use rustsec_values::Items;
+use rustsec_versions::Result;
+use std::alloc::{AllocError, Global};
+
+/// The call that is made.
+#[derive(Clone, Copy)]
+pub(crate) enum Call {
+    Load,
+    Query,
+    Vulnerabilities,
+    Report,
+}
+
+/// The call of a word.
+pub(crate) fn call_of(word: &str) -> Option<Call> {
+    match word {
+        "load" => Some(Call::Load),
+        "query" => Some(Call::Query),
+        "vulnerabilities" => Some(Call::Vulnerabilities),
+        "report" => Some(Call::Report),
+        _ => None,
+    }
+}
+
+/// Loads the same files many times.
+fn load(alloc: Global, times: u32, files: &[SourceFile]) -> Result<()> {
+    for _ in 0..times {
+        Database::load(alloc, files)?;
+    }
+    Ok(())
+}
+
+/// Asks many times for the advisories of a package.
+fn query(alloc: Global, times: u32, database: &Database, name: &str) -> Result<()> {
+    let query = Query::crate_scope(alloc).package_name(Name::from_str(alloc, name)?);
+    for _ in 0..times {
+        database.query(alloc, &query)?;
+    }
+    Ok(())
+}
+
+/// Asks many times for the vulnerabilities of a lockfile.
+fn vulnerabilities(
+    alloc: Global,
+    times: u32,
+    database: &Database,
+    lockfile: &Lockfile,
+) -> Result<()> {
+    for _ in 0..times {
+        database.vulnerabilities(alloc, lockfile)?;
+    }
+    Ok(())
+}
+
+/// The settings of the command `report`.
+fn settings(alloc: Global) -> std::result::Result<Settings, AllocError> {
+    let kinds = vec![in alloc;
+        Informational::Notice,
+        Informational::Unmaintained,
+        Informational::Unsound,
+    ]?;
+    let mut settings = Settings::new(alloc);
+    settings.informational_warnings = Items::from(kinds);
+    Ok(settings)
+}
+
+/// Makes the report of a lockfile many times.
+fn report(alloc: Global, times: u32, database: &Database, lockfile: &Lockfile) -> Result<()> {
+    let settings = settings(alloc)?;
+    for _ in 0..times {
+        Report::generate(alloc, database, lockfile, &settings)?;
+    }
+    Ok(())
+}
+
+/// Makes a call many times over the database under a root, for a name or for the lockfile at a path.
+pub(crate) fn repeat(rt: &HostRuntime, call: Call, times: u32, root: &str, of: &str) -> Result<()> {
+    let alloc = rt.alloc();
+    let files = source_files(alloc, &mut RealFolders::new(rt), root)?;
+    if let Call::Load = call {
+        return load(alloc, times, files.as_slice());
+    }
+    let database = Database::load(alloc, files.as_slice())?;
+    match call {
+        Call::Load => Ok(()),
+        Call::Query => query(alloc, times, &database, of),
+        Call::Vulnerabilities => {
+            vulnerabilities(alloc, times, &database, &Lockfile::load(rt, alloc, of)?)
+        }
+        Call::Report => report(alloc, times, &database, &Lockfile::load(rt, alloc, of)?),
+    }
+}
