@@ -1,7 +1,8 @@
-pub mod Answered
-pub mod LintAnswer
 pub mod NoFloats
+pub mod NoFloatsOsv
+pub mod OfWords
 pub mod OneOutput
 pub mod OptionWords
 pub mod Refused
 pub mod Turns
+pub mod Unknown

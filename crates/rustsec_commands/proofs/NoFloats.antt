@@ -39,7 +39,7 @@ right : (a b : Bool) → (a || b) ≡ false → b ≡ false
 right false b h = h
 right true b h = cc h
 
-neither : (a b : Bool) → a ≡ false → b ≡ false → (a || b) ≡ false
+pub neither : (a b : Bool) → a ≡ false → b ≡ false → (a || b) ≡ false
 neither a b ha hb = rw (ha, hb) refl
 
 chosen : (o : Ordering) (a b c : Members) → members_have_float a ≡ false → members_have_float b ≡ false → members_have_float c ≡ false
@@ -48,7 +48,7 @@ chosen ordering.Less a b c ha hb hc = ha
 chosen ordering.Equal a b c ha hb hc = hb
 chosen ordering.Greater a b c ha hb hc = hc
 
-put-plain : (k : List ℕ) (d : Data) (ms : Members) → Plain d → members_have_float ms ≡ false → members_have_float (put k d ms) ≡ false
+pub put-plain : (k : List ℕ) (d : Data) (ms : Members) → Plain d → members_have_float ms ≡ false → members_have_float (put k d ms) ≡ false
 put-plain k d no_members hd hm = neither (has_float d) false hd refl
 put-plain k d (member l e ms) hd hm =
     let he : Plain e = left (has_float e) (members_have_float ms) hm in
@@ -64,7 +64,7 @@ with-plain (e ∷ es) ms h hm = with-plain es (put e.0 e.1 ms) h.1 (put-plain e.
 pub object-plain : (es : List Entry) → AllPlain es → Plain (object_of es)
 object-plain es h = with-plain es no_members h refl
 
-append-plain : (es fs : List Entry) → AllPlain es → AllPlain fs → AllPlain (es ++ fs)
+pub append-plain : (es fs : List Entry) → AllPlain es → AllPlain fs → AllPlain (es ++ fs)
 append-plain [] fs h k = k
 append-plain (e ∷ es) fs h k = (h.0, append-plain es fs h.1 k)
 

@@ -8,3 +8,5 @@ pub mod Lint
 pub mod Options
 pub mod Audit
 pub mod Reports
+pub mod Osv
+pub mod Commands

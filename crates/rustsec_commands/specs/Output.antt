@@ -1,6 +1,8 @@
--- What the commands `affected` and `ranges` write for an input, and their status.
+-- Texts and statuses; what the commands `affected` and `ranges` write for an input.
 use Rattle.std.specs.Prelude.{◌≡◌, ℕ, ◌+◌, true, false, List, ◌++◌, Option, Some, None, codes, flat_map, if◌then◌else◌}
 use Rattle.std.specs.Fmt.{decimal}
+use Rattle.serde_json.specs.Data.{Data}
+use Rattle.serde_json.specs.Written.{compact_text}
 use Rattle.semver.specs.Identifiers.{parts_text}
 use Rattle.semver.specs.Parse.{Parts}
 use Rattle.rustsec_versions.specs.Lists.{Lists, accepted, affected, intervals}
@@ -62,6 +64,12 @@ AreRangeLinesOr None ls o = AreRangeLines ls o
 -- what `ranges` writes
 abbrev pub IsRangesOutput : List ℕ → Output → Type 0
 IsRangesOutput input o = AreRangeLinesOr (first_malformed (says question.Ranges input)) ((asked (says question.Ranges input)).lists) o
+
+-- ---- trees
+
+-- a tree on one line
+abbrev pub tree_line : Data → List ℕ
+tree_line d = compact_text d ++ codes "\n"
 
 -- ---- usage
 

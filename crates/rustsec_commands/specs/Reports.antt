@@ -1,7 +1,5 @@
 -- What the commands over a database and a lockfile write.
-use Rattle.std.specs.Prelude.{◌≡◌, ◌≢◌, ◌⊎◌, ◌++◌, ℕ, List, [], ◌∷◌, Option, Some, None, codes, if◌then◌else◌}
-use Rattle.serde_json.specs.Data.{Data}
-use Rattle.serde_json.specs.Written.{compact_text}
+use Rattle.std.specs.Prelude.{◌≡◌, ◌≢◌, ◌⊎◌, ℕ, List, [], ◌∷◌, Option, Some, None, if◌then◌else◌}
 use Rattle.rustsec_values.specs.Reading.{read_all}
 use Rattle.rustsec_versions.specs.Failure.{Failure, IsOfKind, IsRefusal}
 use Rattle.rustsec_versions.specs.declared.error.ErrorKind.TheVariants as kind
@@ -19,7 +17,7 @@ use Rattle.rustsec_report.specs.declared.settings.Settings.{Settings}
 use Rattle.rustsec_commands.specs.Audit.{audit_output}
 use Rattle.rustsec_commands.specs.Lint.{refused_as}
 use Rattle.rustsec_commands.specs.Options.{Options, options_of}
-use Rattle.rustsec_commands.specs.Output.{Output, usage}
+use Rattle.rustsec_commands.specs.Output.{Output, tree_line, usage}
 
 -- what the commands ask a report for: these IDs ignored, warnings of the three kinds, and nothing else
 abbrev pub settings_with : List IdValue → Settings
@@ -30,10 +28,6 @@ settings_with ignored = record {
   ignore = ignored;
   informational_warnings = informational.Notice ∷ informational.Unmaintained ∷ informational.Unsound ∷ [];
 }
-
--- a tree on one line
-abbrev pub tree_line : Data → List ℕ
-tree_line d = compact_text d ++ codes "\n"
 
 -- the tree of a report, and status 1 where vulnerabilities were found
 abbrev pub report_output : Report → Output

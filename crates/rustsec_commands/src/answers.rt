@@ -4,9 +4,11 @@ ghost use Rattle.rustsec_commands.specs.declared.fault.Fault.TheVariants as faul
 ghost use Rattle.std.specs.Prelude.{◌≡◌, ◌≢◌, IfErr, IfOk, IfSome, OnOk};
 ghost use Rattle.std.specs.Io.KnownBytes.{Appends, Consumes, IsAtEnd, Keeps};
 ghost use Rattle.rustsec_commands.specs.Answer.{AnswersRanges};
+ghost use Rattle.rustsec_commands.specs.Commands.{IsOnlyRangesOutput};
 ghost use Rattle.rustsec_commands.specs.Output.{affected_output};
 
 use crate::fault::Fault;
+use crate::output::Output;
 use crate::{affected, ranges};
 use std::alloc::Global;
 use std::io::{Read, Write};
@@ -31,6 +33,24 @@ fn read_all<R: Read>(alloc: Global, input: &mut R) -> Result<Vec<u8>, Fault>
     Err(Fault::Read)
 }
 
+/// What `affected` writes for all that a reader has left.
+pub(crate) fn affected_of<R: Read>(alloc: Global, input: &mut R) -> Result<Output, Fault>
+    ensures ok { IfOk result (λ o. IfSome (R.remaining input.old) (λ bytes. o ≡ affected_output bytes)) }
+    ensures err { IfErr result (λ e. e ≢ fault.Write) }
+{
+    let bytes = read_all(alloc, input)?;
+    Ok(affected::affected_output(alloc, &bytes)?)
+}
+
+/// What `ranges` writes for all that a reader has left.
+pub(crate) fn ranges_of<R: Read>(alloc: Global, input: &mut R) -> Result<Output, Fault>
+    ensures ok { IfOk result (λ o. IfSome (R.remaining input.old) (λ bytes. IsOnlyRangesOutput bytes o)) }
+    ensures err { IfErr result (λ e. e ≢ fault.Write) }
+{
+    let bytes = read_all(alloc, input)?;
+    Ok(ranges::ranges_output(alloc, &bytes)?)
+}
+
 /// Carries out `affected`: reads all there is, and writes a line for each version that is asked
 /// about. The whole text is made before the first write. The answer is the status: 0, or 2 where a
 /// line is malformed or the lists are not accepted.
@@ -45,8 +65,7 @@ pub fn answer<R: Read, W: Write>(alloc: Global, input: &mut R, output: &mut W) -
         Appends (W.contents output.old) (W.contents output.new) (affected_output bytes).text)) }
     ensures kept { IfErr result (λ e. e ≢ fault.Write → Keeps (W.contents output.old) (W.contents output.new)) }
 {
-    let bytes = read_all(alloc, input)?;
-    affected::affected_output(alloc, &bytes)?.write(output)
+    affected_of(alloc, input)?.write(output)
 }
 
 /// Carries out `ranges`: reads all there is, and writes a line for each range that the requirements
@@ -66,6 +85,5 @@ pub fn answer_ranges<R: Read, W: Write>(
         AnswersRanges bytes s (W.contents output.old) (W.contents output.new))) }
     ensures kept { IfErr result (λ e. e ≢ fault.Write → Keeps (W.contents output.old) (W.contents output.new)) }
 {
-    let bytes = read_all(alloc, input)?;
-    ranges::ranges_output(alloc, &bytes)?.write(output)
+    ranges_of(alloc, input)?.write(output)
 }

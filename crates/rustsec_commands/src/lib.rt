@@ -10,9 +10,11 @@ mod fault;
 mod line;
 mod lint;
 mod options;
+mod osv;
 mod output;
 mod ranges;
 mod report;
+mod words;
 
 pub use crate::answers::{answer, answer_ranges};
 pub use crate::audit::write_audit;

@@ -1,11 +1,14 @@
 //! The text that a command writes and its status; the answers that commands share.
 
 ghost use Rattle.rustsec_commands.specs.declared.fault.Fault.TheVariants as fault;
-ghost use Rattle.std.specs.Prelude.{◌≡◌, ◌<◌, ◌^◌, ◌-◌, IfErr, IfOk, OnOk, string_bytes};
+ghost use Rattle.std.specs.Prelude.{◌≡◌, ◌<◌, ◌^◌, ◌-◌, IfErr, IfOk, OnOk, false, string_bytes};
+ghost use Rattle.serde_json.specs.View.{view};
+ghost use Rattle.serde_json.specs.Written.{has_float};
 ghost use Rattle.std.specs.Io.KnownBytes.{Appends};
-ghost use Rattle.rustsec_commands.specs.Output.{malformed, refused, usage};
+ghost use Rattle.rustsec_commands.specs.Output.{malformed, refused, tree_line, usage};
 
 use crate::fault::Fault;
+use serde_json::Value;
 use std::alloc::{AllocError, Global};
 use std::io::Write;
 use std::marker::Model;
@@ -32,6 +35,13 @@ impl Output {
         ensures { result ≡ record { text = string_bytes text; status = status } }
     {
         Output { text, status }
+    }
+
+    /// The status.
+    pub fn status(&self) -> u8
+        ensures { result ≡ self.now.status }
+    {
+        self.status
     }
 
     /// The whole text is written, and nothing else.
@@ -77,4 +87,13 @@ pub fn usage(alloc: Global) -> Result<Output, AllocError>
         text: String::from_str(alloc, "usage: rustsec_audit COMMAND\n")?,
         status: 2,
     })
+}
+
+/// The text of a tree on one line.
+pub fn tree_line(alloc: Global, tree: &Value) -> Result<String, AllocError>
+    ensures { IfOk result (λ t. has_float (view tree.now) ≡ false → string_bytes t ≡ tree_line (view tree.now)) }
+{
+    let mut text = tree.to_string(alloc)?;
+    text.push_str("\n")?;
+    Ok(text)
 }

@@ -1,37 +1,26 @@
 //! The commands `report` and `audit`, over a database and a lockfile.
 
-ghost use Rattle.std.specs.Prelude.{◌≡◌, ◌⊎◌, ◌++◌, [], IfErr, IfOk, None, Some, codes, false, map, string_bytes};
-ghost use Rattle.serde_json.specs.View.{view};
-ghost use Rattle.serde_json.specs.Written.{has_float};
+ghost use Rattle.std.specs.Prelude.{◌≡◌, ◌⊎◌, [], IfErr, IfOk, None, Some, map, string_bytes};
 ghost use Rattle.rustsec_values.specs.Reading.{read_all};
 ghost use Rattle.rustsec_versions.specs.Failure.{IsRefusal};
 ghost use Rattle.rustsec_texts.specs.Ids.{id_of};
 ghost use Rattle.rustsec_report.specs.Trees.{report_tree};
 ghost use Rattle.rustsec_commands.specs.Audit.{audit_output};
-ghost use Rattle.rustsec_commands.specs.Reports.{IsAuditOutput, IsOutputOver, IsReportOf, IsReportOutput, IsReportRefusal, report_output, settings_with, tree_line};
+ghost use Rattle.rustsec_commands.specs.Reports.{IsAuditOutput, IsOutputOver, IsReportOf, IsReportOutput, IsReportRefusal, report_output, settings_with};
+ghost use Rattle.rustsec_commands.specs.Output.{tree_line};
 
 use crate::audit::audit_output;
 use crate::lint::refusal;
 use crate::options;
-use crate::output::{self, Output};
+use crate::output::{self, Output, tree_line};
 use rustsec_database::Database;
 use rustsec_lock::Lockfile;
 use rustsec_report::{Report, Settings};
 use rustsec_texts::{Id, Informational};
 use rustsec_values::Items;
 use rustsec_versions::ErrorKind;
-use serde_json::Value;
 use std::alloc::{AllocError, Global};
 use std::rt::Files;
-
-/// The text of a tree on one line.
-pub(crate) fn tree_line(alloc: Global, tree: &Value) -> Result<String, AllocError>
-    ensures { IfOk result (λ t. has_float (view tree.now) ≡ false → string_bytes t ≡ tree_line (view tree.now)) }
-{
-    let mut text = tree.to_string(alloc)?;
-    text.push_str("\n")?;
-    Ok(text)
-}
 
 /// The text of a report's tree on one line.
 fn report_line(alloc: Global, report: &Report) -> Result<String, AllocError>

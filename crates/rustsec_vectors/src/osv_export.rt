@@ -11,7 +11,7 @@ use std::process::Abort;
 use std::test::Fail;
 
 /// An advisory with no more than it must have.
-const SHORT: &str = "```toml
+pub const SHORT: &str = "```toml
 [advisory]
 id = \"RUSTSEC-2001-2101\"
 package = \"base\"
@@ -27,7 +27,7 @@ D
 ";
 
 /// Its document.
-const SHORT_DOCUMENT: &str =
+pub const SHORT_DOCUMENT: &str =
     r#"{"affected":[{"database_specific":{"categories":[],"cvss":null,"informational":null},"ecosystem_specific":{"affected_functions":null,"affects":{"arch":[],"functions":[],"os":[]}},"package":{"ecosystem":"crates.io","name":"base","purl":"pkg:cargo/base"},"ranges":[{"events":[{"introduced":"0.0.0-0"},{"fixed":"1.2.3"}],"type":"SEMVER"}],"versions":[]}],"aliases":[],"database_specific":{"license":"CC0-1.0"},"details":"D","id":"RUSTSEC-2001-2101","modified":"2020-01-01T00:00:00Z","published":"2001-02-03T12:00:00Z","references":[{"type":"PACKAGE","url":"https://crates.io/crates/base"},{"type":"ADVISORY","url":"https://rustsec.org/advisories/RUSTSEC-2001-2101.html"}],"related":[],"severity":[],"summary":"T"}"#;
 
 /// The document of the valid advisory that other tests have too.

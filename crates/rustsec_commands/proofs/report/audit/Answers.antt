@@ -1,7 +1,7 @@
 use Rattle.std.proofs.Common.{◌∙◌, sym}
 use Rattle.std.proofs.lemmas.Result.{IfOk-weaker}
 use Rattle.rustsec_commands.specs.Reports.{audited}
-use Rattle.rustsec_commands.proofs.Answered.{misread-by}
+use Rattle.rustsec_commands.proofs.Refused.{misread-by}
 use Rattle.rustsec_commands.proofs.report.audit.Goals as goal
 
 pub returns-in-Ok : goal.returns-in-Ok

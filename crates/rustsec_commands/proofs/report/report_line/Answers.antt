@@ -3,7 +3,7 @@ use Rattle.std.proofs.lemmas.Result.{IfOk-weaker}
 use Rattle.serde_json.specs.Data.{Data}
 use Rattle.serde_json.specs.View.{view}
 use Rattle.serde_json.specs.Written.{has_float}
-use Rattle.rustsec_commands.specs.Reports.{tree_line}
+use Rattle.rustsec_commands.specs.Output.{tree_line}
 use Rattle.rustsec_commands.proofs.NoFloats.{report_plain}
 use Rattle.rustsec_commands.proofs.report.report_line.Goals as goal
 
