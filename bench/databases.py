@@ -39,12 +39,12 @@ def checksum(r):
 # ---- usual ones
 
 
-def usual_database(r, root, count):
-    """A database of advisories as they are usual, about 2 kB each, for 500 packages."""
+def usual_database(r, root, count, packages=None):
+    """A database of advisories as they are usual, about 2 kB each, for 500 packages, or for so many in turn."""
     os.makedirs(os.path.join(root, "crates"), exist_ok=True)
     for number in range(count):
         year, short = 2016 + number % 10, number // 10 + 1
-        _, data = advisories.usual_file(r, number)
+        _, data = advisories.usual_file(r, number, packages)
         old = re.search(rb'^id = "([^"]*)"', data, re.M)[1]
         id_ = f"RUSTSEC-{year}-{short:04}"
         data = data.replace(b'id = "' + old + b'"', b'id = "' + id_.encode() + b'"', 1)
