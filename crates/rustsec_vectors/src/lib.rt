@@ -48,6 +48,8 @@ mod lockfiles;
 #[cfg(test)]
 mod lookups;
 #[cfg(test)]
+mod notes;
+#[cfg(test)]
 mod osv_command;
 #[cfg(test)]
 mod osv_documents;
