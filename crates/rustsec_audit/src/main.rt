@@ -1,7 +1,7 @@
 //! The program `rustsec_audit`: `rustsec_commands` over its arguments, its input and its output.
 #![tactic(auto)]
 
-use rustsec_commands::{Fault, run};
+use rustsec_commands::{Fault, run_with_notes};
 use std::alloc::Global;
 use std::io::ErrorKind;
 use std::process::ExitCode;
@@ -35,7 +35,13 @@ fn texts(alloc: Global, words: &[String]) -> Result<Vec<&str>, Fault> {
 fn carry_out(rt: &HostRuntime) -> Result<u8, Fault> {
     let words = words(rt)?;
     let texts = texts(rt.alloc(), &words)?;
-    run(rt, &texts, &mut rt.stdin(), &mut io::writer(rt))
+    run_with_notes(
+        rt,
+        &texts,
+        &mut rt.stdin(),
+        &mut io::writer(rt),
+        &mut rt.stderr(),
+    )
 }
 
 fn main(rt: HostRuntime) -> ExitCode {

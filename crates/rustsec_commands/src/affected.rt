@@ -43,7 +43,7 @@ fn verdicts(alloc: Global, asked: Asked) -> Result<Output, AllocError>
     match Versions::new(alloc, patched, unaffected) {
         Ok(lists) => Ok(Output::new(verdict_lines(alloc, &lists, &versions)?, 0)),
         Err(e) if e.kind() == ErrorKind::OutOfMemory => Err(AllocError),
-        Err(_) => output::refused(alloc),
+        Err(e) => output::refused(alloc, &e),
     }
 }
 

@@ -14,7 +14,7 @@ use crate::fault::Fault;
 use crate::output::{self, Output};
 use crate::words::{Command, command_of};
 use crate::{answers, lint, osv, report};
-use std::io::{Read, Write};
+use std::io::{self, Read, Write};
 use std::rt::Files;
 
 /// What a command writes.
@@ -72,10 +72,70 @@ fn carry_out<T: Files + AllocGlobal, R: Read, W: Write>(
 ///   opened. The input is not read;
 /// - any other words: writes the usage line, status 2.
 ///
+/// Behind the output goes a note to `notes`, for a person: why something is refused, what helps against what
+/// `audit` found, how the program is used, or what failed. Of its text nothing is promised. It is lost
+/// if it cannot be written or memory for it is refused.
+///
 /// # Errors
 ///
 /// `Memory` and `Read`, with nothing written; `Write`, after which nothing is said of how much went
 /// out.
+pub fn run_with_notes<T: Files + AllocGlobal, R: Read, W: Write, N: Write>(
+    rt: &T,
+    words: &[&str],
+    input: &mut R,
+    output: &mut W,
+    notes: &mut N,
+) -> Result<u8, Fault>
+    ensures affected_status { map (λ w. w.now) words.now ≡ codes "affected" ∷ []
+        → IfOk result (λ s. IfSome (R.remaining input.old) (λ bytes. s ≡ (affected_output bytes).status)) }
+    ensures affected_text { map (λ w. w.now) words.now ≡ codes "affected" ∷ []
+        → OnOk result (IfSome (R.remaining input.old) (λ bytes.
+        Appends (W.contents output.old) (W.contents output.new) (affected_output bytes).text)) }
+    ensures ranges { map (λ w. w.now) words.now ≡ codes "ranges" ∷ []
+        → IfOk result (λ s. IfSome (R.remaining input.old) (λ bytes.
+        AnswersRanges bytes s (W.contents output.old) (W.contents output.new))) }
+    ensures lint { (path : List ℕ) → map (λ w. w.now) words.now ≡ codes "lint" ∷ path ∷ []
+        → IfOk result (λ s. AnswersLint path s (W.contents output.old) (W.contents output.new)) }
+    ensures lint_unread { (path : List ℕ) → map (λ w. w.now) words.now ≡ codes "lint" ∷ path ∷ []
+        → R.remaining input.new ≡ R.remaining input.old }
+    ensures osv { (path modified : List ℕ) → map (λ w. w.now) words.now ≡ codes "osv" ∷ path ∷ modified ∷ []
+        → IfOk result (λ s. Answers (IsOsvOutput modified) s (W.contents output.old) (W.contents output.new)) }
+    ensures osv_unread { (path modified : List ℕ) → map (λ w. w.now) words.now ≡ codes "osv" ∷ path ∷ modified ∷ []
+        → R.remaining input.new ≡ R.remaining input.old }
+    ensures report { (root lock : List ℕ) → map (λ w. w.now) words.now ≡ codes "report" ∷ root ∷ lock ∷ []
+        → IfOk result (λ s. Answers (IsReportOutput root) s (W.contents output.old) (W.contents output.new)) }
+    ensures report_unread { (root lock : List ℕ) → map (λ w. w.now) words.now ≡ codes "report" ∷ root ∷ lock ∷ []
+        → R.remaining input.new ≡ R.remaining input.old }
+    ensures audit { (root lock : List ℕ) (options : List (List ℕ)) → map (λ w. w.now) words.now ≡ codes "audit" ∷ root ∷ lock ∷ options
+        → IfOk result (λ s. Answers (IsAuditOutput root options) s (W.contents output.old) (W.contents output.new)) }
+    ensures audit_unread { (root lock : List ℕ) (options : List (List ℕ)) → map (λ w. w.now) words.now ≡ codes "audit" ∷ root ∷ lock ∷ options
+        → R.remaining input.new ≡ R.remaining input.old }
+    ensures usage_unread { names_command (map (λ w. w.now) words.now) ≡ false
+        → R.remaining input.new ≡ R.remaining input.old }
+    ensures usage_status { names_command (map (λ w. w.now) words.now) ≡ false
+        → IfOk result (λ s. s ≡ usage.status) }
+    ensures usage_text { names_command (map (λ w. w.now) words.now) ≡ false
+        → OnOk result (Appends (W.contents output.old) (W.contents output.new) usage.text) }
+    ensures kept { IfErr result (λ e. e ≢ fault.Write → Keeps (W.contents output.old) (W.contents output.new)) }
+{
+    match carry_out(rt, command_of(words), input, output) {
+        Ok(made) => {
+            made.write_note(notes);
+            Ok(made.status())
+        }
+        Err(fault) => {
+            fault.write_note(notes);
+            Err(fault)
+        }
+    }
+}
+
+/// As `run_with_notes`, without the note.
+///
+/// # Errors
+///
+/// The same.
 pub fn run<T: Files + AllocGlobal, R: Read, W: Write>(
     rt: &T,
     words: &[&str],
@@ -114,6 +174,5 @@ pub fn run<T: Files + AllocGlobal, R: Read, W: Write>(
         → OnOk result (Appends (W.contents output.old) (W.contents output.new) usage.text) }
     ensures kept { IfErr result (λ e. e ≢ fault.Write → Keeps (W.contents output.old) (W.contents output.new)) }
 {
-    let made = carry_out(rt, command_of(words), input, output)?;
-    Ok(made.status())
+    run_with_notes(rt, words, input, output, &mut io::sink())
 }

@@ -1,6 +1,7 @@
 //! Why a command gave no answer.
 
 use std::alloc::AllocError;
+use std::io::Write;
 use thiserror::Error;
 
 /// Why a command gave no answer.
@@ -15,6 +16,18 @@ pub enum Fault {
     /// The output could not be written.
     #[error("the output cannot be written")]
     Write,
+}
+
+impl Fault {
+    /// Writes what failed, as a note. One that cannot be written is lost.
+    pub(crate) fn write_note<N: Write>(self, notes: &mut N) {
+        let note = match self {
+            Fault::Memory => "rustsec_audit: out of memory\n",
+            Fault::Read => "rustsec_audit: the input cannot be read\n",
+            Fault::Write => "rustsec_audit: the output cannot be written\n",
+        };
+        let _ = notes.write_all(note.as_bytes());
+    }
 }
 
 impl From<AllocError> for Fault {

@@ -1,6 +1,7 @@
 //! The commands of the program `rustsec_audit`, over any reader and writer.
 #![tactic(auto)]
 
+mod advice;
 mod affected;
 mod answers;
 mod asked;
@@ -13,10 +14,13 @@ mod options;
 mod osv;
 mod output;
 mod ranges;
+mod refusal;
 mod report;
+mod shown;
+mod usage;
 mod words;
 
 pub use crate::answers::{answer, answer_ranges};
 pub use crate::audit::write_audit;
-pub use crate::commands::run;
+pub use crate::commands::{run, run_with_notes};
 pub use crate::fault::Fault;

@@ -5,8 +5,8 @@ ghost use Rattle.rustsec_osv.specs.TreeDocument.{document_tree};
 ghost use Rattle.rustsec_commands.specs.Osv.{IsDocumentOf, IsOsvOutput, IsOsvRefusal, document_output};
 ghost use Rattle.rustsec_commands.specs.Output.{tree_line};
 
-use crate::lint::refusal;
 use crate::output::{Output, tree_line};
+use crate::refusal::refusal;
 use rustsec_advisory::Advisory;
 use rustsec_osv::OsvAdvisory;
 use std::alloc::{AllocError, Global};
@@ -53,6 +53,6 @@ pub fn osv_output<T: Files + AllocGlobal>(
 {
     match document_of(rt, path, modified) {
         Ok(document) => document_output(rt.alloc(), &document),
-        Err(error) => refusal(rt.alloc(), error),
+        Err(error) => refusal(rt.alloc(), &error),
     }
 }

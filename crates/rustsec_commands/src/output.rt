@@ -1,4 +1,4 @@
-//! The text that a command writes and its status; the answers that commands share.
+//! The text that a command writes, its status and a note; the answers that commands share.
 
 ghost use Rattle.rustsec_commands.specs.declared.fault.Fault.TheVariants as fault;
 ghost use Rattle.std.specs.Prelude.{◌≡◌, ◌<◌, ◌^◌, ◌-◌, IfErr, IfOk, OnOk, false, string_bytes};
@@ -8,16 +8,20 @@ ghost use Rattle.std.specs.Io.KnownBytes.{Appends};
 ghost use Rattle.rustsec_commands.specs.Output.{malformed, refused, tree_line, usage};
 
 use crate::fault::Fault;
+use crate::refusal::why;
+use crate::usage::PAGE;
+use rustsec_versions::Error;
 use serde_json::Value;
 use std::alloc::{AllocError, Global};
 use std::io::Write;
 use std::marker::Model;
 
-/// A text, and the status that goes with it.
+/// A text, the status that goes with it, and a note for a person, of which no contract speaks.
 #[derive(Drop)]
 pub struct Output {
     text: String,
     status: u8,
+    note: Option<String>,
 }
 
 impl Model for Output {
@@ -30,11 +34,33 @@ impl Model for Output {
 }
 
 impl Output {
-    /// A text and a status.
+    /// A text and a status, without a note.
     pub fn new(text: String, status: u8) -> Output
         ensures { result ≡ record { text = string_bytes text; status = status } }
     {
-        Output { text, status }
+        Output {
+            text,
+            status,
+            note: None,
+        }
+    }
+
+    /// The same with a note, if there is one.
+    pub fn with_note(self, note: Option<String>) -> Output
+        ensures { result ≡ self }
+    {
+        Output {
+            text: self.text,
+            status: self.status,
+            note,
+        }
+    }
+
+    /// Writes the note, if there is one. A note that cannot be written is lost.
+    pub fn write_note<N: Write>(&self, notes: &mut N) {
+        if let Some(note) = &self.note {
+            let _ = notes.write_all(note.as_bytes());
+        }
     }
 
     /// The status.
@@ -57,36 +83,36 @@ impl Output {
     }
 }
 
+/// What a line may be.
+const LINES: &str =
+    "expected `patched REQ`, `unaffected REQ`, for `affected` also `version V`, or nothing";
+
 /// The answer to a malformed line.
 pub fn malformed(alloc: Global, place: usize) -> Result<Output, AllocError>
     requires { place < 2 ^ 64 - 1 }
     ensures { IfOk result (λ o. o ≡ malformed place) }
 {
     let number = place + 1;
-    Ok(Output {
-        text: format!(in alloc; "line {number}: malformed\n")?,
-        status: 2,
-    })
+    let text = format!(in alloc; "line {number}: malformed\n")?;
+    let note = format!(in alloc; "rustsec_audit: line {number}: {LINES}\n");
+    Ok(Output::new(text, 2).with_note(note.ok()))
 }
 
 /// The answer to lists that are not accepted.
-pub fn refused(alloc: Global) -> Result<Output, AllocError>
+pub fn refused(alloc: Global, error: &Error) -> Result<Output, AllocError>
     ensures { IfOk result (λ o. o ≡ refused) }
 {
-    Ok(Output {
-        text: String::from_str(alloc, "refused: bad parameter\n")?,
-        status: 2,
-    })
+    let text = String::from_str(alloc, "refused: bad parameter\n")?;
+    Ok(Output::new(text, 2).with_note(why(alloc, error).ok()))
 }
 
 /// The answer to words that name no command.
 pub fn usage(alloc: Global) -> Result<Output, AllocError>
     ensures { IfOk result (λ o. o ≡ usage) }
 {
-    Ok(Output {
-        text: String::from_str(alloc, "usage: rustsec_audit COMMAND\n")?,
-        status: 2,
-    })
+    let text = String::from_str(alloc, "usage: rustsec_audit COMMAND\n")?;
+    let note = String::from_str(alloc, PAGE);
+    Ok(Output::new(text, 2).with_note(note.ok()))
 }
 
 /// The text of a tree on one line.

@@ -49,7 +49,7 @@ fn ranges(alloc: Global, asked: Asked) -> Result<Output, AllocError>
     let lists = match Versions::new(alloc, patched, unaffected) {
         Ok(lists) => lists,
         Err(e) if e.kind() == ErrorKind::OutOfMemory => return Err(AllocError),
-        Err(_) => return output::refused(alloc),
+        Err(e) => return output::refused(alloc, &e),
     };
     let Ok(ranges) = ranges_for_advisory(alloc, &lists) else {
         return Err(AllocError);

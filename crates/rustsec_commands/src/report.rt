@@ -9,10 +9,11 @@ ghost use Rattle.rustsec_commands.specs.Audit.{audit_output};
 ghost use Rattle.rustsec_commands.specs.Reports.{IsAuditOutput, IsOutputOver, IsReportOf, IsReportOutput, IsReportRefusal, report_output, settings_with};
 ghost use Rattle.rustsec_commands.specs.Output.{tree_line};
 
+use crate::advice::advice;
 use crate::audit::audit_output;
-use crate::lint::refusal;
 use crate::options;
 use crate::output::{self, Output, tree_line};
+use crate::refusal::refusal;
 use rustsec_database::Database;
 use rustsec_lock::Lockfile;
 use rustsec_report::{Report, Settings};
@@ -78,8 +79,16 @@ pub fn report<T: Files + AllocGlobal>(rt: &T, root: &str, lock: &str) -> Result<
     let settings = settings_with(rt.alloc(), Items::new(rt.alloc()))?;
     match report_of(rt, root, lock, &settings) {
         Ok(report) => report_output(rt.alloc(), &report),
-        Err(error) => refusal(rt.alloc(), error),
+        Err(error) => refusal(rt.alloc(), &error),
     }
+}
+
+/// What `audit` writes of a report, with a note of what helps.
+fn advised_output(alloc: Global, deny_warnings: bool, report: &Report) -> Result<Output, AllocError>
+    ensures { IfOk result (λ o. o ≡ audit_output deny_warnings report.now) }
+{
+    let output = audit_output(alloc, deny_warnings, report)?;
+    Ok(output.with_note(advice(alloc, report).ok()))
 }
 
 /// What `audit` writes, with these IDs ignored.
@@ -94,8 +103,8 @@ fn audit_with<T: Files + AllocGlobal>(
 {
     let settings = settings_with(rt.alloc(), ignored)?;
     match report_of(rt, root, lock, &settings) {
-        Ok(report) => audit_output(rt.alloc(), deny_warnings, &report),
-        Err(error) => refusal(rt.alloc(), error),
+        Ok(report) => advised_output(rt.alloc(), deny_warnings, &report),
+        Err(error) => refusal(rt.alloc(), &error),
     }
 }
 
@@ -113,6 +122,6 @@ pub fn audit<T: Files + AllocGlobal>(
     };
     match options.ignored_ids(rt.alloc()) {
         Ok(ignored) => audit_with(rt, root, lock, ignored, options.denies_warnings()),
-        Err(error) => refusal(rt.alloc(), error),
+        Err(error) => refusal(rt.alloc(), &error),
     }
 }

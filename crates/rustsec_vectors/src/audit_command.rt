@@ -16,7 +16,7 @@ use std::{fs, io};
 
 /// Advisories for `base`, by their paths under a root: one of a vulnerability, one that was withdrawn,
 /// and one of a package that nobody maintains.
-const ADVISORIES: &[(&str, &str)] = &[
+pub const ADVISORIES: &[(&str, &str)] = &[
     (
         "crates/base/RUSTSEC-2001-0001.md",
         "```toml\n[advisory]\nid = \"RUSTSEC-2001-0001\"\npackage = \"base\"\ndate = \"2001-02-03\"\n\n[versions]\npatched = [\">= 2.0.0\"]\n```\n\n# T\n\nD\n",
@@ -32,7 +32,7 @@ const ADVISORIES: &[(&str, &str)] = &[
 ];
 
 /// A lockfile of four packages, of which one is of the default registry.
-const FOUR_PACKAGES: &str = "version = 3
+pub const FOUR_PACKAGES: &str = "version = 3
 
 [[package]]
 name = \"base\"
@@ -67,7 +67,7 @@ fn put_file<T: Files + AllocGlobal>(
 }
 
 /// Makes a root with these advisories and this lockfile.
-fn make_root<T: Files + AllocGlobal>(
+pub fn make_root<T: Files + AllocGlobal>(
     rt: &T,
     root: &str,
     advisories: &[(&str, &str)],

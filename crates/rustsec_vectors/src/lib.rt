@@ -50,6 +50,8 @@ mod lockfiles;
 #[cfg(test)]
 mod lookups;
 #[cfg(test)]
+mod notes;
+#[cfg(test)]
 mod osv_command;
 #[cfg(test)]
 mod osv_documents;

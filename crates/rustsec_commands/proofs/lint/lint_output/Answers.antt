@@ -10,4 +10,4 @@ returns-in-Ok g c =
 
 pub returns-in-Err : goal.returns-in-Err
 returns-in-Err g c =
-    IfOk-weaker c.refusal.result _ _ (λ o h. refused-output c.args.path.now c.in-Err.error o h.0 h.1 c.in-Err.ensures.err) c.refusal.ensures
+    IfOk-weaker c.refusal_of_file.result _ _ (λ o h. refused-output c.args.path.now c.in-Err.error o h.0 h.1 c.in-Err.ensures.err) c.refusal_of_file.ensures

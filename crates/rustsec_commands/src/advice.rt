@@ -1,0 +1,148 @@
+//! What is known of the vulnerabilities and warnings of a report, and what helps, for a person.
+
+use crate::shown::push_shown;
+use rustsec_advisory::Metadata;
+use rustsec_lock::Cvss;
+use rustsec_lock::package::Package;
+use rustsec_query::Vulnerability;
+use rustsec_report::{Report, Warning, WarningInfo};
+use rustsec_texts::WarningKind;
+use rustsec_versions::{Result, Versions, requirement_text};
+use std::alloc::Global;
+use std::fmt::Write as _;
+
+/// Appends a line: a label and a text.
+fn add_line(note: &mut String, label: &str, text: &str) -> Result<()> {
+    note.push_str(label)?;
+    push_shown(note, text)?;
+    note.push_str("\n")?;
+    Ok(())
+}
+
+/// Appends the lines of a package.
+fn add_package(note: &mut String, package: &Package) -> Result<()> {
+    let version = &package.version;
+    add_line(note, "\nCrate:     ", package.name.as_str())?;
+    writeln!(note, "Version:   {version}")?;
+    Ok(())
+}
+
+/// Appends the line of the address of an advisory: its page, or else where it was announced.
+fn add_address(alloc: Global, note: &mut String, advisory: &Metadata) -> Result<()> {
+    if let Some(page) = advisory.id.url(alloc)? {
+        return add_line(note, "URL:       ", &page);
+    }
+    match &advisory.url {
+        Some(address) => add_line(note, "URL:       ", address.as_str()),
+        None => Ok(()),
+    }
+}
+
+/// Appends the lines of an advisory.
+fn add_advisory(alloc: Global, note: &mut String, advisory: &Metadata) -> Result<()> {
+    add_line(note, "Title:     ", advisory.title.as_str())?;
+    add_line(note, "Date:      ", advisory.date.as_str())?;
+    add_line(note, "ID:        ", advisory.id.as_str())?;
+    add_address(alloc, note, advisory)
+}
+
+/// Appends the line of a rating, or of a vector that has none.
+fn add_severity(alloc: Global, note: &mut String, cvss: &Cvss) -> Result<()> {
+    match cvss.severity() {
+        Some(severity) => writeln!(note, "Severity:  {severity}")?,
+        None => {
+            let vector = cvss.to_string(alloc)?;
+            add_line(note, "Severity:  ", &vector)?;
+        }
+    }
+    Ok(())
+}
+
+/// Appends the line of what helps: a version that the advisory calls patched, if it names any.
+fn add_solution(alloc: Global, note: &mut String, versions: &Versions) -> Result<()> {
+    let mut before = "Solution:  upgrade to ";
+    for req in versions.patched() {
+        note.push_str(before)?;
+        push_shown(note, &requirement_text(alloc, req)?)?;
+        before = " or ";
+    }
+    if versions.patched().is_empty() {
+        note.push_str("Solution:  no fixed version is known")?;
+    }
+    note.push_str("\n")?;
+    Ok(())
+}
+
+/// Appends a line for each function that is affected in the package's version.
+fn add_functions(alloc: Global, note: &mut String, vulnerability: &Vulnerability) -> Result<()> {
+    let Some(paths) = vulnerability.affected_functions(alloc)? else {
+        return Ok(());
+    };
+    for path in &paths {
+        let path = path.to_string(alloc)?;
+        add_line(note, "Function:  ", &path)?;
+    }
+    Ok(())
+}
+
+/// Appends what is known of a vulnerability.
+fn add_vulnerability(
+    alloc: Global,
+    note: &mut String,
+    vulnerability: &Vulnerability,
+) -> Result<()> {
+    add_package(note, &vulnerability.package)?;
+    add_advisory(alloc, note, &vulnerability.advisory)?;
+    if let Some(cvss) = &vulnerability.advisory.cvss {
+        add_severity(alloc, note, cvss)?;
+    }
+    add_solution(alloc, note, &vulnerability.versions)?;
+    add_functions(alloc, note, vulnerability)
+}
+
+/// Appends what is known of a warning.
+fn add_warning(
+    alloc: Global,
+    note: &mut String,
+    kind: WarningKind,
+    warning: &Warning,
+) -> Result<()> {
+    add_package(note, &warning.package)?;
+    writeln!(note, "Warning:   {kind}")?;
+    match &warning.advisory {
+        Some(advisory) => add_advisory(alloc, note, advisory),
+        None => Ok(()),
+    }
+}
+
+/// Appends what is known of the warnings of a kind.
+fn add_kind(
+    alloc: Global,
+    note: &mut String,
+    kind: WarningKind,
+    warnings: &[Warning],
+) -> Result<()> {
+    for warning in warnings {
+        add_warning(alloc, note, kind, warning)?;
+    }
+    Ok(())
+}
+
+/// Appends what is known of warnings.
+fn add_warnings(alloc: Global, note: &mut String, warnings: &WarningInfo) -> Result<()> {
+    for (kind, list) in warnings.as_map() {
+        add_kind(alloc, note, *kind, list.as_slice())?;
+    }
+    Ok(())
+}
+
+/// What is known of the vulnerabilities and warnings of a report, and what helps. Only the lines of
+/// this text end in line feeds; what stands in files is shown on one line.
+pub fn advice(alloc: Global, report: &Report) -> Result<String> {
+    let mut note = String::new(alloc);
+    for vulnerability in report.vulnerabilities.list.as_slice() {
+        add_vulnerability(alloc, &mut note, vulnerability)?;
+    }
+    add_warnings(alloc, &mut note, &report.warnings)?;
+    Ok(note)
+}

@@ -1,0 +1,47 @@
+//! The answers to what is refused, each with a note that says why.
+
+ghost use Rattle.std.specs.Prelude.{◌≡◌, ◌≢◌, IfOk};
+ghost use Rattle.rustsec_commands.specs.Lint.{refused_as};
+ghost use Rattle.rustsec_versions.specs.declared.error.ErrorKind.TheVariants as failure;
+
+use crate::output::Output;
+use crate::shown::push_shown;
+use rustsec_versions::{Error, ErrorKind, refused_file};
+use std::alloc::{AllocError, Global};
+
+/// Why something is refused, with its cause, on one line.
+pub fn why(alloc: Global, error: &Error) -> Result<String, AllocError> {
+    let text = error.to_string(alloc)?;
+    let mut note = String::from_str(alloc, "rustsec_audit: ")?;
+    push_shown(&mut note, &text)?;
+    if let Some(cause) = error.cause() {
+        note.push_str(": ")?;
+        push_shown(&mut note, cause)?;
+    }
+    note.push_str("\n")?;
+    Ok(note)
+}
+
+/// The answer to a refusal, which is not that memory ran out.
+pub fn refusal(alloc: Global, error: &Error) -> Result<Output, AllocError>
+    ensures { IfOk result (λ o. (error.now.kind ≢ failure.OutOfMemory) × (o ≡ refused_as error.now.kind)) }
+{
+    let kind = error.kind();
+    if kind == ErrorKind::OutOfMemory {
+        return Err(AllocError);
+    }
+    let text = format!(in alloc; "refused: {kind}\n")?;
+    Ok(Output::new(text, 2).with_note(why(alloc, error).ok()))
+}
+
+/// The same of a file's text, whose refusal need not name the file.
+pub fn refusal_of_file(alloc: Global, path: &str, error: &Error) -> Result<Output, AllocError>
+    ensures { IfOk result (λ o. (error.now.kind ≢ failure.OutOfMemory) × (o ≡ refused_as error.now.kind)) }
+{
+    let output = refusal(alloc, error)?;
+    if error.kind() == ErrorKind::Io {
+        return Ok(output);
+    }
+    let named = refused_file(alloc, path, error);
+    Ok(output.with_note(why(alloc, &named).ok()))
+}

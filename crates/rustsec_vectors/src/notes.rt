@@ -1,0 +1,201 @@
+// What the program says beside its output: why something is refused, and what helps.
+
+use crate::advisory_texts::{VALID, changed};
+use crate::audit_command::{ADVISORIES, FOUR_PACKAGES, make_root};
+use crate::fakes::ByteWriter;
+use rustsec_commands::run_with_notes;
+use std::process::Abort;
+use std::rt::Files;
+use std::test::Fail;
+use std::{fs, str};
+
+/// Words, an input, the status that they give, and what stands in their note.
+type NoteRow<'a> = (&'a [&'a str], &'a str, u8, &'a [&'a str]);
+
+/// Whether all parts stand in a text.
+fn has_all(text: &str, parts: &[&str]) -> bool {
+    for part in parts {
+        if !text.contains(*part) {
+            return false;
+        }
+    }
+    true
+}
+
+/// Whether a text has no control character but line feeds.
+fn is_plain(text: &str) -> bool {
+    for c in text.chars() {
+        if c != '\n' && c.is_control() {
+            return false;
+        }
+    }
+    true
+}
+
+/// Whether words give this status, and a note of plain lines with these parts.
+fn notes<T: Files + AllocGlobal>(rt: &T, row: &NoteRow<'_>) -> Result<bool, Fail> {
+    let (words, input, status, parts) = row;
+    let mut reader = input.as_bytes();
+    let mut written = Vec::new(rt.alloc());
+    let mut note = Vec::new(rt.alloc());
+    let found = run_with_notes(rt, words, &mut reader, &mut written, &mut note)?;
+    let note = str::from_utf8(&note)?;
+    Ok(found == *status && has_all(note, parts) && is_plain(note))
+}
+
+/// Checks the notes of rows.
+fn expect_notes<T: Files + AllocGlobal + Abort>(rt: &T, rows: &[NoteRow<'_>]) -> Result<(), Fail> {
+    for row in rows {
+        assert!(rt; notes(rt, row)?, "{row:?}");
+    }
+    Ok(())
+}
+
+#[test]
+fn notes_of_refusals(rt: HostRuntime) -> Result<(), Fail> {
+    let path = "notes-of-refusals.md";
+    let text = changed(rt.alloc(), VALID, "date = ", "day = ")?;
+    fs::write(&rt, path, &text)?;
+    let missing = &["rustsec_audit: parse error: ", path, "`date`"];
+    expect_notes(
+        &rt,
+        &[
+            (&["lint", path], "", 2, missing),
+            (&["osv", path, "x"], "", 2, missing),
+            (
+                &["lint", "absent.md"],
+                "",
+                2,
+                &["I/O operation failed: ", "absent.md"],
+            ),
+            (&["audit", "absent", "absent.lock"], "", 2, &["absent"]),
+            (
+                &["audit", "x", "y", "--ignore", "RUSTSEC-1"],
+                "",
+                2,
+                &["RUSTSEC-1"],
+            ),
+            (
+                &["affected"],
+                "patched 1.*\n",
+                2,
+                &["bad parameter: ", "1.*"],
+            ),
+            (
+                &["ranges"],
+                "patched < 2.0.0\npatched > 1.0.0\n",
+                2,
+                &["<2.0.0", ">1.0.0"],
+            ),
+            (
+                &["affected"],
+                "\nverson 1.0.0\n",
+                2,
+                &["rustsec_audit: line 2: ", "version V"],
+            ),
+        ],
+    )?;
+    fs::remove_file(&rt, path)?;
+    Ok(())
+}
+
+/// What stands on the page that shows how the program is used.
+const PAGE: &[&str] = &[
+    "audit ROOT LOCK [--ignore ID].. [--deny-warnings]\n",
+    "report ROOT LOCK\n",
+    "lint FILE\n",
+    "osv FILE MODIFIED\n",
+    "affected\n",
+    "ranges\n",
+    "example: rustsec_audit audit ",
+    "Status 3",
+];
+
+#[test]
+fn usage_page(rt: HostRuntime) -> Result<(), Fail> {
+    expect_notes(
+        &rt,
+        &[
+            (&[], "", 2, PAGE),
+            (&["help"], "", 2, PAGE),
+            (&["--help"], "", 2, PAGE),
+            (&["fix"], "", 2, PAGE),
+            (&["audit", "x"], "", 2, PAGE),
+        ],
+    )
+}
+
+/// What is said of the vulnerability and of the package that nobody maintains.
+const HELP: &[&str] = &[
+    "Crate:     base\nVersion:   1.0.0\nTitle:     T\nDate:      2001-02-03\nID:        RUSTSEC-2001-0001\nURL:       https://rustsec.org/advisories/RUSTSEC-2001-0001\nSolution:  upgrade to >=2.0.0\n",
+    "Crate:     base\nVersion:   1.0.0\nWarning:   unmaintained\nTitle:     T\nDate:      2001-02-03\nID:        RUSTSEC-2001-0003\nURL:       https://rustsec.org/advisories/RUSTSEC-2001-0003\n",
+];
+
+/// An advisory with all that helps, and a title that would clear a terminal and turn its direction.
+const HOSTILE: &[(&str, &str)] = &[(
+    "crates/base/RUSTSEC-2001-0004.md",
+    "```toml\n[advisory]\nid = \"RUSTSEC-2001-0004\"\npackage = \"base\"\ndate = \"2001-02-03\"\ncvss = \"CVSS:3.1/AV:N/AC:L/PR:N/UI:N/S:C/C:H/I:H/A:H\"\n\n[versions]\npatched = [\"^0.9.4\", \">= 2.0.0\"]\n\n[affected]\nfunctions = { \"base::all\" = [\"< 2.0.0\"] }\n```\n\n# \u{1b}[2J\u{202e}T\u{9b}\n\nD\n",
+)];
+
+/// What is said of it.
+const SHOWN: &[&str] = &[
+    "Title:     \\u{1b}[2J\\u{202e}T\\u{9b}\n",
+    "Severity:  critical\nSolution:  upgrade to ^0.9.4 or >=2.0.0\nFunction:  base::all\n",
+];
+
+/// A lockfile whose refusal names a package, with characters that would write lines of their own.
+const HOSTILE_LOCKFILE: &str = "[[package]]\nname = \"a\\u001b[2J\\nb\"\nversion = \"1\"\n";
+
+#[test]
+fn what_helps(rt: HostRuntime) -> Result<(), Fail> {
+    let lock = "what-helps/Cargo.lock";
+    make_root(&rt, "what-helps", ADVISORIES, FOUR_PACKAGES)?;
+    make_root(&rt, "what-helps-shown", HOSTILE, HOSTILE_LOCKFILE)?;
+    expect_notes(
+        &rt,
+        &[
+            (&["audit", "what-helps", lock], "", 1, HELP),
+            (&["audit", "what-helps-shown", lock], "", 1, SHOWN),
+            (
+                &["report", "what-helps", "what-helps-shown/Cargo.lock"],
+                "",
+                2,
+                &["package 1, `a\\u{1b}[2J\\u{a}b`: "],
+            ),
+        ],
+    )?;
+    fs::remove_dir_all(&rt, "what-helps")?;
+    fs::remove_dir_all(&rt, "what-helps-shown")?;
+    Ok(())
+}
+
+/// Whether words write the same with this status if their note fails at a write.
+fn writes_without_note<T: Files + AllocGlobal>(
+    rt: &T,
+    words: &[&str],
+    fails_at: u64,
+    status: u8,
+    text: &[u8],
+) -> Result<bool, Fail> {
+    let mut reader: &[u8] = b"";
+    let mut written = Vec::new(rt.alloc());
+    let mut note = ByteWriter::new(Vec::new(rt.alloc()), fails_at);
+    let found = run_with_notes(rt, words, &mut reader, &mut written, &mut note)?;
+    Ok(found == status && written.as_slice() == text && note.held().len() as u64 == fails_at - 1)
+}
+
+#[test]
+fn a_note_fails(rt: HostRuntime) -> Result<(), Fail> {
+    for fails_at in 1..40u64 {
+        assert!(rt;
+            writes_without_note(
+                &rt,
+                &["lint", "absent.md"],
+                fails_at,
+                2,
+                b"refused: I/O operation failed\n"
+            )?
+        );
+    }
+    Ok(())
+}
