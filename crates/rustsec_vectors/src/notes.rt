@@ -51,51 +51,55 @@ fn expect_notes<T: Files + AllocGlobal + Abort>(rt: &T, rows: &[NoteRow<'_>]) ->
     Ok(())
 }
 
+/// The file of an advisory without its date.
+const REFUSED: &str = "notes-of-refusals.md";
+
+/// What is said of it.
+const MISSING: &[&str] = &["rustsec_audit: parse error: ", REFUSED, "`date`"];
+
+/// What is refused, and what is said of it.
+const REFUSALS: &[NoteRow<'static>] = &[
+    (&["lint", REFUSED], "", 2, MISSING),
+    (&["osv", REFUSED, "x"], "", 2, MISSING),
+    (
+        &["lint", "absent.md"],
+        "",
+        2,
+        &["I/O operation failed: ", "absent.md"],
+    ),
+    (&["audit", "absent", "absent.lock"], "", 2, &["absent"]),
+    (
+        &["audit", "x", "y", "--ignore", "RUSTSEC-1"],
+        "",
+        2,
+        &["RUSTSEC-1"],
+    ),
+    (
+        &["affected"],
+        "patched 1.*\n",
+        2,
+        &["bad parameter: ", "1.*"],
+    ),
+    (
+        &["ranges"],
+        "patched < 2.0.0\npatched > 1.0.0\n",
+        2,
+        &["<2.0.0", ">1.0.0"],
+    ),
+    (
+        &["affected"],
+        "\nverson 1.0.0\n",
+        2,
+        &["rustsec_audit: line 2: ", "version V"],
+    ),
+];
+
 #[test]
 fn notes_of_refusals(rt: HostRuntime) -> Result<(), Fail> {
-    let path = "notes-of-refusals.md";
     let text = changed(rt.alloc(), VALID, "date = ", "day = ")?;
-    fs::write(&rt, path, &text)?;
-    let missing = &["rustsec_audit: parse error: ", path, "`date`"];
-    expect_notes(
-        &rt,
-        &[
-            (&["lint", path], "", 2, missing),
-            (&["osv", path, "x"], "", 2, missing),
-            (
-                &["lint", "absent.md"],
-                "",
-                2,
-                &["I/O operation failed: ", "absent.md"],
-            ),
-            (&["audit", "absent", "absent.lock"], "", 2, &["absent"]),
-            (
-                &["audit", "x", "y", "--ignore", "RUSTSEC-1"],
-                "",
-                2,
-                &["RUSTSEC-1"],
-            ),
-            (
-                &["affected"],
-                "patched 1.*\n",
-                2,
-                &["bad parameter: ", "1.*"],
-            ),
-            (
-                &["ranges"],
-                "patched < 2.0.0\npatched > 1.0.0\n",
-                2,
-                &["<2.0.0", ">1.0.0"],
-            ),
-            (
-                &["affected"],
-                "\nverson 1.0.0\n",
-                2,
-                &["rustsec_audit: line 2: ", "version V"],
-            ),
-        ],
-    )?;
-    fs::remove_file(&rt, path)?;
+    fs::write(&rt, REFUSED, &text)?;
+    expect_notes(&rt, REFUSALS)?;
+    fs::remove_file(&rt, REFUSED)?;
     Ok(())
 }
 
@@ -111,18 +115,18 @@ const PAGE: &[&str] = &[
     "Status 3",
 ];
 
+/// Words that name no command.
+const NO_COMMANDS: &[NoteRow<'static>] = &[
+    (&[], "", 2, PAGE),
+    (&["help"], "", 2, PAGE),
+    (&["--help"], "", 2, PAGE),
+    (&["fix"], "", 2, PAGE),
+    (&["audit", "x"], "", 2, PAGE),
+];
+
 #[test]
 fn usage_page(rt: HostRuntime) -> Result<(), Fail> {
-    expect_notes(
-        &rt,
-        &[
-            (&[], "", 2, PAGE),
-            (&["help"], "", 2, PAGE),
-            (&["--help"], "", 2, PAGE),
-            (&["fix"], "", 2, PAGE),
-            (&["audit", "x"], "", 2, PAGE),
-        ],
-    )
+    expect_notes(&rt, NO_COMMANDS)
 }
 
 /// What is said of the vulnerability and of the package that nobody maintains.
@@ -146,24 +150,33 @@ const SHOWN: &[&str] = &[
 /// A lockfile whose refusal names a package, with characters that would write lines of their own.
 const HOSTILE_LOCKFILE: &str = "[[package]]\nname = \"a\\u001b[2J\\nb\"\nversion = \"1\"\n";
 
+/// Audits and a refused lockfile, and what is said of them.
+const HELPED: &[NoteRow<'static>] = &[
+    (
+        &["audit", "what-helps", "what-helps/Cargo.lock"],
+        "",
+        1,
+        HELP,
+    ),
+    (
+        &["audit", "what-helps-shown", "what-helps/Cargo.lock"],
+        "",
+        1,
+        SHOWN,
+    ),
+    (
+        &["report", "what-helps", "what-helps-shown/Cargo.lock"],
+        "",
+        2,
+        &["package 1, `a\\u{1b}[2J\\u{a}b`: "],
+    ),
+];
+
 #[test]
 fn what_helps(rt: HostRuntime) -> Result<(), Fail> {
-    let lock = "what-helps/Cargo.lock";
     make_root(&rt, "what-helps", ADVISORIES, FOUR_PACKAGES)?;
     make_root(&rt, "what-helps-shown", HOSTILE, HOSTILE_LOCKFILE)?;
-    expect_notes(
-        &rt,
-        &[
-            (&["audit", "what-helps", lock], "", 1, HELP),
-            (&["audit", "what-helps-shown", lock], "", 1, SHOWN),
-            (
-                &["report", "what-helps", "what-helps-shown/Cargo.lock"],
-                "",
-                2,
-                &["package 1, `a\\u{1b}[2J\\u{a}b`: "],
-            ),
-        ],
-    )?;
+    expect_notes(&rt, HELPED)?;
     fs::remove_dir_all(&rt, "what-helps")?;
     fs::remove_dir_all(&rt, "what-helps-shown")?;
     Ok(())
