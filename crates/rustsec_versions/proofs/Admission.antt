@@ -1,5 +1,5 @@
 -- How the intervals of a list of requirements follow a loop over it.
-use Rattle.std.proofs.Common.{◌≡◌, ℕ, ◌+◌, ◌<◌, ◌++◌, true, false, List, [], ◌∷◌, Some, None, length, take, get_or, map, refl, sym, ◌∙◌}
+use Rattle.std.proofs.Common.{◌≡◌, ℕ, Bool, ◌+◌, ◌<◌, ◌++◌, true, false, List, [], ◌∷◌, Some, None, length, take, get_or, map, refl, sym, ◌∙◌}
 use Rattle.std.specs.Prelude.{filter_map, is_some}
 use Rattle.std.proofs.lemmas.List.{map-append, take_more}
 use Rattle.std.proofs.lemmas.List.Elements.{filter_map-append}
@@ -9,14 +9,21 @@ use Rattle.semver.specs.declared.VersionReq.{VersionReq}
 use Rattle.rustsec_versions.specs.Interval.{Interval}
 use Rattle.rustsec_versions.specs.Lists.{all_admissible}
 use Rattle.rustsec_versions.specs.Requirement.{interval_of}
+use Rattle.rustsec_versions.specs.Sweep.{mark, marked}
 use Rattle.rustsec_versions.specs.Views.{comparators_of}
 
 -- the interval of one more requirement
-pub interval-more : (rs : List VersionReq) (i : ℕ) (r : VersionReq) (x : Interval) → i < length rs → r ≡ get_or rs i r
+interval-more : (rs : List VersionReq) (i : ℕ) (r : VersionReq) (x : Interval) → i < length rs → r ≡ get_or rs i r
     → interval_of (comparators_of r) ≡ Some x
     → filter_map interval_of (map comparators_of (take (i + 1) rs)) ≡ filter_map interval_of (map comparators_of (take i rs)) ++ x ∷ []
 interval-more rs i r x lt at is =
     rw (take_more rs i r lt, ← at, map-append, filter_map-append, is) refl
+
+-- the same of a marked list
+pub marked-more : (b : Bool) (rs : List VersionReq) (i : ℕ) (r : VersionReq) (x : Interval) → i < length rs → r ≡ get_or rs i r
+    → interval_of (comparators_of r) ≡ Some x
+    → marked b (map comparators_of (take (i + 1) rs)) ≡ marked b (map comparators_of (take i rs)) ++ mark b x ∷ []
+marked-more b rs i r x lt at is = rw (interval-more rs i r x lt at is) (map-append (mark b) (filter_map interval_of (map comparators_of (take i rs))) (x ∷ []))
 
 -- one more requirement is admissible
 pub all_admissible-more : (rs : List VersionReq) (i : ℕ) (r : VersionReq) (x : Interval) → i < length rs → r ≡ get_or rs i r

@@ -3,13 +3,13 @@ use Rattle.std.proofs.Common.{◌≡◌, ◌&&◌, ◌||◌, Bool, true, false, 
 use Rattle.std.specs.Prelude.{filter_map, not}
 use Rattle.std.specs.List.{list_any}
 use Rattle.std.proofs.Math.ListN.{length-map}
-use Rattle.std.proofs.lemmas.List.Sorted.{IsPermutation-sym, length_permutation, list_any-IsPermutation}
+use Rattle.std.proofs.lemmas.List.Sorted.{IsPermutation-sym, IsPermutation-trans, length_permutation, list_any-IsPermutation}
 use Rattle.semver.specs.Parse.{Parts}
 use Rattle.rustsec_versions.specs.Apart.{are_apart}
 use Rattle.rustsec_versions.specs.Gaps.{cut, gaps_from}
 use Rattle.rustsec_versions.specs.Interval.{Interval, overlap}
 use Rattle.rustsec_versions.specs.Precedence.{precedence}
-use Rattle.rustsec_versions.specs.Ranges.{AreRanges, has_bound, lower_cut, lower_cuts, upper_cut, upper_cuts, whole}
+use Rattle.rustsec_versions.specs.Ranges.{AreRanges, Range, has_bound, lower_cut, lower_cuts, upper_cut, upper_cuts, whole}
 use Rattle.rustsec_versions.proofs.Chain.{AllAdmissible, IsChain, StartsRise, chain}
 use Rattle.rustsec_versions.proofs.Clashes.{AllSound, overlap-sym}
 use Rattle.rustsec_versions.proofs.RangeEnds.{all-ends, all-starts, gaps-first_introduction, gaps-last_fix, gaps-none, gaps-whole, list_all-IsPermutation, one-IsPermutation}
@@ -86,5 +86,25 @@ gaps-AreRanges is js p f sorted =
       empty = (
         λ e. one-IsPermutation whole is (IsPermutation-sym is _ (let none = gaps-none js fit.admissible c e in rw none at p)),
         λ e. let one = one-IsPermutation whole js (rw e at p) in rw one gaps-whole,
+      );
+    }
+
+-- the ranges of intervals are those of the same intervals in another order
+pub AreRanges-IsPermutation : (is js : List Interval) (rs : List Range) → IsPermutation is js → AreRanges is rs → AreRanges js rs
+AreRanges-IsPermutation is js rs p r =
+    let back = IsPermutation-sym is js p in
+    record {
+      fixed = IsPermutation-trans _ _ _ (IsPermutation-filter_map (λ i. lower_cut i.start) js is back) r.fixed;
+      fixed_rise = r.fixed_rise;
+      introduced = IsPermutation-trans _ _ _ (IsPermutation-filter_map (λ i. upper_cut i.end) js is back) r.introduced;
+      introduced_rise = r.introduced_rise;
+      in_order = r.in_order;
+      followed = r.followed;
+      first = λ x rest e. r.first x rest e ∙ list_all-IsPermutation (λ i. has_bound i.start) is js p;
+      last = λ x front e. r.last x front e ∙ list_all-IsPermutation (λ i. has_bound i.end) is js p;
+      bound = omega (arith, r.bound, length_permutation is js p);
+      empty = (
+        λ e. one-IsPermutation whole js (let one = (r.empty).0 e in rw one at p),
+        λ e. (r.empty).1 (one-IsPermutation whole is (rw e at back)),
       );
     }

@@ -1,8 +1,6 @@
 -- Intervals that are apart follow one another, by their cuts, in the order of their starts.
 use Rattle.std.proofs.Common.{◌≡◌, ◌||◌, ◌+◌, suc, Bool, true, false, List, [], ◌∷◌, Option, Some, None, map, refl, arith, inl, inr}
 use Rattle.std.specs.Prelude.{not}
-use Rattle.std.specs.Borrow.{Bor}
-use Rattle.std.specs.List.Sorted.{IsSortedByKey}
 use Rattle.std.specs.Ordering.{is_le, is_lt, ordering_then}
 use Rattle.std.specs.declared.cmp.Ordering.{Ordering}
 use Rattle.std.specs.declared.cmp.Ordering.TheVariants.{Less, Equal, Greater}
@@ -135,15 +133,6 @@ abbrev pub StartsRise : List Interval → Type 0
 StartsRise [] = Unit {0}
 StartsRise (i ∷ []) = Unit {0}
 StartsRise (i ∷ j ∷ is) = (is_lt (start_order j.start i.start) ≡ false) × StartsRise (j ∷ is)
-
--- the same of references that a sort has ordered
-pub starts-rise : (xs : List (Bor Interval)) → IsSortedByKey (λ x. x.now.start) start_order xs → StartsRise (map (λ x. x.now) xs)
-starts-rise [] h = tt
-starts-rise (x ∷ []) h = tt
-starts-rise (x ∷ y ∷ xs) h = (
-  h 0 x (omega arith) (omega arith),
-  starts-rise (y ∷ xs) (λ k d low high. let e : suc k + 1 ≡ suc (k + 1) = omega arith in rw e at (h (suc k) d (omega arith) (omega arith))),
-)
 
 abbrev pub AllAdmissible : List Interval → Type 0
 AllAdmissible [] = Unit {0}

@@ -1,15 +1,19 @@
--- No two places clash exactly where no interval overlaps a later one, in either order of versions.
+-- No two places clash exactly where no interval clashes with a later one.
 use Rattle.std.proofs.Common.{◌≡◌, ◌==◌, ◌<◌, ◌+◌, ◌&&◌, ◌||◌, ℕ, Bool, true, false, List, [], ◌∷◌, ◌++◌, Option, Some, None, map, refl, sym, ap, ◌∙◌, arith}
+use Rattle.std.specs.Option.{option_map}
 use Rattle.std.specs.Prelude.{filter_map, is_some, not}
 use Rattle.std.specs.List.{cons_option, enumerate_from, list_any}
 use Rattle.std.specs.declared.cmp.Ordering.{Ordering}
 use Rattle.std.proofs.lemmas.Bool.Decides.{nat_tests}
+use Rattle.std.proofs.lemmas.List.{map-append}
+use Rattle.std.proofs.lemmas.List.Elements.{filter_map-append}
 use Rattle.semver.specs.Parse.{Held, Parts}
 use Rattle.rustsec_versions.specs.Apart.{are_apart}
 use Rattle.rustsec_versions.specs.Interval.{Endpoint, Interval, exclusive, holds, inclusive, is_after, is_before, overlap, reaches, unbounded}
-use Rattle.rustsec_versions.specs.Lists.{Lists, Place, Placed, accepted, affected, all_admissible, clash, in_patched, in_unaffected, intervals, is_same, joined, meet, no_lists, some_clash}
+use Rattle.rustsec_versions.specs.Lists.{Lists, Place, Placed, accepted, accepted_apart, affected, all_admissible, clash, in_patched, in_unaffected, intervals, is_patched, is_same, joined, meet, no_lists, some_clash}
 use Rattle.rustsec_versions.specs.Precedence.{precedence, version_order, with_build}
 use Rattle.rustsec_versions.specs.Requirement.{interval_of}
+use Rattle.rustsec_versions.specs.Sweep.{Marked, are_clear, clashes, mark, marked, marks, spans}
 use Rattle.rustsec_versions.proofs.Sound.{IsSoundInterval, and-first, and-second, interval_of-sound, overlap-plain}
 
 -- ---- tests
@@ -66,7 +70,8 @@ is_same-self (in_patched j) = number-self j
 is_same-self (in_unaffected j) = number-self j
 
 clash-sym : (p q : Placed) → clash p q ≡ clash q p
-clash-sym p q = rw (is_same-sym p.place q.place, meet-sym (interval_of p.requirement) (interval_of q.requirement)) refl
+clash-sym p q =
+    rw (is_same-sym p.place q.place, and-swap (is_patched p.place) (is_patched q.place), meet-sym (interval_of p.requirement) (interval_of q.requirement)) refl
 
 clash-self : (p : Placed) → clash p p ≡ false
 clash-self p = rw (is_same-self p.place) refl
@@ -154,55 +159,126 @@ there : (o : Option Interval) → is_some o ≡ true → (i : Interval) × (o �
 there None h = cc h
 there (Some i) h = (i, refl)
 
-meet-there : (s : Bool) (o u : Option Interval) (i j : Interval) → s ≡ false → o ≡ Some i → u ≡ Some j → (not s && meet o u) ≡ overlap precedence i j
-meet-there s o u i j h k l = rw (h, k, l) refl
+-- the interval at a place
+abbrev at_mark : Placed → Option Marked
+at_mark p = option_map (mark (is_patched p.place)) (interval_of p.requirement)
 
-any-there : (test : Interval → Bool) (o : Option Interval) (i : Interval) (is : List Interval) → o ≡ Some i
-    → list_any test (cons_option o is) ≡ (test i || list_any test is)
-any-there test o i is h = rw h refl
+abbrev at_marks : List Placed → List Marked
+at_marks ps = filter_map at_mark ps
 
-apart-there : (o : Option Interval) (i : Interval) (is : List Interval) → o ≡ Some i
-    → are_apart precedence (cons_option o is) ≡ (not (list_any (overlap precedence i) is) && are_apart precedence is)
-apart-there o i is h = rw h refl
+meet-there : (s b : Bool) (o u : Option Interval) (i j : Interval) → s ≡ false → o ≡ Some i → u ≡ Some j
+    → (not s && (not b && meet o u)) ≡ (not b && overlap precedence i j)
+meet-there s b o u i j h k l = rw (h, k, l) refl
+
+any-there : (test : Marked → Bool) (b : Bool) (o : Option Interval) (i : Interval) (cs : List Marked) → o ≡ Some i
+    → list_any test (cons_option (option_map (mark b) o) cs) ≡ (test (mark b i) || list_any test cs)
+any-there test b o i cs h = rw h refl
+
+clear-there : (b : Bool) (o : Option Interval) (i : Interval) (cs : List Marked) → o ≡ Some i
+    → are_clear (cons_option (option_map (mark b) o) cs) ≡ (not (list_any (clashes (mark b i)) cs) && are_clear cs)
+clear-there b o i cs h = rw h refl
 
 or-same : (a b c d : Bool) → a ≡ c → b ≡ d → (a || b) ≡ (c || d)
 or-same a b c d h k = rw (h, k) refl
 
 any_clash : (p : Placed) (i : Interval) (ps : List Placed) → interval_of p.requirement ≡ Some i → IsOther p ps
-    → all_admissible (at_places ps) ≡ true → list_any (clash p) ps ≡ list_any (overlap precedence i) (filter_map interval_of (at_places ps))
+    → all_admissible (at_places ps) ≡ true → list_any (clash p) ps ≡ list_any (clashes (mark (is_patched p.place) i)) (at_marks ps)
 any_clash p i [] e other all = refl
 any_clash p i (q ∷ ps) e other all =
     let j = there (interval_of q.requirement) (and-first _ _ all) in
-    or-same (clash p q) (list_any (clash p) ps) _ _ (meet-there (is_same p.place q.place) _ _ i j.0 other.0 e j.1)
+    let test = clashes (mark (is_patched p.place) i) in
+    or-same (clash p q) (list_any (clash p) ps) (test (mark (is_patched q.place) j.0)) (list_any test (at_marks ps))
+    (meet-there (is_same p.place q.place) (is_patched p.place && is_patched q.place) _ _ i j.0 other.0 e j.1)
     (any_clash p i ps e other.1 (and-second _ _ all))
-    ∙ sym (any-there (overlap precedence i) (interval_of q.requirement) j.0 (filter_map interval_of (at_places ps)) j.1)
+    ∙ sym (any-there test (is_patched q.place) (interval_of q.requirement) j.0 (at_marks ps) j.1)
 
 not-or : (a b : Bool) → (a || not b) ≡ not (not a && b)
 not-or true b = refl
 not-or false b = refl
 
-clash-apart : (ps : List Placed) → IsDistinct ps → all_admissible (at_places ps) ≡ true
-    → some_clash ps ≡ not (are_apart precedence (filter_map interval_of (at_places ps)))
-clash-apart [] d all = refl
-clash-apart (p ∷ ps) d all =
+clash-clear : (ps : List Placed) → IsDistinct ps → all_admissible (at_places ps) ≡ true → some_clash ps ≡ not (are_clear (at_marks ps))
+clash-clear [] d all = refl
+clash-clear (p ∷ ps) d all =
     let i = there (interval_of p.requirement) (and-first _ _ all) in
-    let rest = filter_map interval_of (at_places ps) in
+    let test = clashes (mark (is_patched p.place) i.0) in
     some_clash-cons p ps
-    ∙ or-same (list_any (clash p) ps) (some_clash ps) _ _ (any_clash p i.0 ps i.1 d.0 (and-second _ _ all)) (clash-apart ps d.1 (and-second _ _ all))
-    ∙ not-or (list_any (overlap precedence i.0) rest) (are_apart precedence rest)
-    ∙ ap not (sym (apart-there (interval_of p.requirement) i.0 rest i.1))
+    ∙ or-same (list_any (clash p) ps) (some_clash ps) (list_any test (at_marks ps)) (not (are_clear (at_marks ps)))
+    (any_clash p i.0 ps i.1 d.0 (and-second _ _ all)) (clash-clear ps d.1 (and-second _ _ all))
+    ∙ not-or (list_any test (at_marks ps)) (are_clear (at_marks ps))
+    ∙ ap not (sym (clear-there (is_patched p.place) (interval_of p.requirement) i.0 (at_marks ps) i.1))
+
+-- ---- the intervals at the places are those of the lists
+
+marked-cons : (b c : Bool) (o : Option Interval) (cs : List Marked) (is : List Interval) → c ≡ b → cs ≡ map (mark b) is
+    → cons_option (option_map (mark c) o) cs ≡ map (mark b) (cons_option o is)
+marked-cons b c None cs is h k = k
+marked-cons b c (Some i) cs is h k = rw (h, k) refl
+
+at_marks-from : (at : ℕ → Place) (b : Bool) → ((n : ℕ) → is_patched (at n) ≡ b) → (n : ℕ) (rs : List (List Held)) → at_marks (from at n rs) ≡ marked b rs
+at_marks-from at b h n [] = refl
+at_marks-from at b h n (r ∷ rs) = marked-cons b (is_patched (at n)) (interval_of r) _ (filter_map interval_of rs) (h n) (at_marks-from at b h (n + 1) rs)
+
+at_marks-joined : (ls : Lists) → at_marks (joined ls) ≡ marks ls
+at_marks-joined ls =
+    filter_map-append at_mark (from in_patched 0 ls.patched) (from in_unaffected 0 ls.unaffected)
+    ∙ rw (at_marks-from in_patched true (λ n. refl) 0 ls.patched, at_marks-from in_unaffected false (λ n. refl) 0 ls.unaffected) refl
+
+spans-marked : (b : Bool) (is : List Interval) → spans (map (mark b) is) ≡ is
+spans-marked b [] = refl
+spans-marked b (i ∷ is) = ap (λ (l : List Interval). i ∷ l) (spans-marked b is)
+
+pub spans-marks : (ls : Lists) → spans (marks ls) ≡ intervals ls
+spans-marks ls =
+    map-append (λ c. c.interval) (marked true ls.patched) (marked false ls.unaffected)
+    ∙ rw (spans-marked true (filter_map interval_of ls.patched), spans-marked false (filter_map interval_of ls.unaffected))
+    (sym (filter_map-append interval_of ls.patched ls.unaffected))
 
 not-not : (b : Bool) → not (not b) ≡ b
 not-not true = refl
 not-not false = refl
 
--- lists of admissible requirements are accepted where their intervals are apart
-pub accepted-precedence : (ls : Lists) → all_admissible (ls.patched ++ ls.unaffected) ≡ true → accepted ls ≡ are_apart precedence (intervals ls)
+-- lists of admissible requirements are accepted where no two of their intervals clash
+pub accepted-clear : (ls : Lists) → all_admissible (ls.patched ++ ls.unaffected) ≡ true → accepted ls ≡ are_clear (marks ls)
 unfolding accepted
-accepted-precedence ls all =
+accepted-clear ls all =
     let same = at_places-joined ls in
-    let clashes = clash-apart (joined ls) (IsDistinct-joined ls) (rw same all) in
-    rw (all, clashes, same) (not-not _)
+    let marked = at_marks-joined ls in
+    let clear = clash-clear (joined ls) (IsDistinct-joined ls) (rw same all) in
+    rw (all, clear, marked) (not-not _)
+
+-- ---- intervals that are apart don't clash
+
+no-clash : (b o : Bool) → o ≡ false → (not b && o) ≡ false
+no-clash true o h = refl
+no-clash false o h = h
+
+or-first : (a b : Bool) → (a || b) ≡ false → a ≡ false
+or-first true b h = cc h
+or-first false b h = refl
+
+or-second : (a b : Bool) → (a || b) ≡ false → b ≡ false
+or-second true b h = cc h
+or-second false b h = h
+
+-- what overlaps none of some intervals clashes with none
+pub none-clash : (c : Marked) (cs : List Marked) → list_any (overlap precedence c.interval) (spans cs) ≡ false → list_any (clashes c) cs ≡ false
+none-clash c [] h = refl
+none-clash c (d ∷ cs) h =
+    rw (no-clash (c.is_patched && d.is_patched) (overlap precedence c.interval d.interval) (or-first _ _ h)) (none-clash c cs (or-second _ _ h))
+
+not-true : (b : Bool) → not b ≡ true → b ≡ false
+not-true true h = cc h
+not-true false h = refl
+
+pub apart-clear : (cs : List Marked) → are_apart precedence (spans cs) ≡ true → are_clear cs ≡ true
+apart-clear [] h = refl
+apart-clear (c ∷ cs) h = rw (none-clash c cs (not-true _ (and-first _ _ h))) (apart-clear cs (and-second _ _ h))
+
+-- lists of which no two intervals overlap are accepted
+pub accepted-apart : (ls : Lists) → accepted_apart ls ≡ true → accepted ls ≡ true
+accepted-apart ls h =
+    let all = and-first _ _ h in
+    accepted-clear ls all ∙ apart-clear (marks ls) (rw (spans-marks ls) (and-second _ _ h))
 
 -- ---- the order of `Version`
 
@@ -227,11 +303,6 @@ any-plain i (j ∷ is) p q = rw (overlap-plain i j p q.0, any-plain i is p q.1) 
 pub are_apart-plain : (is : List Interval) → AllSound is → are_apart version_order is ≡ are_apart precedence is
 are_apart-plain [] p = refl
 are_apart-plain (i ∷ is) p = rw (any-plain i is p.0 p.1, are_apart-plain is p.1) refl
-
--- the same by the order that the code uses
-pub accepted-admissible : (ls : Lists) → all_admissible (ls.patched ++ ls.unaffected) ≡ true → accepted ls ≡ are_apart version_order (intervals ls)
-accepted-admissible ls all =
-    accepted-precedence ls all ∙ sym (are_apart-plain (intervals ls) (intervals-sound (ls.patched ++ ls.unaffected)))
 
 -- lists with a requirement that is not admissible are not accepted
 pub accepted-refused : (ls : Lists) → all_admissible (ls.patched ++ ls.unaffected) ≡ false → accepted ls ≡ false

@@ -42,7 +42,7 @@ abbrev pub BeginsFrom : Endpoint → List Interval → Type 0
 BeginsFrom from [] = Unit {0}
 BeginsFrom from (i ∷ is) = (v : Parts) → is_after from v ≡ false → is_after i.start v ≡ false
 
-ordered : (s e : Endpoint) → reaches precedence s e ≡ true → IsOrdered (record { start = s; end = e })
+pub ordered : (s e : Endpoint) → reaches precedence s e ≡ true → IsOrdered (record { start = s; end = e })
 ordered unbounded e near v h = cc h
 ordered (exclusive s) unbounded near v h = refl
 ordered (inclusive s) unbounded near v h = refl

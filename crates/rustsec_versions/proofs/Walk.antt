@@ -4,13 +4,10 @@ use Rattle.std.proofs.lemmas.List.{drop_all, drop_more}
 use Rattle.std.specs.Borrow.{Bor}
 use Rattle.rustsec_versions.specs.Between.{gap_to, gaps_after, gaps_between, turned}
 use Rattle.rustsec_versions.specs.Interval.{Endpoint, Interval, exclusive, inclusive, unbounded}
+use Rattle.rustsec_versions.specs.Sweep.{Marked, spans}
 use Rattle.rustsec_versions.specs.Views.{endpoint_of}
 use Rattle.rustsec_versions.specs.declared.interval.Bound.{Bound}
 use Rattle.rustsec_versions.specs.declared.interval.Bound.TheVariants as bound
-
--- the intervals behind references
-abbrev pub behind : List (Bor Interval) → List Interval
-behind xs = map (λ x. x.now) xs
 
 to-split : (from s : Endpoint) (rest : List Interval) → gap_to from s rest ≡ gap_to from s [] ++ rest
 to-split from unbounded rest = refl
@@ -18,14 +15,14 @@ to-split from (exclusive s) rest = refl
 to-split from (inclusive s) rest = refl
 
 -- one more interval
-pub walk-more : (done : List Interval) (from : Endpoint) (xs : List (Bor Interval)) (i : ℕ) (x : Bor Interval) → i < length xs → x ≡ get_or xs i x
-    → done ++ gaps_between from (behind (drop i xs))
-    ≡ (done ++ gap_to from x.now.start []) ++ gaps_after x.now.end (gaps_between (turned x.now.end) (behind (drop (i + 1) xs)))
+pub walk-more : (done : List Interval) (from : Endpoint) (xs : List Marked) (i : ℕ) (x : Marked) → i < length xs → x ≡ get_or xs i x
+    → done ++ gaps_between from (spans (drop i xs))
+    ≡ (done ++ gap_to from x.interval.start []) ++ gaps_after x.interval.end (gaps_between (turned x.interval.end) (spans (drop (i + 1) xs)))
 unfolding gaps_between
 walk-more done from xs i x l at =
-    let rest = gaps_after x.now.end (gaps_between (turned x.now.end) (behind (drop (i + 1) xs))) in
+    let rest = gaps_after x.interval.end (gaps_between (turned x.interval.end) (spans (drop (i + 1) xs))) in
     rw (drop_more xs i x l, ← at)
-    (ap (λ (gs : List Interval). done ++ gs) (to-split from x.now.start rest) ∙ sym (append_assoc done (gap_to from x.now.start []) rest))
+    (ap (λ (gs : List Interval). done ++ gs) (to-split from x.interval.start rest) ∙ sym (append_assoc done (gap_to from x.interval.start []) rest))
 
 after-some : (e next : Endpoint) (rest : List Interval) → turned e ≡ next → (next ≡ unbounded → ⊥) → gaps_after e rest ≡ rest
 after-some unbounded next rest h b = absurd (b (sym h))
@@ -44,20 +41,20 @@ bound-there (bound.Exclusive v) h e = cc e
 bound-there (bound.Inclusive v) h e = cc e
 
 -- an interval that is over somewhere
-pub walk-on : (done : List Interval) (from next : Endpoint) (xs : List (Bor Interval)) (i : ℕ) (x : Bor Interval) → i < length xs → x ≡ get_or xs i x
-    → turned x.now.end ≡ next → (next ≡ unbounded → ⊥)
-    → done ++ gaps_between from (behind (drop i xs))
-    ≡ (done ++ gap_to from x.now.start []) ++ gaps_between next (behind (drop (i + 1) xs))
-walk-on done from next xs i x l at e b = walk-more done from xs i x l at ∙ rw (after-some x.now.end next _ e b, e) refl
+pub walk-on : (done : List Interval) (from next : Endpoint) (xs : List Marked) (i : ℕ) (x : Marked) → i < length xs → x ≡ get_or xs i x
+    → turned x.interval.end ≡ next → (next ≡ unbounded → ⊥)
+    → done ++ gaps_between from (spans (drop i xs))
+    ≡ (done ++ gap_to from x.interval.start []) ++ gaps_between next (spans (drop (i + 1) xs))
+walk-on done from next xs i x l at e b = walk-more done from xs i x l at ∙ rw (after-some x.interval.end next _ e b, e) refl
 
 -- an interval without end
-pub walk-over : (done : List Interval) (from : Endpoint) (xs : List (Bor Interval)) (i : ℕ) (x : Bor Interval) → i < length xs → x ≡ get_or xs i x
-    → turned x.now.end ≡ unbounded → done ++ gaps_between from (behind (drop i xs)) ≡ done ++ gap_to from x.now.start []
+pub walk-over : (done : List Interval) (from : Endpoint) (xs : List Marked) (i : ℕ) (x : Marked) → i < length xs → x ≡ get_or xs i x
+    → turned x.interval.end ≡ unbounded → done ++ gaps_between from (spans (drop i xs)) ≡ done ++ gap_to from x.interval.start []
 walk-over done from xs i x l at e =
-    walk-more done from xs i x l at ∙ rw (after-none x.now.end _ e) (append-nil (done ++ gap_to from x.now.start []))
+    walk-more done from xs i x l at ∙ rw (after-none x.interval.end _ e) (append-nil (done ++ gap_to from x.interval.start []))
 
 -- the gap behind the last interval
-pub walk-end : (done : List Interval) (from : Endpoint) (xs : List (Bor Interval)) (i : ℕ) → length xs ≤ i
-    → done ++ gaps_between from (behind (drop i xs)) ≡ done ++ record { start = from; end = unbounded } ∷ []
+pub walk-end : (done : List Interval) (from : Endpoint) (xs : List Marked) (i : ℕ) → length xs ≤ i
+    → done ++ gaps_between from (spans (drop i xs)) ≡ done ++ record { start = from; end = unbounded } ∷ []
 unfolding gaps_between
 walk-end done from xs i l = rw (drop_all i xs l) refl

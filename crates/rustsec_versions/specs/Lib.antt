@@ -7,6 +7,7 @@ pub mod Gaps
 pub mod Interval
 pub mod IntervalText
 pub mod Lists
+pub mod Merged
 pub mod Precedence
 pub mod Ranges
 pub mod Refusals
@@ -14,4 +15,5 @@ pub mod Requirement
 pub mod RequirementText
 pub mod StoredRanges
 pub mod Successor
+pub mod Sweep
 pub mod Views

@@ -1,8 +1,9 @@
 -- The lists of requirements of an advisory: which lists are accepted, and which versions they leave affected.
 -- It carries meaning: public contracts cite it.
-use Rattle.std.specs.Prelude.{◌&&◌, ◌==◌, ℕ, not, Bool, false, List, [], ◌++◌, Option, Some, None, filter_map, is_some, map}
+use Rattle.std.specs.Prelude.{◌&&◌, ◌==◌, ℕ, not, Bool, true, false, List, [], ◌++◌, Option, Some, None, filter_map, is_some, map}
 use Rattle.std.specs.List.{enumerate_from, list_all, list_any}
 use Rattle.semver.specs.Parse.{Held, Parts}
+use Rattle.rustsec_versions.specs.Apart.{are_apart}
 use Rattle.rustsec_versions.specs.Precedence.{precedence}
 use Rattle.rustsec_versions.specs.Interval.{Interval, holds, overlap}
 use Rattle.rustsec_versions.specs.Requirement.{interval_of}
@@ -30,6 +31,11 @@ is_same (in_patched j) (in_unaffected k) = false
 is_same (in_unaffected j) (in_patched k) = false
 is_same (in_unaffected j) (in_unaffected k) = j == k
 
+-- whether a place is in the patched list
+abbrev pub is_patched : Place → Bool
+is_patched (in_patched j) = true
+is_patched (in_unaffected j) = false
+
 -- a requirement at its place
 pub record Placed : Type 0 where
   pub place : Place
@@ -48,9 +54,14 @@ meet None j = false
 meet (Some i) None = false
 meet (Some i) (Some j) = overlap precedence i j
 
--- two different places clash where their intervals overlap
+-- two different places clash where their intervals overlap and not both are patched
 abbrev pub clash : Placed → Placed → Bool
-clash p q = not (is_same p.place q.place) && meet (interval_of p.requirement) (interval_of q.requirement)
+clash p q =
+    not (is_same p.place q.place) && (not (is_patched p.place && is_patched q.place) && meet (interval_of p.requirement) (interval_of q.requirement))
+
+-- the intervals of the requirements, in order
+abbrev pub intervals : Lists → List Interval
+intervals ls = filter_map interval_of (ls.patched ++ ls.unaffected)
 
 -- ---- acceptance
 
@@ -66,11 +77,11 @@ some_clash ps = list_any (λ p. list_any (clash p) ps) ps
 unfoldable pub accepted : Lists → Bool
 accepted ls = all_admissible (ls.patched ++ ls.unaffected) && not (some_clash (joined ls))
 
--- ---- verdicts
+-- lists of which no two intervals overlap, in one list or in both
+abbrev pub accepted_apart : Lists → Bool
+accepted_apart ls = all_admissible (ls.patched ++ ls.unaffected) && are_apart precedence (intervals ls)
 
--- the intervals of the requirements, in order
-abbrev pub intervals : Lists → List Interval
-intervals ls = filter_map interval_of (ls.patched ++ ls.unaffected)
+-- ---- verdicts
 
 -- a version is affected where no requirement's interval holds it
 unfoldable pub affected : Lists → Parts → Bool

@@ -119,6 +119,10 @@ pub record AreRanges (is : List Interval) (rs : List Range) : Type 0 where
 
 -- ---- the order of requirements
 
+-- two pairs of lists with the same patched and the same unaffected requirements, each as often
+abbrev pub SameInEachList : Lists → Lists → Type 0
+SameInEachList ls ms = IsPermutation ls.patched ms.patched × IsPermutation ls.unaffected ms.unaffected
+
 -- two pairs of lists with the same requirements, each as often, wherever they stand
 abbrev pub SameRequirements : Lists → Lists → Type 0
 SameRequirements ls ms = IsPermutation (ls.patched ++ ls.unaffected) (ms.patched ++ ms.unaffected)

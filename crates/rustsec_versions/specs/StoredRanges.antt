@@ -3,15 +3,24 @@
 use Rattle.std.specs.Prelude.{◌≡◌, ◌<◌, ◌≤◌, ◌^◌, ℕ, true, List}
 use Rattle.std.specs.List.{list_any}
 use Rattle.semver.specs.Parse.{Parts}
+use Rattle.rustsec_versions.specs.Interval.{Interval}
+use Rattle.rustsec_versions.specs.Merged.{AreMerged}
 use Rattle.rustsec_versions.specs.Lists.{Lists, accepted, affected, intervals}
 use Rattle.rustsec_versions.specs.Precedence.{IsVersion}
 use Rattle.rustsec_versions.specs.Ranges.{AreRanges, Range, affects, in_ranges}
+
+-- the ranges between the merged intervals of lists. In accepted lists only patched requirements overlap others, so the
+-- interval of an unaffected one is its own merged interval
+pub record AreMergedRanges (ls : Lists) (rs : List Range) : Type 0 where
+  pub merged : List Interval
+  pub are_merged : AreMerged (intervals ls) merged
+  pub ranges : AreRanges merged rs
 
 -- the ranges of accepted lists, which have the valid versions that the lists leave affected, in precedence and in
 -- the order of `Version`
 pub record AreRangesOf (ls : Lists) (rs : List Range) : Type 0 where
   pub accepts : accepted ls ≡ true
-  pub ranges : AreRanges (intervals ls) rs
+  pub ranges : AreMergedRanges ls rs
   pub agree : (v : Parts) → IsVersion v → in_ranges rs v ≡ affected ls v
   pub agree_affects : (v : Parts) → IsVersion v → list_any (λ r. affects r v) rs ≡ affected ls v
 

@@ -1,14 +1,16 @@
 //! The gaps between intervals of versions that are not affected: the affected versions.
 
-ghost use Rattle.std.specs.Prelude.{◌≡◌, ◌++◌, [], IfErr, IfOk, OnOk, map};
+ghost use Rattle.std.specs.Prelude.{◌≡◌, ◌++◌, [], IfErr, IfOk, OnOk};
 ghost use Rattle.rustsec_versions.specs.Between.{gap_to, gaps_between, turned};
 ghost use Rattle.rustsec_versions.specs.Failure.{IsMemory};
 ghost use Rattle.rustsec_versions.specs.Gaps.{HasValidBounds, cut};
 ghost use Rattle.rustsec_versions.specs.Interval.{unbounded};
+ghost use Rattle.rustsec_versions.specs.Sweep.{spans};
 ghost use Rattle.rustsec_versions.specs.Views.{endpoint_of};
 
 use crate::error::Result;
-use crate::interval::{Bound, UnaffectedRange};
+use crate::interval::Bound;
+use crate::merge::Merged;
 use crate::ranges::{OsvRange, lower_cut, upper_cut};
 use rustsec_values::ExactClone;
 use std::alloc::{AllocError, Global};
@@ -80,15 +82,12 @@ fn add_gap(from: Bound, start: &Bound, gaps: &mut Vec<Gap>) -> std::result::Resu
 }
 
 /// The gaps between intervals that stand in the order of their starts.
-pub(crate) fn gaps(
-    alloc: Global,
-    sorted: &[&UnaffectedRange],
-) -> std::result::Result<Vec<Gap>, AllocError>
-    ensures { IfOk result (λ v. v.items ≡ gaps_between unbounded (map (λ x. x.now) sorted.now)) }
+pub(crate) fn gaps(alloc: Global, intervals: &[Merged]) -> std::result::Result<Vec<Gap>, AllocError>
+    ensures { IfOk result (λ v. v.items ≡ gaps_between unbounded (spans intervals.now)) }
 {
     let mut gaps = Vec::new(alloc);
     let mut from = Bound::Unbounded;
-    for interval in sorted {
+    for interval in intervals {
         add_gap(from, interval.start(), &mut gaps)?;
         match turned(interval.end())? {
             Bound::Unbounded => return Ok(gaps),

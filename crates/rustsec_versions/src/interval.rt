@@ -8,6 +8,7 @@ ghost use Rattle.rustsec_versions.specs.Equality.{endpoint_eq, endpoint_equiv, i
 ghost use Rattle.rustsec_versions.specs.Failure.{IsMemory, IsOfKind, IsRefusal};
 ghost use Rattle.rustsec_versions.specs.Interval.{holds, is_after, is_before, overlap, reaches};
 ghost use Rattle.rustsec_versions.specs.IntervalText.{end_text, interval_text, start_text};
+ghost use Rattle.rustsec_versions.specs.Merged.{ends_by};
 ghost use Rattle.rustsec_versions.specs.Precedence.{version_order};
 ghost use Rattle.rustsec_versions.specs.Requirement.{has_successor, interval_of, is_end, is_start};
 ghost use Rattle.rustsec_versions.specs.Views.{bound_version_of, comparators_of, endpoint_of, interval_between};
@@ -90,7 +91,7 @@ impl Eq for Bound {
 }
 
 /// Whether a start is at or below an end, in the order of `Version`.
-fn reaches(start: &Bound, end: &Bound) -> bool
+pub(crate) fn reaches(start: &Bound, end: &Bound) -> bool
     ensures { result ≡ reaches version_order (endpoint_of start.now) (endpoint_of end.now) }
 {
     match (start, end) {
@@ -121,6 +122,21 @@ fn is_before(end: &Bound, version: &Version) -> bool
         Bound::Unbounded => true,
         Bound::Exclusive(end) => version.cmp_precedence(end).is_lt(),
         Bound::Inclusive(end) => version.cmp_precedence(end).is_le(),
+    }
+}
+
+/// Whether an end is the other one or before it, by precedence.
+pub(crate) fn ends_by(first: &Bound, second: &Bound) -> bool
+    ensures { result ≡ ends_by (endpoint_of first.now) (endpoint_of second.now) }
+{
+    match (first, second) {
+        (_, Bound::Unbounded) => true,
+        (Bound::Unbounded, _) => false,
+        (Bound::Inclusive(d), Bound::Exclusive(e)) => d.cmp_precedence(e).is_lt(),
+        (Bound::Inclusive(d), Bound::Inclusive(e)) => d.cmp_precedence(e).is_le(),
+        (Bound::Exclusive(d), Bound::Inclusive(e) | Bound::Exclusive(e)) => {
+            d.cmp_precedence(e).is_le()
+        }
     }
 }
 

@@ -6,14 +6,15 @@ mod error;
 mod from_text;
 mod gap;
 mod interval;
+mod merge;
 mod next_version;
 mod overlaps;
+mod placed;
 mod print;
 mod ranges;
 mod refusal;
 mod requirements;
 mod search;
-mod starts;
 mod steps;
 mod versions;
 

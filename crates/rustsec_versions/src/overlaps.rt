@@ -1,70 +1,45 @@
-// The refusal of requirements of which two overlap.
+// The refusal of requirements of which two clash.
 
 ghost use Rattle.std.specs.Prelude.{IfErr};
 ghost use Rattle.rustsec_versions.specs.Failure.{IsMemory, IsOfKind};
 
 use crate::error::{Error, ErrorKind, Result};
-use crate::interval::UnaffectedRange;
+use crate::interval::ends_by;
+use crate::placed::Placed;
 use crate::print::quoted;
-use crate::requirements::Requirements;
 use semver::VersionReq;
 use std::alloc::Global;
 
-/// The first two neighbours that overlap.
-fn overlapping<'a>(
-    sorted: &[&'a UnaffectedRange],
-) -> Option<(&'a UnaffectedRange, &'a UnaffectedRange)> {
-    for (i, first) in sorted.iter().enumerate() {
-        if let Some(second) = sorted.get(i + 1) {
-            if first.overlaps(second) {
-                return Some((first, second));
+/// The one of two intervals that ends later, if there are two.
+fn later<'a, 'b>(first: Option<&'b Placed<'a>>, second: &'b Placed<'a>) -> &'b Placed<'a> {
+    match first {
+        Some(first) if ends_by(second.interval.end(), first.interval.end()) => first,
+        _ => second,
+    }
+}
+
+/// Two requirements that clash, by their intervals in the order of their starts: the first that one before
+/// it reaches, which is the one that ends last.
+fn clashing<'a>(sorted: &[&Placed<'a>]) -> Option<(&'a VersionReq, &'a VersionReq)> {
+    let mut last = None;
+    let mut last_unaffected = None;
+    for next in sorted {
+        let before: Option<&Placed> = if next.is_patched {
+            last_unaffected
+        } else {
+            last
+        };
+        if let Some(before) = before {
+            if before.interval.overlaps(&next.interval) {
+                return Some((before.requirement, next.requirement));
             }
         }
-    }
-    None
-}
-
-/// The first place of an interval in a list, but for one place.
-fn place_of(
-    intervals: &[UnaffectedRange],
-    wanted: &UnaffectedRange,
-    but: Option<usize>,
-) -> Option<usize> {
-    for (i, interval) in intervals.iter().enumerate() {
-        if but != Some(i) && interval == wanted {
-            return Some(i);
+        last = Some(later(last, next));
+        if !next.is_patched {
+            last_unaffected = Some(later(last_unaffected, next));
         }
     }
     None
-}
-
-/// The requirement at a place of the joined list.
-fn requirement_at<'a>(
-    patched: &'a [VersionReq],
-    unaffected: &'a [VersionReq],
-    place: usize,
-) -> Option<&'a VersionReq> {
-    if place < patched.len() {
-        patched.get(place)
-    } else {
-        unaffected.get(place - patched.len())
-    }
-}
-
-/// Two requirements that overlap, by the intervals of the joined list and these in the order of their
-/// starts.
-fn overlapping_requirements<'a>(
-    patched: &'a [VersionReq],
-    unaffected: &'a [VersionReq],
-    intervals: &[UnaffectedRange],
-    sorted: &[&UnaffectedRange],
-) -> Option<(&'a VersionReq, &'a VersionReq)> {
-    let (first, second) = overlapping(sorted)?;
-    let i = place_of(intervals, first, None)?;
-    let j = place_of(intervals, second, Some(i))?;
-    let first = requirement_at(patched, unaffected, i)?;
-    let second = requirement_at(patched, unaffected, j)?;
-    Some((first, second))
 }
 
 /// What the refusal of two requirements says.
@@ -87,17 +62,11 @@ fn refused(alloc: Global, first: &VersionReq, second: &VersionReq) -> Error
     }
 }
 
-/// The refusal of requirements of which two overlap: its message names the two.
-pub(crate) fn overlap_refused(
-    alloc: Global,
-    patched: &Requirements,
-    unaffected: &Requirements,
-    intervals: &[UnaffectedRange],
-    sorted: &[&UnaffectedRange],
-) -> Error
+/// The refusal of requirements of which two clash: its message names the two.
+pub(crate) fn overlap_refused(alloc: Global, sorted: &[&Placed]) -> Error
     ensures { IsOfKind ErrorKind.BadParam result }
 {
-    match overlapping_requirements(patched.as_slice(), unaffected.as_slice(), intervals, sorted) {
+    match clashing(sorted) {
         Some((first, second)) => refused(alloc, first, second),
         None => Error::bad_param(alloc, "two requirements overlap"),
     }

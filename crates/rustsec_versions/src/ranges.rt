@@ -1,14 +1,18 @@
 //! The ranges of affected versions that an advisory's requirements leave.
 
-ghost use Rattle.std.specs.Prelude.{◌≡◌, ◌++◌, ◌↔◌, [], ◌∷◌, IfErr, IfOk, List, Some, map, option_map};
+ghost use Rattle.std.specs.Prelude.{◌≡◌, ◌++◌, ◌↔◌, [], ◌∷◌, Contains, IfErr, IfOk, List, Some, filter_map, map, option_map, true};
 ghost use Rattle.std.specs.List.{All, list_any};
 ghost use Rattle.semver.specs.Identifiers.{parts_of};
 ghost use Rattle.semver.specs.Parse.{Held, Parts};
 ghost use Rattle.rustsec_versions.specs.Failure.{IsMemory};
 ghost use Rattle.rustsec_versions.specs.Gaps.{HasValidBounds, IsValidBound, cut};
-ghost use Rattle.rustsec_versions.specs.Lists.{Lists, affected, intervals};
+ghost use Rattle.rustsec_versions.specs.Interval.{Interval};
+ghost use Rattle.rustsec_versions.specs.Lists.{Lists, accepted_apart, affected, intervals};
+ghost use Rattle.rustsec_versions.specs.Merged.{AreMerged};
 ghost use Rattle.rustsec_versions.specs.Precedence.{IsVersion};
-ghost use Rattle.rustsec_versions.specs.Ranges.{AreRanges, HasCuts, Range, SameRequirements, affects, affects_from, affects_till, in_ranges, lower_cut, upper_cut};
+ghost use Rattle.rustsec_versions.specs.Ranges.{AreRanges, HasCuts, Range, SameRequirements, affects, affects_from, affects_till, in_ranges, lower_cut, upper_cut, whole};
+ghost use Rattle.rustsec_versions.specs.Requirement.{interval_of};
+ghost use Rattle.rustsec_versions.specs.StoredRanges.{AreMergedRanges};
 ghost use Rattle.rustsec_versions.specs.Successor.{IsLeastAbove, successor};
 ghost use Rattle.rustsec_versions.specs.Views.{endpoint_of, range_of};
 
@@ -143,23 +147,31 @@ pub(crate) fn ranges_of(alloc: Global, gaps: &[Gap]) -> Result<Vec<OsvRange>>
     Ok(all)
 }
 
-/// The ranges of affected versions, in rising order: the gaps between the intervals of the
+/// The ranges of affected versions, in rising order: the gaps between the merged intervals of the
 /// requirements, empty ones too. A version is affected exactly where one of the ranges has it.
 ///
 /// # Errors
 ///
 /// `OutOfMemory` alone.
 pub fn ranges_for_advisory(alloc: Global, versions: &Versions) -> Result<Vec<OsvRange>>
-    ensures ranges { IfOk result (λ v. AreRanges (intervals versions.now) v.items) }
+    ensures ranges { IfOk result (λ v. AreMergedRanges versions.now v.items) }
 
     // A cut of an exclusive start or an inclusive end is the version least above it.
     ensures cuts { (v s : Parts) → successor v ≡ Some s → IsLeastAbove v s }
 
-    // Each interval with a start has a lower cut, and each with an end an upper one.
-    ensures has_cuts { All HasCuts (intervals versions.now) }
+    // Each merged interval with a start has a lower cut, and each with an end an upper one.
+    ensures has_cuts { (ms : List Interval) → AreMerged (intervals versions.now) ms → All HasCuts ms }
 
-    // No list is given exactly for one requirement without comparators.
-    ensures empty { IfOk result (λ v. (v.items ≡ []) ↔ (versions.now.patched ++ versions.now.unaffected ≡ [] ∷ [])) }
+    // The interval of an unaffected requirement is merged with no other one.
+    ensures alone { (ms : List Interval) → AreMerged (intervals versions.now) ms
+        → (i : Interval) → Contains (filter_map interval_of versions.now.unaffected) i → Contains ms i }
+
+    // No list is given exactly where a merged interval has no bounds.
+    ensures empty { IfOk result (λ v. (ms : List Interval) → AreMerged (intervals versions.now) ms
+        → ((v.items ≡ []) ↔ Contains ms whole)) }
+
+    // Intervals of which no two overlap have the gaps between them as their ranges.
+    ensures apart { IfOk result (λ v. accepted_apart versions.now ≡ true → AreRanges (intervals versions.now) v.items) }
 
     // A valid version is affected exactly where a range has it, in precedence and in the order of `Version`.
     ensures agree { IfOk result (λ v. (w : Parts) → IsVersion w → in_ranges v.items w ≡ affected versions.now w) }
@@ -167,7 +179,7 @@ pub fn ranges_for_advisory(alloc: Global, versions: &Versions) -> Result<Vec<Osv
 
     // Neither the order of the requirements nor the list that one stands in changes the ranges.
     ensures order { IfOk result (λ v. (ls : Lists) (rs : List Range) → SameRequirements versions.now ls
-        → AreRanges (intervals ls) rs → rs ≡ v.items) }
+        → AreMergedRanges ls rs → rs ≡ v.items) }
     ensures err { IfErr result IsMemory }
 {
     let ranges = versions.ranges(alloc)?;

@@ -1,35 +1,34 @@
 //! The lists of requirements of an advisory, and which versions they leave affected.
 
-ghost use Rattle.std.specs.Prelude.{◌≡◌, ◌+◌, ◌-◌, ◌^◌, ◌≤◌, ◌++◌, ℕ, IfErr, IfOk, List, OnOk, false, filter_map, length, map, true};
+ghost use Rattle.std.specs.Prelude.{◌≡◌, ◌+◌, ◌-◌, ◌^◌, ◌≤◌, ℕ, IfErr, IfOk, List, OnOk, false, length, map, true};
 ghost use Rattle.std.specs.Cmp.{partial_equiv_from_equiv};
 ghost use Rattle.semver.specs.Identifiers.{parts_of};
-ghost use Rattle.rustsec_versions.specs.Apart.{meets_next, neighbours_apart};
 ghost use Rattle.rustsec_versions.specs.Between.{AreGapsOf};
 ghost use Rattle.rustsec_versions.specs.Equality.{lists_eq, lists_equiv};
 ghost use Rattle.rustsec_versions.specs.EqualityLaws.{lists_decides};
 ghost use Rattle.rustsec_versions.specs.Failure.{IsMemory, IsRefusal};
-ghost use Rattle.rustsec_versions.specs.Lists.{Lists, accepted, affected, all_admissible, intervals, no_lists};
+ghost use Rattle.rustsec_versions.specs.Lists.{Lists, accepted, accepted_apart, affected, no_lists};
 ghost use Rattle.rustsec_versions.specs.Precedence.{version_order, with_build};
-ghost use Rattle.rustsec_versions.specs.Ranges.{AreRanges, Range, SameRequirements};
-ghost use Rattle.rustsec_versions.specs.Requirement.{interval_of};
-ghost use Rattle.rustsec_versions.specs.StoredRanges.{AreRangesOf, HasBinaryDigits};
+ghost use Rattle.rustsec_versions.specs.Ranges.{Range, SameInEachList};
+ghost use Rattle.rustsec_versions.specs.StoredRanges.{AreMergedRanges, AreRangesOf, HasBinaryDigits};
 ghost use Rattle.rustsec_versions.specs.Views.{comparators_of, lists_of};
 
 use crate::error::{Error, ErrorKind, Result};
 use crate::gap::{Gap, gaps};
-use crate::interval::UnaffectedRange;
+use crate::merge::merged_intervals;
 use crate::overlaps::overlap_refused;
+use crate::placed::{by_start, placed_intervals};
 use crate::ranges::{OsvRange, ranges_of};
 use crate::requirements::Requirements;
 use crate::search::in_gaps;
-use crate::starts::by_start;
 use crate::steps::Steps;
 use rustsec_values::{ExactClone, ExactEq};
 use semver::{Version, VersionReq};
 use std::alloc::{AllocError, Global};
 use std::marker::Model;
 
-/// The requirements whose versions are not affected: admissible ones, of which no two clash.
+/// The requirements whose versions are not affected: admissible ones, of which no two clash. Patched ones may
+/// overlap one another.
 #[derive(Debug, Drop)]
 pub struct Versions {
     patched: Requirements,
@@ -49,83 +48,21 @@ impl Model for Versions {
     ghost invariant = { λ v. AreGapsOf (record { patched = v.patched; unaffected = v.unaffected }) v.gaps.items };
 }
 
-/// Appends the interval of each requirement.
-fn add_intervals(
-    alloc: Global,
-    reqs: &[VersionReq],
-    intervals: &mut Vec<UnaffectedRange>,
-) -> Result<()>
-    ensures ok { OnOk result (intervals.new.items
-        ≡ intervals.old.items ++ filter_map interval_of (map comparators_of reqs.now)) }
-    ensures admissible { OnOk result (all_admissible (map comparators_of reqs.now) ≡ true) }
-    ensures err { IfErr result (IsRefusal ErrorKind.BadParam (all_admissible (map comparators_of reqs.now) ≡ false)) }
-{
-    for req in reqs {
-        let interval = UnaffectedRange::from_req(alloc, req)?;
-        intervals.push(interval).map_err(|_| AllocError)?;
-    }
-    Ok(())
-}
-
-/// The interval of each requirement of the joined list.
-fn intervals_of(
-    alloc: Global,
-    patched: &Requirements,
-    unaffected: &Requirements,
-) -> Result<Vec<UnaffectedRange>>
-    ensures ok { IfOk result (λ v. v.items ≡ filter_map interval_of (patched.now ++ unaffected.now)) }
-    ensures admissible { OnOk result (all_admissible (patched.now ++ unaffected.now) ≡ true) }
-    ensures err { IfErr result (IsRefusal ErrorKind.BadParam (all_admissible (patched.now ++ unaffected.now) ≡ false)) }
-{
-    let mut intervals = Vec::new(alloc);
-    add_intervals(alloc, patched.as_slice(), &mut intervals)?;
-    add_intervals(alloc, unaffected.as_slice(), &mut intervals)?;
-    Ok(intervals)
-}
-
-/// Whether an interval overlaps the first of the others.
-fn meets_next(interval: &UnaffectedRange, others: &[&UnaffectedRange]) -> bool
-    ensures { result ≡ meets_next version_order interval.now (map (λ x. x.now) others.now) }
-{
-    match others.first() {
-        Some(next) => interval.overlaps(next),
-        None => false,
-    }
-}
-
-/// Whether no interval overlaps the next one.
-fn neighbours_apart(intervals: &[&UnaffectedRange]) -> bool
-    ensures { result ≡ neighbours_apart version_order (map (λ x. x.now) intervals.now) }
-{
-    for (i, interval) in intervals.iter().enumerate() {
-        if meets_next(interval, &intervals[i + 1..]) {
-            return false;
-        }
-    }
-    true
-}
-
-/// The gaps between the intervals of the requirements. Behind the order of starts it is enough to look
-/// at neighbours for overlaps.
-fn gaps_between(
-    alloc: Global,
-    patched: &Requirements,
-    unaffected: &Requirements,
-    intervals: &[UnaffectedRange],
-) -> Result<Vec<Gap>>
-    requires admissible { all_admissible (patched.now ++ unaffected.now) ≡ true }
-    requires intervals { intervals.now ≡ filter_map interval_of (patched.now ++ unaffected.now) }
+/// The gaps between the merged intervals of the requirements.
+fn gaps_of(alloc: Global, patched: &Requirements, unaffected: &Requirements) -> Result<Vec<Gap>>
     ensures ok { IfOk result (λ v. AreGapsOf (record { patched = patched.now; unaffected = unaffected.now }) v.items) }
     ensures err { IfErr result (IsRefusal ErrorKind.BadParam
         (accepted (record { patched = patched.now; unaffected = unaffected.now }) ≡ false)) }
 {
-    let sorted = by_start(alloc, intervals)?;
-    let in_order: &[&UnaffectedRange] = &sorted;
-    if !neighbours_apart(in_order) {
-        return Err(overlap_refused(alloc, patched, unaffected, intervals, in_order));
+    let placed = placed_intervals(alloc, patched, unaffected)?;
+    let sorted = by_start(alloc, &placed)?;
+    match merged_intervals(alloc, &sorted)? {
+        Some(intervals) => {
+            let gaps = gaps(alloc, &intervals)?;
+            Ok(gaps)
+        }
+        None => Err(overlap_refused(alloc, &sorted)),
     }
-    let gaps = gaps(alloc, in_order)?;
-    Ok(gaps)
 }
 
 impl Versions {
@@ -143,15 +80,18 @@ impl Versions {
         ensures ok { IfOk result (λ v. v ≡ lists_of patched.items unaffected.items) }
         ensures accepted { OnOk result (accepted (lists_of patched.items unaffected.items) ≡ true) }
 
-        // Neither the order of the requirements nor the list that one stands in changes acceptance.
-        ensures order { (ls : Lists) → SameRequirements (lists_of patched.items unaffected.items) ls
+        // The order of the requirements of each list doesn't change acceptance.
+        ensures order { (ls : Lists) → SameInEachList (lists_of patched.items unaffected.items) ls
             → accepted ls ≡ accepted (lists_of patched.items unaffected.items) }
+
+        // Lists of which no two intervals overlap are accepted.
+        ensures apart { accepted_apart (lists_of patched.items unaffected.items) ≡ true
+            → accepted (lists_of patched.items unaffected.items) ≡ true }
         ensures err { IfErr result (IsRefusal ErrorKind.BadParam (accepted (lists_of patched.items unaffected.items) ≡ false)) }
     {
         let patched = Requirements::from(patched);
         let unaffected = Requirements::from(unaffected);
-        let intervals = intervals_of(alloc, &patched, &unaffected)?;
-        let gaps = gaps_between(alloc, &patched, &unaffected, &intervals)?;
+        let gaps = gaps_of(alloc, &patched, &unaffected)?;
         Ok(Versions {
             patched,
             unaffected,
@@ -204,7 +144,7 @@ impl Versions {
         ensures answer { result ≡ affected self.now (parts_of version.now) }
         ensures build { (b : List ℕ) → affected self.now (with_build b (parts_of version.now)) ≡ result }
         ensures accepted { accepted self.now ≡ true }
-        ensures count { (rs : List Range) (digits : ℕ) → AreRanges (intervals self.now) rs → HasBinaryDigits (length rs) digits
+        ensures count { (rs : List Range) (digits : ℕ) → AreMergedRanges self.now rs → HasBinaryDigits (length rs) digits
             → steps.new ≤ steps.old + digits + 1 }
         ensures rises { steps.old ≤ steps.new }
         ensures stays { steps.old ≡ 2 ^ 64 - 1 → steps.new ≡ 2 ^ 64 - 1 }
@@ -215,6 +155,7 @@ impl Versions {
     /// The ranges that the requirements leave.
     pub(crate) fn ranges(&self, alloc: Global) -> Result<Vec<OsvRange>>
         ensures ok { IfOk result (λ v. AreRangesOf self.now v.items) }
+        ensures accepted { accepted self.now ≡ true }
         ensures err { IfErr result IsMemory }
     {
         ranges_of(alloc, &self.gaps)

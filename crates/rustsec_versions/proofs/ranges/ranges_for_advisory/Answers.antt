@@ -1,4 +1,4 @@
-use Rattle.rustsec_versions.proofs.Agreement.{all-cuts, kept-empty, kept-order}
+use Rattle.rustsec_versions.proofs.Agreement.{all-cuts, kept-alone, kept-apart, kept-empty, kept-order}
 use Rattle.rustsec_versions.proofs.LeastAbove.{successor-least}
 use Rattle.rustsec_versions.proofs.ranges.ranges_for_advisory.Goals as goal
 
@@ -7,6 +7,9 @@ returns-clause-ranges c = c.in_ok-ranges.ensures.ok.ranges
 
 pub returns-clause-empty : goal.returns-clause-empty
 returns-clause-empty c = kept-empty c.args.versions.now c.in_ok-ranges.ranges.items c.in_ok-ranges.ensures.ok
+
+pub returns-clause-apart : goal.returns-clause-apart
+returns-clause-apart c = kept-apart c.args.versions.now c.in_ok-ranges.ranges.items c.in_ok-ranges.ensures.ok
 
 pub returns-clause-agree : goal.returns-clause-agree
 returns-clause-agree c = c.in_ok-ranges.ensures.ok.agree
@@ -28,3 +31,9 @@ returns-clause-has_cuts c = all-cuts c.args.versions.now
 
 pub returns-in_err-ranges-clause-has_cuts : goal.returns-in_err-ranges-clause-has_cuts
 returns-in_err-ranges-clause-has_cuts c = all-cuts c.args.versions.now
+
+pub returns-clause-alone : goal.returns-clause-alone
+returns-clause-alone c = kept-alone c.args.versions.now c.in_ok-ranges.ensures.ok.accepts
+
+pub returns-in_err-ranges-clause-alone : goal.returns-in_err-ranges-clause-alone
+returns-in_err-ranges-clause-alone c = kept-alone c.args.versions.now c.ranges-2.ensures.accepted

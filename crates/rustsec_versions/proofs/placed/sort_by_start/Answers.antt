@@ -8,7 +8,7 @@ use Rattle.std.specs.declared.cmp.Ordering.{Ordering}
 use Rattle.std.proofs.lemmas.Fn.{always_returns_same}
 use Rattle.std.proofs.lemmas.List.Sorted.{ranks_by}
 use Rattle.rustsec_versions.specs.Gaps.{start_order_total}
-use Rattle.rustsec_versions.proofs.starts.sort_by_start.Goals as goal
+use Rattle.rustsec_versions.proofs.placed.sort_by_start.Goals as goal
 use Rattle.std.proofs.lemmas.Result.{on_ok_weaker}
 use denote.Param.Members.{Mut}
 
@@ -22,4 +22,4 @@ by_key {R = R} o key {g = g} {f = f} xs up h = up (λ x y. is_lt (R (key x) (key
 
 pub returns-clause-sorted : goal.returns-clause-sorted
 returns-clause-sorted c =
-    on_ok_weaker c.sort_by.result (λ up. by_key start_order_total (λ x. x.now.start) c.sort_by.new.self.items up (λ a r q k. search rules)) c.sort_by.ensures.sorted
+    on_ok_weaker c.sort_by.result (λ up. by_key start_order_total (λ x. x.now.interval.start) c.sort_by.new.self.items up (λ a r q k. search rules)) c.sort_by.ensures.sorted

@@ -1,0 +1,176 @@
+-- The merged intervals of a list are fit to have ranges, and hold what stands alone.
+use Rattle.std.proofs.Common.{◌≡◌, ◌⊎◌, ◌<◌, ℕ, zero, suc, Bool, true, List, [], ◌∷◌, length, get_or, refl, sym, ap, subst, ◌∙◌, arith, inl, inr}
+use Rattle.std.specs.Prelude.{Contains, not}
+use Rattle.std.specs.List.{list_any}
+use Rattle.std.proofs.lemmas.List.Folds.{list_any_at}
+use Rattle.rustsec_versions.specs.Apart.{are_apart}
+use Rattle.rustsec_versions.specs.Interval.{Endpoint, Interval, exclusive, inclusive, overlap, reaches, unbounded}
+use Rattle.rustsec_versions.specs.Merged.{AreMerged, IsJoined, IsMergedOf, ends_by, itself, onward}
+use Rattle.rustsec_versions.specs.Precedence.{precedence}
+use Rattle.rustsec_versions.specs.Ranges.{whole}
+use Rattle.rustsec_versions.specs.Requirement.{is_admissible, is_end, is_start}
+use Rattle.rustsec_versions.proofs.AreRanges.{AreFit}
+use Rattle.rustsec_versions.proofs.Chain.{AllAdmissible}
+use Rattle.rustsec_versions.proofs.Clashes.{AllSound}
+use Rattle.rustsec_versions.proofs.PrecedenceLaws.{at_most-below, at_most-trans, below-at_most, below-weak}
+use Rattle.rustsec_versions.proofs.Sound.{IsSoundEnd, IsSoundInterval, admissible-end, admissible-reaches, admissible-start, and-first}
+
+-- ---- bounds
+
+-- what a start reaches, it reaches where the end is later
+ends-reach : (s d e : Endpoint) → ends_by d e ≡ true → reaches precedence s d ≡ true → reaches precedence s e ≡ true
+ends-reach unbounded d e h near = refl
+ends-reach (exclusive s) d unbounded h near = refl
+ends-reach (inclusive s) d unbounded h near = refl
+ends-reach (exclusive s) unbounded (exclusive e) h near = cc h
+ends-reach (exclusive s) unbounded (inclusive e) h near = cc h
+ends-reach (inclusive s) unbounded (exclusive e) h near = cc h
+ends-reach (inclusive s) unbounded (inclusive e) h near = cc h
+ends-reach (exclusive s) (exclusive d) (exclusive e) h near = below-at_most s d e near h
+ends-reach (exclusive s) (exclusive d) (inclusive e) h near = below-at_most s d e near h
+ends-reach (exclusive s) (inclusive d) (exclusive e) h near = below-at_most s d e near (below-weak d e h)
+ends-reach (exclusive s) (inclusive d) (inclusive e) h near = below-at_most s d e near h
+ends-reach (inclusive s) (exclusive d) (exclusive e) h near = below-at_most s d e near h
+ends-reach (inclusive s) (exclusive d) (inclusive e) h near = below-weak s e (below-at_most s d e near h)
+ends-reach (inclusive s) (inclusive d) (exclusive e) h near = at_most-below s d e near h
+ends-reach (inclusive s) (inclusive d) (inclusive e) h near = at_most-trans s d e near h
+
+reaches-unbounded : (s : Endpoint) → reaches precedence s unbounded ≡ true
+reaches-unbounded unbounded = refl
+reaches-unbounded (exclusive s) = refl
+reaches-unbounded (inclusive s) = refl
+
+-- ---- elements of lists
+
+module _ {X : Type 0} where
+  -- no element stands in the empty list
+  pub contains-nil : (x : X) → Contains [] x → ⊥
+  contains-nil x c = let low = c.1 in absurd (omega (arith, low))
+
+  -- the first element stands in a list
+  pub contains-here : (x : X) (xs : List X) → Contains (x ∷ xs) x
+  contains-here x xs = (0, omega arith, refl)
+
+  -- what stands in the rest of a list stands in it
+  pub contains-there : (x y : X) (ys : List X) → Contains ys x → Contains (y ∷ ys) x
+  contains-there x y ys c = let low = c.1 in (suc c.0, omega (arith, low), c.2)
+
+  contains-at : (x y : X) (ys : List X) (k : ℕ) → k < length (y ∷ ys) → get_or (y ∷ ys) k x ≡ x → (y ≡ x) ⊎ Contains ys x
+  contains-at x y ys zero low e = inl e
+  contains-at x y ys (suc k) low e = inr (k, omega (arith, low), e)
+
+  -- an element is the first or stands in the rest
+  pub contains-cases : (x y : X) (ys : List X) → Contains (y ∷ ys) x → (y ≡ x) ⊎ Contains ys x
+  contains-cases x y ys c = contains-at x y ys c.0 c.1 c.2
+
+  -- a test that an element passes, some element passes
+  pub any-contained : (test : X → Bool) (xs : List X) (x : X) → Contains xs x → test x ≡ true → list_any test xs ≡ true
+  any-contained test xs x c h = list_any_at test xs c.0 x c.1 (subst (λ (y : X). test y ≡ true) (sym c.2) h)
+
+-- ---- intervals of a list
+
+-- an interval of sound ones is sound
+pub sound-each : (is : List Interval) (i : Interval) → AllSound is → Contains is i → IsSoundInterval i
+sound-each [] i a c = absurd (contains-nil i c)
+sound-each (j ∷ is) i a c = elim (contains-cases i j is c) [
+  | inl e ↦ subst IsSoundInterval e a.0
+  | inr later ↦ sound-each is i a.1 later
+]
+
+sound-all : (is : List Interval) → ((i : Interval) → Contains is i → IsSoundInterval i) → AllSound is
+sound-all [] f = tt
+sound-all (i ∷ is) f = (f i (contains-here i is), sound-all is (λ j c. f j (contains-there j i is c)))
+
+admissible-each : (is : List Interval) (i : Interval) → AllAdmissible is → Contains is i → is_admissible i ≡ true
+admissible-each [] i a c = absurd (contains-nil i c)
+admissible-each (j ∷ is) i a c = elim (contains-cases i j is c) [
+  | inl e ↦ subst (λ (k : Interval). is_admissible k ≡ true) e a.0
+  | inr later ↦ admissible-each is i a.1 later
+]
+
+admissible-all : (is : List Interval) → ((i : Interval) → Contains is i → is_admissible i ≡ true) → AllAdmissible is
+admissible-all [] f = tt
+admissible-all (i ∷ is) f = (f i (contains-here i is), admissible-all is (λ j c. f j (contains-there j i is c)))
+
+-- intervals with the same bounds are equal
+pub interval-same : (i j : Interval) → i.start ≡ j.start → i.end ≡ j.end → i ≡ j
+interval-same i j h k = λ n. record { start = h n; end = k n }
+
+-- ---- merged intervals
+
+-- a merged interval of sound ones is sound
+pub merged-sound : (is : List Interval) (i m : Interval) → AllSound is → IsMergedOf is i m → IsSoundInterval m
+merged-sound is i m a w =
+    let s = w.start in
+    let e = w.end in
+    record {
+      start = subst IsSoundEnd s.1.1.1 ((sound-each is s.0 a s.1.0).start);
+      end = subst IsSoundEnd e.1.1.1 ((sound-each is e.0 a e.1.0).end);
+    }
+
+-- the start of a merged interval reaches its end
+merged-reaches : (is : List Interval) (i m : Interval) → AllAdmissible is → IsMergedOf is i m → reaches precedence m.start m.end ≡ true
+merged-reaches is i m a w =
+    let s = w.start in
+    let near = ends-reach s.0.start s.0.end m.end (w.greatest s.0 s.1.0 s.1.1.0) (admissible-reaches s.0 (admissible-each is s.0 a s.1.0)) in
+    subst (λ (t : Endpoint). reaches precedence t m.end ≡ true) s.1.1.1 near
+
+merged-admissible : (is : List Interval) (i m : Interval) → AllAdmissible is → IsMergedOf is i m → is_admissible m ≡ true
+merged-admissible is i m a w =
+    let s = w.start in
+    let e = w.end in
+    let near = merged-reaches is i m a w in
+    let first : is_start m.start ≡ true = subst (λ (t : Endpoint). is_start t ≡ true) s.1.1.1 (admissible-start s.0 (admissible-each is s.0 a s.1.0)) in
+    let last : is_end m.end ≡ true = subst (λ (t : Endpoint). is_end t ≡ true) e.1.1.1 (admissible-end e.0 (admissible-each is e.0 a e.1.0)) in
+    rw (near, first, last) refl
+
+-- the merged intervals of sound and admissible ones are sound, admissible and apart
+pub merged-fit : (is ms : List Interval) → AllSound is → AllAdmissible is → AreMerged is ms → AreFit ms
+merged-fit is ms a b w =
+    record {
+      sound = sound-all ms (λ m c. let o = w.only m c in merged-sound is o.0 m a o.1.1);
+      admissible = admissible-all ms (λ m c. let o = w.only m c in merged-admissible is o.0 m b o.1.1);
+      apart = w.apart;
+    }
+
+-- ---- intervals that stand alone
+
+joined-alone : {is : List Interval} {i k : Interval} (a : Interval) → ((j : Interval) → Contains is j → overlap precedence a j ≡ true → j ≡ a)
+    → IsJoined is i k → i ≡ a → k ≡ a
+joined-alone a h (itself i) e = e
+joined-alone a h (onward i j c o rest) e = joined-alone a h rest (h j c (subst (λ (x : Interval). overlap precedence x j ≡ true) e o))
+
+-- an interval that overlaps no other one is a merged interval
+pub merged-alone : (is ms : List Interval) (i : Interval) → AllSound is → AllAdmissible is → Contains is i
+    → ((j : Interval) → Contains is j → overlap precedence i j ≡ true → j ≡ i) → AreMerged is ms → Contains ms i
+merged-alone is ms i a b c h w =
+    let m = w.each i c in
+    let s = m.1.1.start in
+    let e = m.1.1.end in
+    let first = ap (λ (x : Interval). x.start) (sym (joined-alone i h s.1.1.0 refl)) ∙ s.1.1.1 in
+    let last = ap (λ (x : Interval). x.end) (sym (joined-alone i h e.1.1.0 refl)) ∙ e.1.1.1 in
+    subst (Contains ms) (sym (interval-same i m.0 first last)) m.1.0
+
+-- the interval without bounds overlaps each one
+whole-overlaps : (i : Interval) → overlap precedence whole i ≡ true
+whole-overlaps i = rw (reaches-unbounded i.start) refl
+
+overlaps-whole : (i : Interval) → overlap precedence i whole ≡ true
+overlaps-whole i = rw (reaches-unbounded i.start) refl
+
+-- where the interval without bounds is among intervals that are apart, it is the only one
+pub merged-whole : (ms : List Interval) → are_apart precedence ms ≡ true → AllAdmissible ms → Contains ms whole → ms ≡ whole ∷ []
+merged-whole [] h a c = absurd (contains-nil whole c)
+merged-whole (m ∷ []) h a c = elim (contains-cases whole m [] c) [
+  | inl e ↦ ap (λ (x : Interval). x ∷ []) e
+  | inr later ↦ absurd (contains-nil whole later)
+]
+merged-whole (m ∷ n ∷ ms) h a c =
+    let far : not (list_any (overlap precedence m) (n ∷ ms)) ≡ true = and-first _ _ h in
+    elim (contains-cases whole m (n ∷ ms) c) [
+      | inl e ↦
+          let meets = subst (λ (x : Interval). overlap precedence x n ≡ true) (sym e) (whole-overlaps n) in
+          let hit = any-contained (overlap precedence m) (n ∷ ms) n (contains-here n ms) meets in
+          cc (rw hit at far)
+      | inr later ↦ let hit = any-contained (overlap precedence m) (n ∷ ms) whole later (overlaps-whole m) in cc (rw hit at far)
+    ]

@@ -1,0 +1,62 @@
+-- The sweep that merges intervals: over intervals in the order of their starts, each one is taken into the one before it
+-- where the two overlap and both stand in the patched list.
+-- It only helps proofs: what public contracts say of merged intervals stands in Merged.
+use Rattle.std.specs.Prelude.{Bool, true, false, not, ◌&&◌, List, [], ◌∷◌, ◌++◌, Option, Some, None, cond, filter_map, map, option_map}
+use Rattle.std.specs.List.{list_any}
+use Rattle.semver.specs.Parse.{Held}
+use Rattle.rustsec_versions.specs.Interval.{Endpoint, Interval, overlap}
+use Rattle.rustsec_versions.specs.Lists.{Lists}
+use Rattle.rustsec_versions.specs.Merged.{ends_by}
+use Rattle.rustsec_versions.specs.Precedence.{precedence, version_order}
+use Rattle.rustsec_versions.specs.Requirement.{interval_of}
+
+-- an interval of a requirement, and whether this stands in the patched list
+pub record Marked : Type 0 where
+  pub interval : Interval
+  pub is_patched : Bool
+
+abbrev pub mark : Bool → Interval → Marked
+mark is_patched i = record { interval = i; is_patched = is_patched }
+
+-- the intervals of a list of requirements
+abbrev pub marked : Bool → List (List Held) → List Marked
+marked is_patched rs = map (mark is_patched) (filter_map interval_of rs)
+
+-- those of both lists
+abbrev pub marks : Lists → List Marked
+marks ls = marked true ls.patched ++ marked false ls.unaffected
+
+abbrev pub spans : List Marked → List Interval
+spans cs = map (λ c. c.interval) cs
+
+-- the later one of two ends
+abbrev pub later_end : Endpoint → Endpoint → Endpoint
+later_end d e = cond (ends_by d e) e d
+
+-- an interval that goes on to the end of another one, if that is later
+abbrev pub stretched : Interval → Interval → Interval
+stretched i j = record { start = i.start; end = later_end i.end j.end }
+
+abbrev pub stretched_mark : Marked → Marked → Marked
+stretched_mark c x = record { interval = stretched c.interval x.interval; is_patched = c.is_patched }
+
+-- whether two requirements at different places clash
+abbrev pub clashes : Marked → Marked → Bool
+clashes c x = not (c.is_patched && x.is_patched) && overlap precedence c.interval x.interval
+
+-- no two clash
+abbrev pub are_clear : List Marked → Bool
+are_clear [] = true
+are_clear (c ∷ cs) = not (list_any (clashes c) cs) && are_clear cs
+
+-- the merged intervals from one on, if no two clash
+unfoldable pub swept : Marked → List Marked → Option (List Marked)
+swept c [] = Some (c ∷ [])
+swept c (x ∷ xs) =
+    cond (overlap version_order c.interval x.interval) (cond (c.is_patched && x.is_patched) (swept (stretched_mark c x) xs) None)
+    (option_map (λ ms. c ∷ ms) (swept x xs))
+
+-- those of a whole list
+abbrev pub all_swept : List Marked → Option (List Marked)
+all_swept [] = Some []
+all_swept (c ∷ xs) = swept c xs

@@ -1,0 +1,129 @@
+//! Intervals of patched requirements that overlap are merged.
+
+ghost use Rattle.std.specs.Prelude.{◌≡◌, ◌&&◌, IfOk, map, option_map};
+ghost use Rattle.rustsec_versions.specs.Interval.{overlap};
+ghost use Rattle.rustsec_versions.specs.Precedence.{version_order};
+ghost use Rattle.rustsec_versions.specs.Sweep.{all_swept, later_end, stretched_mark, swept};
+ghost use Rattle.rustsec_versions.specs.Views.{endpoint_of};
+
+use crate::interval::{Bound, ends_by, reaches};
+use crate::placed::Placed;
+use std::alloc::{AllocError, Global};
+use std::marker::Model;
+
+/// Overlapping intervals of patched requirements as one interval, or the interval of one requirement.
+#[derive(Drop)]
+pub(crate) struct Merged<'a> {
+    start: &'a Bound,
+    end: &'a Bound,
+    is_patched: bool,
+}
+
+impl<'a> Model for Merged<'a> {
+    ghost use Rattle.rustsec_versions.specs.Sweep.{Marked};
+    ghost use Rattle.rustsec_versions.specs.Views.{interval_between};
+
+    ghost Value = { Marked };
+
+    ghost view = { λ m. record { interval = interval_between m.start.now m.end.now; is_patched = m.is_patched } };
+}
+
+/// The later one of two ends.
+fn later_end<'a>(first: &'a Bound, second: &'a Bound) -> &'a Bound
+    ensures { endpoint_of result.now ≡ later_end (endpoint_of first.now) (endpoint_of second.now) }
+{
+    if ends_by(first, second) {
+        second
+    } else {
+        first
+    }
+}
+
+impl<'a> Merged<'a> {
+    /// The interval of one requirement.
+    fn of(placed: &'a Placed) -> Merged<'a>
+        ensures { result ≡ placed.now }
+    {
+        Merged {
+            start: placed.interval.start(),
+            end: placed.interval.end(),
+            is_patched: placed.is_patched,
+        }
+    }
+
+    /// The start.
+    pub(crate) fn start(&self) -> &'a Bound
+        ensures { endpoint_of result.now ≡ self.now.interval.start }
+    {
+        self.start
+    }
+
+    /// The end.
+    pub(crate) fn end(&self) -> &'a Bound
+        ensures { endpoint_of result.now ≡ self.now.interval.end }
+    {
+        self.end
+    }
+
+    /// Whether each one's start is at or below the other's end.
+    fn overlaps(&self, next: &Placed) -> bool
+        ensures { result ≡ overlap version_order self.now.interval next.now.interval }
+    {
+        reaches(self.start, next.interval.end()) && reaches(next.interval.start(), self.end)
+    }
+
+    /// Whether both stand in the patched list.
+    fn is_patched_with(&self, next: &Placed) -> bool
+        ensures { result ≡ (self.now.is_patched && next.now.is_patched) }
+    {
+        self.is_patched && next.is_patched
+    }
+
+    /// The interval that goes on to the end of the next one, if that is later.
+    fn stretched(&self, next: &'a Placed) -> Merged<'a>
+        ensures { result ≡ stretched_mark self.now next.now }
+    {
+        Merged {
+            start: self.start,
+            end: later_end(self.end, next.interval.end()),
+            is_patched: self.is_patched,
+        }
+    }
+}
+
+/// The merged intervals from one on, if no two clash.
+fn sweep<'a>(
+    alloc: Global,
+    first: &'a Placed,
+    others: &[&'a Placed],
+) -> std::result::Result<Option<Vec<Merged<'a>>>, AllocError>
+    ensures { IfOk result (λ o. option_map (λ v. v.items) o ≡ swept first.now (map (λ x. x.now) others.now)) }
+{
+    let mut done = Vec::new(alloc);
+    let mut current = Merged::of(first);
+    for next in others {
+        if !current.overlaps(next) {
+            done.push(current).map_err(|_| AllocError)?;
+            current = Merged::of(next);
+        } else if current.is_patched_with(next) {
+            current = current.stretched(next);
+        } else {
+            return Ok(None);
+        }
+    }
+    done.push(current).map_err(|_| AllocError)?;
+    Ok(Some(done))
+}
+
+/// The merged intervals of some that stand in the order of their starts, if no two clash.
+pub(crate) fn merged_intervals<'a>(
+    alloc: Global,
+    sorted: &[&'a Placed],
+) -> std::result::Result<Option<Vec<Merged<'a>>>, AllocError>
+    ensures { IfOk result (λ o. option_map (λ v. v.items) o ≡ all_swept (map (λ x. x.now) sorted.now)) }
+{
+    match sorted.split_first() {
+        Some((first, others)) => sweep(alloc, first, others),
+        None => Ok(Some(Vec::new(alloc))),
+    }
+}

@@ -1,0 +1,118 @@
+//! The intervals of the requirements of both lists, in the order of their starts.
+
+ghost use Rattle.std.specs.Prelude.{◌≡◌, ◌++◌, IfErr, IfOk, IsPermutation, OnOk, false, map, true};
+ghost use Rattle.std.specs.List.Sorted.{IsSortedByKey};
+ghost use Rattle.rustsec_versions.specs.Failure.{IsRefusal};
+ghost use Rattle.rustsec_versions.specs.Gaps.{start_order};
+ghost use Rattle.rustsec_versions.specs.Lists.{all_admissible};
+ghost use Rattle.rustsec_versions.specs.Sweep.{marked, marks};
+ghost use Rattle.rustsec_versions.specs.Views.{comparators_of, endpoint_of};
+
+use crate::error::{ErrorKind, Result};
+use crate::interval::{Bound, UnaffectedRange};
+use crate::requirements::Requirements;
+use semver::VersionReq;
+use std::alloc::{AllocError, Global};
+use std::cmp::Ordering;
+use std::marker::Model;
+
+/// The interval of a requirement, and whether this stands in the patched list.
+#[derive(Drop)]
+pub(crate) struct Placed<'a> {
+    pub(crate) interval: UnaffectedRange,
+    pub(crate) requirement: &'a VersionReq,
+    pub(crate) is_patched: bool,
+}
+
+impl<'a> Model for Placed<'a> {
+    ghost use Rattle.rustsec_versions.specs.Sweep.{Marked};
+
+    ghost Value = { Marked };
+
+    ghost view = { λ p. record { interval = p.interval; is_patched = p.is_patched } };
+}
+
+/// Appends the interval of each requirement of one list.
+fn add_placed<'a>(
+    alloc: Global,
+    reqs: &'a [VersionReq],
+    is_patched: bool,
+    placed: &mut Vec<Placed<'a>>,
+) -> Result<()>
+    ensures ok { OnOk result (placed.new.items ≡ placed.old.items ++ marked is_patched (map comparators_of reqs.now)) }
+    ensures admissible { OnOk result (all_admissible (map comparators_of reqs.now) ≡ true) }
+    ensures err { IfErr result (IsRefusal ErrorKind.BadParam (all_admissible (map comparators_of reqs.now) ≡ false)) }
+{
+    for requirement in reqs {
+        let interval = UnaffectedRange::from_req(alloc, requirement)?;
+        let one = Placed {
+            interval,
+            requirement,
+            is_patched,
+        };
+        placed.push(one).map_err(|_| AllocError)?;
+    }
+    Ok(())
+}
+
+/// The intervals of the requirements of both lists.
+pub(crate) fn placed_intervals<'a>(
+    alloc: Global,
+    patched: &'a Requirements,
+    unaffected: &'a Requirements,
+) -> Result<Vec<Placed<'a>>>
+    ensures ok { IfOk result (λ v. v.items ≡ marks (record { patched = patched.now; unaffected = unaffected.now })) }
+    ensures admissible { OnOk result (all_admissible (patched.now ++ unaffected.now) ≡ true) }
+    ensures err { IfErr result (IsRefusal ErrorKind.BadParam (all_admissible (patched.now ++ unaffected.now) ≡ false)) }
+{
+    let mut placed = Vec::new(alloc);
+    add_placed(alloc, patched.as_slice(), true, &mut placed)?;
+    add_placed(alloc, unaffected.as_slice(), false, &mut placed)?;
+    Ok(placed)
+}
+
+/// The order of starts.
+fn compare_starts(a: &Bound, b: &Bound) -> Ordering
+    ensures { result ≡ start_order (endpoint_of a.now) (endpoint_of b.now) }
+{
+    match (a, b) {
+        (Bound::Unbounded, Bound::Unbounded) => Ordering::Equal,
+        (Bound::Unbounded, _) => Ordering::Less,
+        (_, Bound::Unbounded) => Ordering::Greater,
+        (Bound::Inclusive(a), Bound::Inclusive(b)) => a.cmp(b),
+        (Bound::Exclusive(a), Bound::Exclusive(b)) => a.cmp(b),
+        (Bound::Inclusive(a), Bound::Exclusive(b)) => a.cmp(b).then(Ordering::Less),
+        (Bound::Exclusive(a), Bound::Inclusive(b)) => a.cmp(b).then(Ordering::Greater),
+    }
+}
+
+/// References to intervals.
+fn references<'a, 'b>(
+    alloc: Global,
+    placed: &'b [Placed<'a>],
+) -> std::result::Result<Vec<&'b Placed<'a>>, AllocError>
+    ensures { IfOk result (λ v. map (λ x. x.now) v.items ≡ placed.now) }
+{
+    placed.iter().collect(alloc)
+}
+
+/// Sorts references to intervals by their starts.
+fn sort_by_start<'a, 'b>(placed: &mut Vec<&'b Placed<'a>>) -> std::result::Result<(), AllocError>
+    ensures same { IsPermutation placed.old.items placed.new.items }
+    ensures sorted { OnOk result (IsSortedByKey (λ x. x.now.interval.start) start_order placed.new.items) }
+{
+    placed.sort_by(|a, b| compare_starts(a.interval.start(), b.interval.start()))
+}
+
+/// References to intervals, in the order of their starts.
+pub(crate) fn by_start<'a, 'b>(
+    alloc: Global,
+    placed: &'b [Placed<'a>],
+) -> std::result::Result<Vec<&'b Placed<'a>>, AllocError>
+    ensures same { IfOk result (λ v. IsPermutation placed.now (map (λ x. x.now) v.items)) }
+    ensures sorted { IfOk result (λ v. IsSortedByKey (λ x. x.now.interval.start) start_order v.items) }
+{
+    let mut sorted = references(alloc, placed)?;
+    sort_by_start(&mut sorted)?;
+    Ok(sorted)
+}
