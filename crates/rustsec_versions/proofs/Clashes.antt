@@ -295,15 +295,6 @@ pub intervals-sound : (rs : List (List Held)) → AllSound (filter_map interval_
 intervals-sound [] = tt
 intervals-sound (r ∷ rs) = found_sound (interval_of r) (filter_map interval_of rs) (interval_of-sound r) (intervals-sound rs)
 
-any-plain : (i : Interval) (is : List Interval) → IsSoundInterval i → AllSound is
-    → list_any (overlap version_order i) is ≡ list_any (overlap precedence i) is
-any-plain i [] p q = refl
-any-plain i (j ∷ is) p q = rw (overlap-plain i j p q.0, any-plain i is p q.1) refl
-
-pub are_apart-plain : (is : List Interval) → AllSound is → are_apart version_order is ≡ are_apart precedence is
-are_apart-plain [] p = refl
-are_apart-plain (i ∷ is) p = rw (any-plain i is p.0 p.1, are_apart-plain is p.1) refl
-
 -- lists with a requirement that is not admissible are not accepted
 pub accepted-refused : (ls : Lists) → all_admissible (ls.patched ++ ls.unaffected) ≡ false → accepted ls ≡ false
 unfolding accepted

@@ -7,7 +7,7 @@ use Rattle.rustsec_versions.specs.Interval.{overlap}
 use Rattle.rustsec_versions.specs.Precedence.{precedence}
 use Rattle.rustsec_versions.specs.Sweep.{Marked, are_clear, clashes}
 use Rattle.rustsec_versions.proofs.Clashes.{overlap-sym}
-use Rattle.rustsec_versions.proofs.Contained.{any-contained, contains-cases, contains-none}
+use Rattle.rustsec_versions.proofs.Contained.{any-contained, contains-cases, contains-nil}
 use Rattle.rustsec_versions.proofs.Shuffled.{Shuffled, both, keep, permuted, same, turn}
 use Rattle.rustsec_versions.proofs.Sound.{and-first, and-second}
 
@@ -49,18 +49,18 @@ one-clash p q o h k = rw (h, k) refl
 -- where no two clash, an unaffected interval overlaps itself alone
 pub clear-alone : (cs : List Marked) → are_clear cs ≡ true → (c d : Marked) → Contains cs c → Contains cs d → c.is_patched ≡ false
     → overlap precedence c.interval d.interval ≡ true → d.interval ≡ c.interval
-clear-alone [] clear c d at there own near = absurd (contains-none c at)
+clear-alone [] clear c d at there own near = absurd (contains-nil c at)
 clear-alone (x ∷ xs) clear c d at there own near =
     let none = not-true _ (and-first _ _ clear) in
     let meets = one-clash c.is_patched d.is_patched _ own near in
-    elim (contains-cases x c xs at) [
+    elim (contains-cases c x xs at) [
       | inl first ↦
-          elim (contains-cases x d xs there) [
+          elim (contains-cases d x xs there) [
             | inl second ↦ ap (λ (m : Marked). m.interval) (sym second ∙ first)
             | inr later ↦ cc (sym none ∙ any-contained (clashes x) xs d later (rw first meets))
           ]
       | inr before ↦
-          elim (contains-cases x d xs there) [
+          elim (contains-cases d x xs there) [
             | inl second ↦ cc (sym none ∙ any-contained (clashes x) xs c before (rw second (clashes-sym d c ∙ meets)))
             | inr later ↦ clear-alone xs (and-second _ _ clear) c d before later own near
           ]

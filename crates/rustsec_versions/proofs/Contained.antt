@@ -1,46 +1,46 @@
--- Elements of a list, first one and rest.
-use Rattle.std.proofs.Common.{◌≡◌, ◌||◌, Bool, true, false, zero, suc, List, [], ◌∷◌, length, map, refl, arith, inl, inr, ◌⊎◌}
+-- Elements of a list: the first one and those of the rest.
+use Rattle.std.proofs.Common.{◌≡◌, ◌⊎◌, ◌<◌, ℕ, Bool, true, zero, suc, List, [], ◌∷◌, length, get_or, map, refl, sym, ap, subst, arith, inl, inr}
 use Rattle.std.specs.Prelude.{Contains}
 use Rattle.std.specs.List.{list_any}
+use Rattle.std.proofs.lemmas.List.Folds.{list_any_at}
 
 module _ {X : Type 0} where
+  -- no element stands in the empty list
+  pub contains-nil : (x : X) → Contains [] x → ⊥
+  contains-nil x c = let low = c.1 in absurd (omega (arith, low))
+
+  -- the first element stands in a list
   pub contains-here : (x : X) (xs : List X) → Contains (x ∷ xs) x
   contains-here x xs = (0, omega arith, refl)
 
-  pub contains-there : (x y : X) (xs : List X) → Contains xs y → Contains (x ∷ xs) y
-  contains-there x y xs (k, low, is) = (suc k, omega arith, is)
+  -- what stands in the rest of a list stands in it
+  pub contains-there : (x y : X) (ys : List X) → Contains ys x → Contains (y ∷ ys) x
+  contains-there x y ys c = let low = c.1 in (suc c.0, omega (arith, low), c.2)
 
-  pub contains-cases : (x y : X) (xs : List X) → Contains (x ∷ xs) y → (x ≡ y) ⊎ Contains xs y
-  contains-cases x y xs (zero, low, is) = inl is
-  contains-cases x y xs (suc k, low, is) = inr (k, omega arith, is)
+  contains-at : (x y : X) (ys : List X) (k : ℕ) → k < length (y ∷ ys) → get_or (y ∷ ys) k x ≡ x → (y ≡ x) ⊎ Contains ys x
+  contains-at x y ys zero low e = inl e
+  contains-at x y ys (suc k) low e = inr (k, omega (arith, low), e)
 
-  pub contains-none : (y : X) → Contains [] y → ⊥
-  contains-none y (k, low, is) = absurd (omega arith)
+  -- an element is the first one or stands in the rest
+  pub contains-cases : (x y : X) (ys : List X) → Contains (y ∷ ys) x → (y ≡ x) ⊎ Contains ys x
+  contains-cases x y ys c = contains-at x y ys c.0 c.1 c.2
 
-  -- what holds of an element holds of some
-  pub any-contained : (p : X → Bool) (xs : List X) (y : X) → Contains xs y → p y ≡ true → list_any p xs ≡ true
-  any-contained p [] y c h = absurd (contains-none y c)
-  any-contained p (x ∷ xs) y c h = elim (contains-cases x y xs c) [
-    | inl here ↦ rw (here, h) refl
-    | inr later ↦ or-true (p x) _ (any-contained p xs y later h)
-  ]
-    where
-      or-true : (a b : Bool) → b ≡ true → (a || b) ≡ true
-      or-true true b h = refl
-      or-true false b h = h
+  -- a test that an element passes, some element passes
+  pub any-contained : (test : X → Bool) (xs : List X) (x : X) → Contains xs x → test x ≡ true → list_any test xs ≡ true
+  any-contained test xs x c h = list_any_at test xs c.0 x c.1 (subst (λ (y : X). test y ≡ true) (sym c.2) h)
 
 module _ {X Y : Type 0} (f : X → Y) where
-  -- what a function gives of a list, it gives of an element
+  -- what stands in the list that a function gives is what it gives of an element
   pub contains-from_map : (xs : List X) (y : Y) → Contains (map f xs) y → (x : X) × (Contains xs x × (f x ≡ y))
-  contains-from_map [] y c = absurd (contains-none y c)
-  contains-from_map (x ∷ xs) y c = elim (contains-cases (f x) y (map f xs) c) [
+  contains-from_map [] y c = absurd (contains-nil y c)
+  contains-from_map (x ∷ xs) y c = elim (contains-cases y (f x) (map f xs) c) [
     | inl here ↦ (x, (contains-here x xs, here))
-    | inr later ↦ let (z, (at, is)) = contains-from_map xs y later in (z, (contains-there x z xs at, is))
+    | inr later ↦ let (z, (at, is)) = contains-from_map xs y later in (z, (contains-there z x xs at, is))
   ]
 
   pub contains-map : (xs : List X) (x : X) → Contains xs x → Contains (map f xs) (f x)
-  contains-map [] x c = absurd (contains-none x c)
-  contains-map (z ∷ xs) x c = elim (contains-cases z x xs c) [
-    | inl here ↦ (0, omega arith, rw here refl)
-    | inr later ↦ contains-there (f z) (f x) (map f xs) (contains-map xs x later)
+  contains-map [] x c = absurd (contains-nil x c)
+  contains-map (z ∷ xs) x c = elim (contains-cases x z xs c) [
+    | inl here ↦ (0, omega arith, ap f here)
+    | inr later ↦ contains-there (f x) (f z) (map f xs) (contains-map xs x later)
   ]

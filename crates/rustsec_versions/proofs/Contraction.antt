@@ -13,6 +13,7 @@ use Rattle.rustsec_versions.proofs.Bounds.{begins_by-after, begins_by-reaches, b
 use Rattle.rustsec_versions.proofs.Chain.{AllAdmissible}
 use Rattle.rustsec_versions.proofs.Clashes.{overlap-sym}
 use Rattle.rustsec_versions.proofs.Complement.{ordered}
+use Rattle.rustsec_versions.proofs.Contained.{contains-cases, contains-here, contains-nil, contains-there}
 use Rattle.rustsec_versions.proofs.Sound.{admissible-reaches, and-first, and-second}
 
 -- ---- small steps
@@ -87,28 +88,11 @@ module _ (i j : Interval) (begins : begins_by i.start j.start ≡ true) (meet : 
       ∙ both (is_after i.start v) (is_before i.end v) (is_after j.start v) (is_before j.end v) (begins_by-after i.start j.start begins v)
       (λ past. left-out (is_after j.start v) (is_before i.end v) (ordered j.start i.end (and-second _ _ meet) v) past)
 
--- ---- elements of a list
-
-here : {X : Type 0} (x : X) (xs : List X) → Contains (x ∷ xs) x
-here x xs = (0, omega arith, refl)
-
-there : {X : Type 0} (y : X) (xs : List X) (x : X) → Contains xs x → Contains (y ∷ xs) x
-there y xs x c = (suc c.0, omega (arith, c.1), c.2)
-
-found : {X : Type 0} (y : X) (xs : List X) (x : X) (k : ℕ) → k < length (y ∷ xs) → slice_index_or (y ∷ xs) k x ≡ x → (y ≡ x) ⊎ Contains xs x
-found y xs x zero h e = inl e
-found y xs x (suc k) h e = inr (k, omega arith, e)
-
--- an element is the first one or a later one
-elements : {X : Type 0} (y : X) (xs : List X) (x : X) → Contains (y ∷ xs) x → (y ≡ x) ⊎ Contains xs x
-elements y xs x c = found y xs x c.0 c.1 c.2
-
-none : {X : Type 0} (x : X) → Contains [] x → ⊥
-none x c = omega (arith, c.1)
+-- ---- intervals of a list
 
 all-reach : (is : List Interval) → AllAdmissible is → (k : Interval) → Contains is k → reaches precedence k.start k.end ≡ true
-all-reach [] all k c = absurd (none k c)
-all-reach (i ∷ is) all k c = elim (elements i is k c) [
+all-reach [] all k c = absurd (contains-nil k c)
+all-reach (i ∷ is) all k c = elim (contains-cases k i is c) [
   | inl e ↦ subst (λ (x : Interval). reaches precedence x.start x.end ≡ true) e (admissible-reaches i all.0)
   | inr d ↦ all-reach is all.1 k d
 ]
@@ -135,20 +119,20 @@ data Stands (i j : Interval) (rest : List Interval) : Interval → Interval → 
 
 module _ (i j : Interval) (rest : List Interval) where
   stands-in : (x y : Interval) → Stands i j rest x y → Contains (i ∷ j ∷ rest) x
-  stands-in x y first = here i (j ∷ rest)
-  stands-in x y second = there i (j ∷ rest) j (here j rest)
-  stands-in x y (other k c) = there i (j ∷ rest) k (there j rest k c)
+  stands-in x y first = contains-here i (j ∷ rest)
+  stands-in x y second = contains-there j i (j ∷ rest) (contains-here j rest)
+  stands-in x y (other k c) = contains-there k i (j ∷ rest) (contains-there k j rest c)
 
   stands-for : (x y : Interval) → Stands i j rest x y → Contains (stretched i j ∷ rest) y
-  stands-for x y first = here (stretched i j) rest
-  stands-for x y second = here (stretched i j) rest
-  stands-for x y (other k c) = there (stretched i j) rest k c
+  stands-for x y first = contains-here (stretched i j) rest
+  stands-for x y second = contains-here (stretched i j) rest
+  stands-for x y (other k c) = contains-there k (stretched i j) rest c
 
   -- each interval of the longer list stands for one
   standing : (x : Interval) → Contains (i ∷ j ∷ rest) x → (y : Interval) × Stands i j rest x y
-  standing x c = elim (elements i (j ∷ rest) x c) [
+  standing x c = elim (contains-cases x i (j ∷ rest) c) [
     | inl e ↦ (stretched i j, subst (λ (z : Interval). Stands i j rest z (stretched i j)) e first)
-    | inr d ↦ elim (elements j rest x d) [
+    | inr d ↦ elim (contains-cases x j rest d) [
       | inl e ↦ (stretched i j, subst (λ (z : Interval). Stands i j rest z (stretched i j)) e second)
       | inr b ↦ (x, other x b)
     ]
@@ -156,7 +140,7 @@ module _ (i j : Interval) (rest : List Interval) where
 
   -- for each of the shorter list one stands with the same start, and one with the same end
   stood-start : (y : Interval) → Contains (stretched i j ∷ rest) y → (x : Interval) × Stands i j rest x y × (x.start ≡ y.start)
-  stood-start y c = elim (elements (stretched i j) rest y c) [
+  stood-start y c = elim (contains-cases y (stretched i j) rest c) [
     | inl e ↦ subst (λ (z : Interval). (x : Interval) × Stands i j rest x z × (x.start ≡ z.start)) e (i, first, refl)
     | inr d ↦ (y, other y d, refl)
   ]
@@ -167,7 +151,7 @@ module _ (i j : Interval) (rest : List Interval) where
   stretched-end (inr e) = (j, second, sym e)
 
   stood-end : (y : Interval) → Contains (stretched i j ∷ rest) y → (x : Interval) × Stands i j rest x y × (x.end ≡ y.end)
-  stood-end y c = elim (elements (stretched i j) rest y c) [
+  stood-end y c = elim (contains-cases y (stretched i j) rest c) [
     | inl e ↦ subst (λ (z : Interval). (x : Interval) × Stands i j rest x z × (x.end ≡ z.end)) e (stretched-end (later-is i.end j.end))
     | inr d ↦ (y, other y d, refl)
   ]
@@ -200,20 +184,20 @@ module _ (i j : Interval) (rest : List Interval) (all : AllAdmissible (i ∷ j �
   given : (x y : Interval) → Stands i j rest x y → (k : Interval) → reaches precedence k.start k.end ≡ true → overlap precedence y k ≡ true
       → (u : Interval) × Contains (i ∷ j ∷ rest) u × IsJoined (i ∷ j ∷ rest) x u × IsJoined (i ∷ j ∷ rest) u x × (overlap precedence u k ≡ true)
   given x y first k near h =
-      let at-i = here i (j ∷ rest) in
-      let at-j = there i (j ∷ rest) j (here j rest) in
+      let at-i = contains-here i (j ∷ rest) in
+      let at-j = contains-there j i (j ∷ rest) (contains-here j rest) in
       elim (or-cases _ _ (sym (stretched-overlap i j begins meet k near) ∙ h)) [
         | inl a ↦ (i, at-i, itself i, itself i, a)
         | inr b ↦ (j, at-j, onward i j at-j meet (itself j), onward j i at-i (turned-round i j meet) (itself i), b)
       ]
   given x y second k near h =
-      let at-i = here i (j ∷ rest) in
-      let at-j = there i (j ∷ rest) j (here j rest) in
+      let at-i = contains-here i (j ∷ rest) in
+      let at-j = contains-there j i (j ∷ rest) (contains-here j rest) in
       elim (or-cases _ _ (sym (stretched-overlap i j begins meet k near) ∙ h)) [
         | inl a ↦ (i, at-i, onward j i at-i (turned-round i j meet) (itself i), onward i j at-j meet (itself j), a)
         | inr b ↦ (j, at-j, itself j, itself j, b)
       ]
-  given x y (other z c) k near h = (z, there i (j ∷ rest) z (there j rest z c), itself z, itself z, h)
+  given x y (other z c) k near h = (z, contains-there z i (j ∷ rest) (contains-there z j rest c), itself z, itself z, h)
 
   -- where two of the shorter list overlap, those that stand for them are joined
   step : (x y w z : Interval) → Stands i j rest x y → Stands i j rest w z → overlap precedence y z ≡ true → IsJoined (i ∷ j ∷ rest) x w
@@ -270,8 +254,8 @@ module _ (i j : Interval) (rest : List Interval) (all : AllAdmissible (i ∷ j �
 
 -- an interval overlaps no element of a list where the test says so
 any-none : (i : Interval) (is : List Interval) → list_any (overlap precedence i) is ≡ false → (k : Interval) → Contains is k → overlap precedence i k ≡ false
-any-none i [] far k c = absurd (none k c)
-any-none i (j ∷ is) far k c = elim (elements j is k c) [
+any-none i [] far k c = absurd (contains-nil k c)
+any-none i (j ∷ is) far k c = elim (contains-cases k j is c) [
   | inl e ↦ subst (λ (x : Interval). overlap precedence i x ≡ false) e (or-none _ _ far).0
   | inr d ↦ any-none i is (or-none _ _ far).1 k d
 ]
@@ -280,28 +264,28 @@ module _ (i : Interval) (is : List Interval) (all : AllAdmissible (i ∷ is)) (f
   -- a chain from it stays there
   alone : {x k : Interval} → IsJoined (i ∷ is) x k → i ≡ x → i ≡ k
   alone (itself x) e = e
-  alone (onward x z c h r) e = elim (elements i is z c) [
+  alone (onward x z c h r) e = elim (contains-cases z i is c) [
     | inl f ↦ alone r f
     | inr d ↦ let meet : overlap precedence i z ≡ true = rw (e) h in cc (sym (any-none i is far z d) ∙ meet)
   ]
 
   wider : {x k : Interval} → IsJoined is x k → IsJoined (i ∷ is) x k
   wider (itself x) = itself x
-  wider (onward x z c h r) = onward x z (there i is z c) h (wider r)
+  wider (onward x z c h r) = onward x z (contains-there z i is c) h (wider r)
 
   -- a chain from another one stays among the others
   narrower : {x k : Interval} → IsJoined (i ∷ is) x k → Contains is x → Contains is k × IsJoined is x k
   narrower (itself x) c = (c, itself x)
-  narrower (onward x z c h r) d = elim (elements i is z c) [
+  narrower (onward x z c h r) d = elim (contains-cases z i is c) [
     | inl e ↦ let meet : overlap precedence x i ≡ true = rw e h in cc (sym (any-none i is far x d) ∙ turned-round x i meet)
     | inr b ↦ let q = narrower r b in (q.0, onward x z b h q.1)
   ]
 
   own : IsMergedOf (i ∷ is) i i
   own = record {
-    start = (i, (here i is, (itself i, refl)));
+    start = (i, (contains-here i is, (itself i, refl)));
     least = λ k c r. subst (λ (x : Interval). begins_by i.start x.start ≡ true) (alone r refl) (begins_by-self i.start);
-    end = (i, (here i is, (itself i, refl)));
+    end = (i, (contains-here i is, (itself i, refl)));
     greatest = λ k c r. subst (λ (x : Interval). ends_by x.end i.end ≡ true) (alone r refl) (ends_by-self i.end);
   }
 
@@ -310,29 +294,29 @@ module _ (i : Interval) (is : List Interval) (all : AllAdmissible (i ∷ is)) (f
       let a = g.start in
       let b = g.end in
       record {
-        start = (a.0, (there i is a.0 a.1.0, (wider a.1.1.0, a.1.1.1)));
+        start = (a.0, (contains-there a.0 i is a.1.0, (wider a.1.1.0, a.1.1.1)));
         least = λ k d r. let q = narrower r c in g.least k q.0 q.1;
-        end = (b.0, (there i is b.0 b.1.0, (wider b.1.1.0, b.1.1.1)));
+        end = (b.0, (contains-there b.0 i is b.1.0, (wider b.1.1.0, b.1.1.1)));
         greatest = λ k d r. let q = narrower r c in g.greatest k q.0 q.1;
       }
 
   -- an interval that overlaps no other is its own merged one
   pub extend : (ms : List Interval) → list_any (overlap precedence i) ms ≡ false → AreMerged is ms → AreMerged (i ∷ is) (i ∷ ms)
   extend ms clear a = record {
-    each = λ x c. elim (elements i is x c) [
-      | inl e ↦ (i, (here i ms, subst (λ (z : Interval). IsMergedOf (i ∷ is) z i) e own))
-      | inr d ↦ let m = a.each x d in (m.0, (there i ms m.0 m.1.0, still x m.0 d m.1.1))
+    each = λ x c. elim (contains-cases x i is c) [
+      | inl e ↦ (i, (contains-here i ms, subst (λ (z : Interval). IsMergedOf (i ∷ is) z i) e own))
+      | inr d ↦ let m = a.each x d in (m.0, (contains-there m.0 i ms m.1.0, still x m.0 d m.1.1))
     ];
-    only = λ m c. elim (elements i ms m c) [
-      | inl e ↦ (i, (here i is, subst (λ (z : Interval). IsMergedOf (i ∷ is) i z) e own))
-      | inr d ↦ let x = a.only m d in (x.0, (there i is x.0 x.1.0, still x.0 m x.1.0 x.1.1))
+    only = λ m c. elim (contains-cases m i ms c) [
+      | inl e ↦ (i, (contains-here i is, subst (λ (z : Interval). IsMergedOf (i ∷ is) i z) e own))
+      | inr d ↦ let x = a.only m d in (x.0, (contains-there x.0 i is x.1.0, still x.0 m x.1.0 x.1.1))
     ];
     apart = rw clear a.apart;
   }
 
 -- no intervals have no merged ones
 pub nothing : AreMerged [] []
-nothing = record { each = λ i c. absurd (none i c); only = λ m c. absurd (none m c); apart = refl }
+nothing = record { each = λ i c. absurd (contains-nil i c); only = λ m c. absurd (contains-nil m c); apart = refl }
 
 -- intervals of which no two overlap are their own merged ones
 pub apart-merged : (is : List Interval) → AllAdmissible is → are_apart precedence is ≡ true → AreMerged is is

@@ -10,62 +10,18 @@ use Rattle.rustsec_versions.specs.Precedence.{precedence}
 use Rattle.rustsec_versions.specs.Ranges.{whole}
 use Rattle.rustsec_versions.specs.Requirement.{is_admissible, is_end, is_start}
 use Rattle.rustsec_versions.proofs.AreRanges.{AreFit}
+use Rattle.rustsec_versions.proofs.Bounds.{ends_by-reaches}
 use Rattle.rustsec_versions.proofs.Chain.{AllAdmissible}
 use Rattle.rustsec_versions.proofs.Clashes.{AllSound}
-use Rattle.rustsec_versions.proofs.PrecedenceLaws.{at_most-below, at_most-trans, below-at_most, below-weak}
+use Rattle.rustsec_versions.proofs.Contained.{any-contained, contains-cases, contains-here, contains-nil, contains-there}
 use Rattle.rustsec_versions.proofs.Sound.{IsSoundEnd, IsSoundInterval, admissible-end, admissible-reaches, admissible-start, and-first}
 
 -- ---- bounds
-
--- what a start reaches, it reaches where the end is later
-ends-reach : (s d e : Endpoint) → ends_by d e ≡ true → reaches precedence s d ≡ true → reaches precedence s e ≡ true
-ends-reach unbounded d e h near = refl
-ends-reach (exclusive s) d unbounded h near = refl
-ends-reach (inclusive s) d unbounded h near = refl
-ends-reach (exclusive s) unbounded (exclusive e) h near = cc h
-ends-reach (exclusive s) unbounded (inclusive e) h near = cc h
-ends-reach (inclusive s) unbounded (exclusive e) h near = cc h
-ends-reach (inclusive s) unbounded (inclusive e) h near = cc h
-ends-reach (exclusive s) (exclusive d) (exclusive e) h near = below-at_most s d e near h
-ends-reach (exclusive s) (exclusive d) (inclusive e) h near = below-at_most s d e near h
-ends-reach (exclusive s) (inclusive d) (exclusive e) h near = below-at_most s d e near (below-weak d e h)
-ends-reach (exclusive s) (inclusive d) (inclusive e) h near = below-at_most s d e near h
-ends-reach (inclusive s) (exclusive d) (exclusive e) h near = below-at_most s d e near h
-ends-reach (inclusive s) (exclusive d) (inclusive e) h near = below-weak s e (below-at_most s d e near h)
-ends-reach (inclusive s) (inclusive d) (exclusive e) h near = at_most-below s d e near h
-ends-reach (inclusive s) (inclusive d) (inclusive e) h near = at_most-trans s d e near h
 
 reaches-unbounded : (s : Endpoint) → reaches precedence s unbounded ≡ true
 reaches-unbounded unbounded = refl
 reaches-unbounded (exclusive s) = refl
 reaches-unbounded (inclusive s) = refl
-
--- ---- elements of lists
-
-module _ {X : Type 0} where
-  -- no element stands in the empty list
-  pub contains-nil : (x : X) → Contains [] x → ⊥
-  contains-nil x c = let low = c.1 in absurd (omega (arith, low))
-
-  -- the first element stands in a list
-  pub contains-here : (x : X) (xs : List X) → Contains (x ∷ xs) x
-  contains-here x xs = (0, omega arith, refl)
-
-  -- what stands in the rest of a list stands in it
-  pub contains-there : (x y : X) (ys : List X) → Contains ys x → Contains (y ∷ ys) x
-  contains-there x y ys c = let low = c.1 in (suc c.0, omega (arith, low), c.2)
-
-  contains-at : (x y : X) (ys : List X) (k : ℕ) → k < length (y ∷ ys) → get_or (y ∷ ys) k x ≡ x → (y ≡ x) ⊎ Contains ys x
-  contains-at x y ys zero low e = inl e
-  contains-at x y ys (suc k) low e = inr (k, omega (arith, low), e)
-
-  -- an element is the first or stands in the rest
-  pub contains-cases : (x y : X) (ys : List X) → Contains (y ∷ ys) x → (y ≡ x) ⊎ Contains ys x
-  contains-cases x y ys c = contains-at x y ys c.0 c.1 c.2
-
-  -- a test that an element passes, some element passes
-  pub any-contained : (test : X → Bool) (xs : List X) (x : X) → Contains xs x → test x ≡ true → list_any test xs ≡ true
-  any-contained test xs x c h = list_any_at test xs c.0 x c.1 (subst (λ (y : X). test y ≡ true) (sym c.2) h)
 
 -- ---- intervals of a list
 
@@ -112,7 +68,7 @@ merged-sound is i m a w =
 merged-reaches : (is : List Interval) (i m : Interval) → AllAdmissible is → IsMergedOf is i m → reaches precedence m.start m.end ≡ true
 merged-reaches is i m a w =
     let s = w.start in
-    let near = ends-reach s.0.start s.0.end m.end (w.greatest s.0 s.1.0 s.1.1.0) (admissible-reaches s.0 (admissible-each is s.0 a s.1.0)) in
+    let near = ends_by-reaches s.0.start s.0.end m.end (w.greatest s.0 s.1.0 s.1.1.0) (admissible-reaches s.0 (admissible-each is s.0 a s.1.0)) in
     subst (λ (t : Endpoint). reaches precedence t m.end ≡ true) s.1.1.1 near
 
 merged-admissible : (is : List Interval) (i m : Interval) → AllAdmissible is → IsMergedOf is i m → is_admissible m ≡ true

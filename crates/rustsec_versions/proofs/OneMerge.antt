@@ -9,37 +9,14 @@ use Rattle.rustsec_versions.specs.Merged.{AreMerged, IsJoined, IsMergedOf, begin
 use Rattle.rustsec_versions.specs.Precedence.{precedence}
 use Rattle.rustsec_versions.specs.Ranges.{AreRanges, Range}
 use Rattle.rustsec_versions.proofs.AreRanges.{admissible_shuffled, sound_shuffled}
+use Rattle.rustsec_versions.proofs.Bounds.{begins_by-same, ends_by-same}
 use Rattle.rustsec_versions.proofs.Chain.{AllAdmissible}
 use Rattle.rustsec_versions.proofs.Clashes.{AllSound}
-use Rattle.rustsec_versions.proofs.MergedFit.{any-contained, contains-cases, contains-here, contains-nil, contains-there, interval-same, merged-fit, merged-sound}
-use Rattle.rustsec_versions.proofs.PrecedenceLaws.{below-not_at_most}
+use Rattle.rustsec_versions.proofs.Contained.{any-contained, contains-cases, contains-here, contains-nil, contains-there}
+use Rattle.rustsec_versions.proofs.MergedFit.{interval-same, merged-fit, merged-sound}
 use Rattle.rustsec_versions.proofs.Shuffled.{Shuffled, both, keep, permuted, same, shuffled, turn}
 use Rattle.rustsec_versions.proofs.Sound.{IsSoundEnd, admissible-reaches, and-first, and-second}
 use Rattle.rustsec_versions.proofs.Unique.{AreRanges-unique, at_most-same}
-
--- ---- bounds
-
-begins-same : (s t : Endpoint) → IsSoundEnd s → IsSoundEnd t → begins_by s t ≡ true → begins_by t s ≡ true → s ≡ t
-begins-same unbounded unbounded p q h k = refl
-begins-same unbounded (exclusive t) p q h k = cc k
-begins-same unbounded (inclusive t) p q h k = cc k
-begins-same (exclusive s) unbounded p q h k = cc h
-begins-same (exclusive s) (exclusive t) p q h k = ap exclusive (at_most-same s t p.plain q.plain h k)
-begins-same (exclusive s) (inclusive t) p q h k = let n = below-not_at_most s t h in cc (rw n at k)
-begins-same (inclusive s) unbounded p q h k = cc h
-begins-same (inclusive s) (exclusive t) p q h k = let n = below-not_at_most t s k in cc (rw n at h)
-begins-same (inclusive s) (inclusive t) p q h k = ap inclusive (at_most-same s t p.plain q.plain h k)
-
-ends-same : (d e : Endpoint) → IsSoundEnd d → IsSoundEnd e → ends_by d e ≡ true → ends_by e d ≡ true → d ≡ e
-ends-same unbounded unbounded p q h k = refl
-ends-same unbounded (exclusive e) p q h k = cc h
-ends-same unbounded (inclusive e) p q h k = cc h
-ends-same (exclusive d) unbounded p q h k = cc k
-ends-same (exclusive d) (exclusive e) p q h k = ap exclusive (at_most-same d e p.plain q.plain h k)
-ends-same (exclusive d) (inclusive e) p q h k = let n = below-not_at_most e d k in cc (rw n at h)
-ends-same (inclusive d) unbounded p q h k = cc k
-ends-same (inclusive d) (exclusive e) p q h k = let n = below-not_at_most d e h in cc (rw n at k)
-ends-same (inclusive d) (inclusive e) p q h k = ap inclusive (at_most-same d e p.plain q.plain h k)
 
 -- ---- lists with the same elements
 
@@ -125,8 +102,8 @@ merged-same : (is : List Interval) (i m n : Interval) → AllSound is → IsMerg
 merged-same is i m n a v w =
     let p = merged-sound is i m a v in
     let q = merged-sound is i n a w in
-    interval-same m n (begins-same m.start n.start p.start q.start (begins-merged is i n m w v) (begins-merged is i m n v w))
-    (ends-same m.end n.end p.end q.end (ends-merged is i m n v w) (ends-merged is i n m w v))
+    interval-same m n (begins_by-same m.start n.start p.start q.start (begins-merged is i n m w v) (begins-merged is i m n v w))
+    (ends_by-same m.end n.end p.end q.end (ends-merged is i m n v w) (ends-merged is i n m w v))
 
 -- ---- all merged intervals
 
