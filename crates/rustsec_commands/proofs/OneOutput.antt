@@ -3,10 +3,9 @@ use Rattle.std.proofs.Common.{◌≡◌, ◌++◌, ℕ, List, Option, Some, None
 use Rattle.std.specs.Prelude.{flat_map}
 use Rattle.std.proofs.lemmas.Bool.{cases_Bool}
 use Rattle.std.proofs.lemmas.List.Sorted.{IsPermutation-refl}
-use Rattle.rustsec_versions.specs.Lists.{Lists, accepted, intervals}
+use Rattle.rustsec_versions.specs.Lists.{Lists, accepted}
 use Rattle.rustsec_versions.specs.Ranges.{Range}
-use Rattle.rustsec_versions.proofs.Clashes.{intervals-sound}
-use Rattle.rustsec_versions.proofs.Unique.{AreRanges-unique}
+use Rattle.rustsec_versions.proofs.Agreement.{ranges-one}
 use Rattle.rustsec_commands.specs.Asked.{asked, first_malformed, says}
 use Rattle.rustsec_commands.specs.Output.{AreRangeLines, AreRangeLinesOr, IsRangesOutput, Output, range_line}
 use Rattle.rustsec_commands.specs.declared.asked.Question.TheVariants as question
@@ -16,7 +15,7 @@ lines-one ls o p h k = elim (cases_Bool (accepted ls)) [
   | inl fine ↦
       let (rs, (ranges, text)) = h.lines fine in
       let (us, (others, other)) = k.lines fine in
-      let same = AreRanges-unique (intervals ls) (intervals ls) rs us (IsPermutation-refl (intervals ls)) (intervals-sound (ls.patched ++ ls.unaffected)) ranges others in
+      let same = ranges-one ls ls rs us (IsPermutation-refl (ls.patched ++ ls.unaffected)) ranges others in
       other ∙ ap (λ (l : List Range). record { text = flat_map range_line l; status = 0 }) same ∙ sym text
   | inr refused ↦ k.refused refused ∙ sym (h.refused refused)
 ]

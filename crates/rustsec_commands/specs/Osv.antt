@@ -2,10 +2,11 @@
 use Rattle.std.specs.Prelude.{◌≡◌, ◌≢◌, ◌⊎◌, ℕ, List, None}
 use Rattle.rustsec_versions.specs.Failure.{Failure, IsOfKind, IsRefusal}
 use Rattle.rustsec_versions.specs.declared.error.ErrorKind.TheVariants as kind
+use Rattle.rustsec_versions.specs.StoredRanges.{HasUnboundedInterval}
 use Rattle.rustsec_advisory.specs.Advisory.{IsAdvisory}
 use Rattle.rustsec_advisory.specs.declared.advisory.Advisory.{Advisory}
 use Rattle.rustsec_osv.specs.Documents.{Document}
-use Rattle.rustsec_osv.specs.Export.{IsDocument, IsStarAlone}
+use Rattle.rustsec_osv.specs.Export.{IsDocument}
 use Rattle.rustsec_osv.specs.References.{references_of}
 use Rattle.rustsec_osv.specs.TreeDocument.{document_tree}
 use Rattle.rustsec_commands.specs.Lint.{refused_as}
@@ -21,8 +22,8 @@ IsDocumentOf modified d = (text : List ℕ) × ((a : Advisory) × (IsAdvisory te
 
 -- how an advisory is refused that has no document: its requirements leave no range, or the address of a page is none
 abbrev pub IsExportRefusal : Advisory → Failure → Type 0
-IsExportRefusal a e = IsRefusal kind.BadParam (IsStarAlone a.versions) e
-    ⊎ IsRefusal kind.Parse ((¬ IsStarAlone a.versions) × (references_of a.metadata ≡ None)) e
+IsExportRefusal a e = IsRefusal kind.BadParam (HasUnboundedInterval a.versions) e
+    ⊎ IsRefusal kind.Parse ((¬ HasUnboundedInterval a.versions) × (references_of a.metadata ≡ None)) e
 
 -- why there is no document: a file cannot be read, its text is no advisory, or its advisory has none
 abbrev pub IsOsvRefusal : Failure → Type 0

@@ -5,8 +5,9 @@ use Rattle.serde_json.specs.Data.{Data}
 use Rattle.serde_json.specs.Written.{compact_text}
 use Rattle.semver.specs.Identifiers.{parts_text}
 use Rattle.semver.specs.Parse.{Parts}
-use Rattle.rustsec_versions.specs.Lists.{Lists, accepted, affected, intervals}
-use Rattle.rustsec_versions.specs.Ranges.{AreRanges, Range}
+use Rattle.rustsec_versions.specs.Lists.{Lists, accepted, affected}
+use Rattle.rustsec_versions.specs.Ranges.{Range}
+use Rattle.rustsec_versions.specs.StoredRanges.{AreMergedRanges}
 use Rattle.rustsec_commands.specs.Asked.{Asked, asked, first_malformed, says}
 use Rattle.rustsec_commands.specs.declared.asked.Question.TheVariants as question
 
@@ -54,7 +55,7 @@ range_line r = side_text r.introduced ++ (codes " " ++ (side_text r.fixed ++ cod
 
 -- a line for each range of the lists, in order
 pub record AreRangeLines (ls : Lists) (o : Output) : Type 0 where
-  pub lines : accepted ls ≡ true → (rs : List Range) × (AreRanges (intervals ls) rs × (o ≡ record { text = flat_map range_line rs; status = 0 }))
+  pub lines : accepted ls ≡ true → (rs : List Range) × (AreMergedRanges ls rs × (o ≡ record { text = flat_map range_line rs; status = 0 }))
   pub refused : accepted ls ≡ false → o ≡ refused
 
 abbrev pub AreRangeLinesOr : Option ℕ → Lists → Output → Type 0

@@ -9,10 +9,11 @@ use Rattle.rustsec_advisory.specs.declared.metadata.Metadata.{Metadata}
 use Rattle.rustsec_versions.specs.Failure.{Failure, IsRefusal}
 use Rattle.rustsec_versions.specs.Lists.{Lists}
 use Rattle.rustsec_versions.specs.declared.error.ErrorKind.TheVariants as kind
+use Rattle.rustsec_versions.specs.StoredRanges.{HasUnboundedInterval}
 use Rattle.rustsec_osv.specs.DocumentAgain.{AreEventsValid, IfThere, IsRangeAgain}
 use Rattle.rustsec_osv.specs.DocumentEvents.{Event, JsonRange}
 use Rattle.rustsec_osv.specs.Documents.{Document}
-use Rattle.rustsec_osv.specs.Export.{IsDocument, IsRangeOf, IsStarAlone, database_of, document_events, document_with, member_of, package_of}
+use Rattle.rustsec_osv.specs.Export.{IsDocument, IsRangeOf, database_of, document_events, document_with, member_of, package_of}
 use Rattle.rustsec_osv.specs.References.{references_of}
 use Rattle.rustsec_osv.specs.declared.affected.OsvAffected.{OsvAffected}
 use Rattle.rustsec_osv.specs.declared.reference.OsvReference.{OsvReference}
@@ -47,9 +48,9 @@ exported a modified range (Err f) parts e is_range made = tt
 -- what a refusal of the export means
 abbrev IsRefusedFor : Lists → Metadata → Failure → Type 0
 IsRefusedFor ls m e =
-    IsRefusal kind.BadParam (IsStarAlone ls) e ⊎ IsRefusal kind.Parse ((¬ IsStarAlone ls) × (references_of m ≡ None)) e
+    IsRefusal kind.BadParam (HasUnboundedInterval ls) e ⊎ IsRefusal kind.Parse ((¬ HasUnboundedInterval ls) × (references_of m ≡ None)) e
 
-one-refused : (ls : Lists) (m : Metadata) (f : Failure) → ¬ IsStarAlone ls → IsRefusal kind.Parse (references_of m ≡ None) f → IsRefusedFor ls m f
+one-refused : (ls : Lists) (m : Metadata) (f : Failure) → ¬ HasUnboundedInterval ls → IsRefusal kind.Parse (references_of m ≡ None) f → IsRefusedFor ls m f
 one-refused ls m f some (inl parse) = inr (inl (parse.0, (some, parse.1)))
 one-refused ls m f some (inr memory) = inr (inr memory)
 

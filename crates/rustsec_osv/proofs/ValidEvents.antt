@@ -9,9 +9,12 @@ use Rattle.semver.specs.Grammar.{IsValid}
 use Rattle.semver.specs.Parse.{Parts}
 use Rattle.rustsec_versions.specs.Interval.{Endpoint, Interval, exclusive, inclusive, unbounded}
 use Rattle.rustsec_versions.specs.Lists.{Lists, intervals}
-use Rattle.rustsec_versions.specs.Ranges.{AreRanges, Range, lower_cut, lower_cuts, upper_cut, upper_cuts}
+use Rattle.rustsec_versions.specs.Ranges.{Range, lower_cut, lower_cuts, upper_cut, upper_cuts}
 use Rattle.rustsec_versions.specs.Requirement.{least_of}
+use Rattle.rustsec_versions.specs.StoredRanges.{AreMergedRanges}
+use Rattle.rustsec_versions.proofs.Agreement.{intervals-admissible}
 use Rattle.rustsec_versions.proofs.Clashes.{AllSound, intervals-sound}
+use Rattle.rustsec_versions.proofs.MergedFit.{merged-fit}
 use Rattle.rustsec_versions.proofs.LeastAbove.{successor-valid}
 use Rattle.rustsec_versions.proofs.Sound.{IsSound, IsSoundEnd}
 use Rattle.rustsec_osv.specs.DocumentAgain.{IsEventAgain}
@@ -75,9 +78,10 @@ all-events [] f i = All-nil IsEventAgain
 all-events (r ∷ rs) f i = step r.introduced r.fixed rs f i (all-events rs)
 
 -- the events of the ranges of requirements
-pub events-valid : (ls : Lists) (rs : List Range) → AreRanges (intervals ls) rs → All IsEventAgain (events_of rs)
+pub events-valid : (ls : Lists) (rs : List Range) → AreMergedRanges ls rs → All IsEventAgain (events_of rs)
 events-valid ls rs are =
-    let sound : AllSound (intervals ls) = intervals-sound (ls.patched ++ ls.unaffected) in
+    let sound : AllSound are.merged =
+    (merged-fit (intervals ls) are.merged (intervals-sound (ls.patched ++ ls.unaffected)) (intervals-admissible (ls.patched ++ ls.unaffected)) are.are_merged).sound in
     all-events rs
-    (All-permutation IsValid (lower_cuts (intervals ls)) (fixes rs) are.fixed (All-from_recursion IsValid _ (all-lower (intervals ls) sound)))
-    (All-permutation IsValid (upper_cuts (intervals ls)) (introductions rs) are.introduced (All-from_recursion IsValid _ (all-upper (intervals ls) sound)))
+    (All-permutation IsValid (lower_cuts are.merged) (fixes rs) are.ranges.fixed (All-from_recursion IsValid _ (all-lower are.merged sound)))
+    (All-permutation IsValid (upper_cuts are.merged) (introductions rs) are.ranges.introduced (All-from_recursion IsValid _ (all-upper are.merged sound)))

@@ -2,8 +2,9 @@
 -- It carries meaning: public contracts cite it.
 use Rattle.std.specs.Prelude.{◌≡◌, ℕ, List, [], ◌∷◌, ◌++◌, Option, Some, None, codes, flat_map, map, option_map, option_to_list}
 use Rattle.std.specs.Map.{keys_of}
-use Rattle.rustsec_versions.specs.Lists.{Lists, intervals}
-use Rattle.rustsec_versions.specs.Ranges.{AreRanges, Range}
+use Rattle.rustsec_versions.specs.Lists.{Lists}
+use Rattle.rustsec_versions.specs.Ranges.{Range}
+use Rattle.rustsec_versions.specs.StoredRanges.{AreMergedRanges, HasUnboundedInterval}
 use Rattle.rustsec_lock.specs.declared.cvss.Cvss.{Cvss}
 use Rattle.rustsec_lock.specs.declared.cvss.Cvss.TheVariants as cvss
 use Rattle.rustsec_texts.specs.Licenses.{license_name}
@@ -81,15 +82,11 @@ document_with m a modified references range = record {
 
 -- ---- which ranges
 
--- one requirement without comparators, `*`, and no other: no version is affected, and the list of ranges is empty
-abbrev pub IsStarAlone : Lists → Type 0
-IsStarAlone ls = ls.patched ++ ls.unaffected ≡ [] ∷ []
-
 -- a range that has the events of the ranges that the requirements leave, of which there is one at least
 pub record IsRangeOf (ls : Lists) (range : JsonRange) : Type 0 where
   pub ranges : List Range
-  pub are_ranges : AreRanges (intervals ls) ranges
-  pub some : ¬ IsStarAlone ls
+  pub are_ranges : AreMergedRanges ls ranges
+  pub some : ¬ HasUnboundedInterval ls
   pub kind : range.kind ≡ codes "SEMVER"
   pub events : range.events ≡ events_of ranges
 

@@ -16,7 +16,7 @@ use Rattle.rustsec_versions.specs.Merged.{AreMerged}
 use Rattle.rustsec_versions.specs.Precedence.{IsVersion, precedence}
 use Rattle.rustsec_versions.specs.Ranges.{AreRanges, HasCuts, Range, SameInEachList, SameRequirements, affects, has_bound, in_ranges, lower_cut, upper_cut, whole}
 use Rattle.rustsec_versions.specs.Requirement.{interval_of, is_admissible, is_end, is_start}
-use Rattle.rustsec_versions.specs.StoredRanges.{AreMergedRanges, AreRangesOf}
+use Rattle.rustsec_versions.specs.StoredRanges.{AreMergedRanges, AreRangesOf, HasUnboundedInterval}
 use Rattle.rustsec_versions.specs.Sweep.{Marked, all_swept, are_clear, mark, marked, marks, spans}
 use Rattle.rustsec_versions.proofs.AreRanges.{AreFit, AreRanges-IsPermutation, admissible_shuffled, gaps-AreRanges, sound_shuffled}
 use Rattle.rustsec_versions.proofs.Chain.{AllAdmissible, StartsRise}
@@ -147,6 +147,12 @@ module _ (ls : Lists) where
   own-admissible : AllAdmissible (intervals ls)
   own-admissible = intervals-admissible (ls.patched ++ ls.unaffected)
 
+  -- wherever the requirements stand, they have one list of ranges
+  pub ranges-one : (ms : Lists) (rs us : List Range) → SameRequirements ls ms → AreMergedRanges ls rs → AreMergedRanges ms us → us ≡ rs
+  ranges-one ms rs us p r u =
+      merged-ranges-one (intervals ls) (intervals ms) r.merged u.merged rs us own-sound own-admissible (same-intervals ls ms p) r.are_merged u.are_merged
+      r.ranges u.ranges
+
   -- the interval of an unaffected requirement overlaps no other one
   unaffected-alone : accepted ls ≡ true → (i j : Interval) → Contains (filter_map interval_of ls.unaffected) i → Contains (intervals ls) j
       → overlap precedence i j ≡ true → j ≡ i
@@ -165,20 +171,18 @@ module _ (ls : Lists) where
       merged-alone (intervals ls) ms i own-sound own-admissible there (λ j d near. unaffected-alone accepts i j c d near) m
 
   module _ (rs : List Range) (kept : AreRangesOf ls rs) where
-    pub kept-empty : (ms : List Interval) → AreMerged (intervals ls) ms → (rs ≡ []) ↔ Contains ms whole
-    kept-empty ms m =
-        let r = kept.ranges in
-        let one = merged-one (intervals ls) (intervals ls) r.merged ms own-sound own-admissible (IsPermutation-refl (intervals ls)) r.are_merged m in (
-          λ e. Contains-permutation r.merged ms whole one (let is = (r.ranges.empty).0 e in rw is (contains-here whole [])),
-          λ c.
+    pub kept-empty : (rs ≡ []) ↔ HasUnboundedInterval ls
+    kept-empty =
+        let r = kept.ranges in (
+          λ e. (r.merged, (r.are_merged, (let is = (r.ranges.empty).0 e in rw is (contains-here whole [])))),
+          λ (ms, (m, c)).
               let fit = merged-fit (intervals ls) r.merged own-sound own-admissible r.are_merged in
+              let one = merged-one (intervals ls) (intervals ls) r.merged ms own-sound own-admissible (IsPermutation-refl (intervals ls)) r.are_merged m in
               (r.ranges.empty).1 (merged-whole r.merged fit.apart fit.admissible (Contains-permutation ms r.merged whole (IsPermutation-sym r.merged ms one) c)),
         )
 
     pub kept-order : (ms : Lists) (us : List Range) → SameRequirements ls ms → AreMergedRanges ms us → us ≡ rs
-    kept-order ms us p r =
-        merged-ranges-one (intervals ls) (intervals ms) kept.ranges.merged r.merged rs us own-sound own-admissible (same-intervals ls ms p)
-        kept.ranges.are_merged r.are_merged kept.ranges.ranges r.ranges
+    kept-order ms us p r = ranges-one ms rs us p kept.ranges r
 
     -- any ranges of the same lists are as many
     pub kept-length : (us : List Range) → AreMergedRanges ls us → length us ≡ length rs

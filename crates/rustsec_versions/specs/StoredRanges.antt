@@ -1,13 +1,13 @@
 -- The ranges of accepted lists, and how many comparisons a search among them may make.
 -- It carries meaning: public contracts cite it.
-use Rattle.std.specs.Prelude.{◌≡◌, ◌<◌, ◌≤◌, ◌^◌, ℕ, true, List}
+use Rattle.std.specs.Prelude.{◌≡◌, ◌<◌, ◌≤◌, ◌^◌, ℕ, Contains, true, List}
 use Rattle.std.specs.List.{list_any}
 use Rattle.semver.specs.Parse.{Parts}
 use Rattle.rustsec_versions.specs.Interval.{Interval}
 use Rattle.rustsec_versions.specs.Merged.{AreMerged}
 use Rattle.rustsec_versions.specs.Lists.{Lists, accepted, affected, intervals}
 use Rattle.rustsec_versions.specs.Precedence.{IsVersion}
-use Rattle.rustsec_versions.specs.Ranges.{AreRanges, Range, affects, in_ranges}
+use Rattle.rustsec_versions.specs.Ranges.{AreRanges, Range, affects, in_ranges, whole}
 
 -- the ranges between the merged intervals of lists. In accepted lists only patched requirements overlap others, so the
 -- interval of an unaffected one is its own merged interval
@@ -15,6 +15,10 @@ pub record AreMergedRanges (ls : Lists) (rs : List Range) : Type 0 where
   pub merged : List Interval
   pub are_merged : AreMerged (intervals ls) merged
   pub ranges : AreRanges merged rs
+
+-- one merged interval is unbounded on both sides
+abbrev pub HasUnboundedInterval : Lists → Type 0
+HasUnboundedInterval ls = (ms : List Interval) × (AreMerged (intervals ls) ms × Contains ms whole)
 
 -- the ranges of accepted lists, which have the valid versions that the lists leave affected, in precedence and in
 -- the order of `Version`

@@ -10,9 +10,9 @@ ghost use Rattle.rustsec_versions.specs.Interval.{Interval};
 ghost use Rattle.rustsec_versions.specs.Lists.{Lists, accepted_apart, affected, intervals};
 ghost use Rattle.rustsec_versions.specs.Merged.{AreMerged};
 ghost use Rattle.rustsec_versions.specs.Precedence.{IsVersion};
-ghost use Rattle.rustsec_versions.specs.Ranges.{AreRanges, HasCuts, Range, SameRequirements, affects, affects_from, affects_till, in_ranges, lower_cut, upper_cut, whole};
+ghost use Rattle.rustsec_versions.specs.Ranges.{AreRanges, HasCuts, Range, SameRequirements, affects, affects_from, affects_till, in_ranges, lower_cut, upper_cut};
 ghost use Rattle.rustsec_versions.specs.Requirement.{interval_of};
-ghost use Rattle.rustsec_versions.specs.StoredRanges.{AreMergedRanges};
+ghost use Rattle.rustsec_versions.specs.StoredRanges.{AreMergedRanges, HasUnboundedInterval};
 ghost use Rattle.rustsec_versions.specs.Successor.{IsLeastAbove, successor};
 ghost use Rattle.rustsec_versions.specs.Views.{endpoint_of, range_of};
 
@@ -166,9 +166,8 @@ pub fn ranges_for_advisory(alloc: Global, versions: &Versions) -> Result<Vec<Osv
     ensures alone { (ms : List Interval) → AreMerged (intervals versions.now) ms
         → (i : Interval) → Contains (filter_map interval_of versions.now.unaffected) i → Contains ms i }
 
-    // No list is given exactly where a merged interval has no bounds.
-    ensures empty { IfOk result (λ v. (ms : List Interval) → AreMerged (intervals versions.now) ms
-        → ((v.items ≡ []) ↔ Contains ms whole)) }
+    // The list is empty exactly where one merged interval is unbounded on both sides.
+    ensures empty { IfOk result (λ v. (v.items ≡ []) ↔ HasUnboundedInterval versions.now) }
 
     // Intervals of which no two overlap have the gaps between them as their ranges.
     ensures apart { IfOk result (λ v. accepted_apart versions.now ≡ true → AreRanges (intervals versions.now) v.items) }

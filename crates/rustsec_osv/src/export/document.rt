@@ -6,12 +6,13 @@ ghost use Rattle.rustsec_texts.specs.Licenses.{license_name};
 ghost use Rattle.rustsec_versions.specs.Failure.{IsRefusal};
 ghost use Rattle.rustsec_versions.specs.Lists.{affected};
 ghost use Rattle.rustsec_versions.specs.Precedence.{IsVersion};
+ghost use Rattle.rustsec_versions.specs.StoredRanges.{HasUnboundedInterval};
 ghost use Rattle.rustsec_osv.specs.DocumentAgain.{AreEventsValid, IsReferenceAgain};
 ghost use Rattle.rustsec_advisory.specs.Advisory.{IsAdvisory};
 ghost use Rattle.rustsec_osv.specs.Events.{events_say};
 ghost use Rattle.rustsec_osv.specs.ReaderDocument.{read_document};
 ghost use Rattle.rustsec_osv.specs.TreeDocument.{document_tree};
-ghost use Rattle.rustsec_osv.specs.Export.{IsDocument, IsStarAlone, database_of, document_events, document_with, member_of, noon, package_of, severity_of};
+ghost use Rattle.rustsec_osv.specs.Export.{IsDocument, database_of, document_events, document_with, member_of, noon, package_of, severity_of};
 ghost use Rattle.rustsec_osv.specs.References.{own_pages, reference_of, references_of};
 ghost use Rattle.rustsec_osv.specs.declared.reference.OsvReference.{OsvReference};
 
@@ -245,8 +246,8 @@ impl OsvAdvisory {
 
         // If the advisory is that of a text, then the document's tree is read as this document.
         ensures again { IfOk result (λ d. (t : List ℕ) → IsAdvisory t advisory → read_document (document_tree d) ≡ Some d) }
-        ensures err { IfErr result (λ e. IsRefusal ErrorKind.BadParam (IsStarAlone advisory.versions) e
-            ⊎ IsRefusal ErrorKind.Parse ((¬ IsStarAlone advisory.versions) × (references_of advisory.metadata ≡ None)) e) }
+        ensures err { IfErr result (λ e. IsRefusal ErrorKind.BadParam (HasUnboundedInterval advisory.versions) e
+            ⊎ IsRefusal ErrorKind.Parse ((¬ HasUnboundedInterval advisory.versions) × (references_of advisory.metadata ≡ None)) e) }
     {
         let (metadata, affected, versions) = advisory.into_parts();
         let range = range_of(alloc, &versions)?;

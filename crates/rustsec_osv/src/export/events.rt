@@ -7,10 +7,11 @@ ghost use Rattle.rustsec_versions.specs.Failure.{IsRefusal};
 ghost use Rattle.rustsec_versions.specs.Lists.{affected};
 ghost use Rattle.rustsec_versions.specs.Precedence.{IsVersion};
 ghost use Rattle.rustsec_versions.specs.Requirement.{least_of};
+ghost use Rattle.rustsec_versions.specs.StoredRanges.{HasUnboundedInterval};
 ghost use Rattle.rustsec_osv.specs.DocumentAgain.{IsRangeAgain};
 ghost use Rattle.rustsec_osv.specs.DocumentEvents.{event_of};
 ghost use Rattle.rustsec_osv.specs.Events.{beginning, events_of, events_of_range, events_say};
-ghost use Rattle.rustsec_osv.specs.Export.{IsRangeOf, IsStarAlone};
+ghost use Rattle.rustsec_osv.specs.Export.{IsRangeOf};
 
 use crate::ranges::OsvJsonRange;
 use crate::timeline::OsvTimelineEvent;
@@ -85,7 +86,7 @@ pub(crate) fn range_of(alloc: Global, versions: &Versions) -> Result<OsvJsonRang
     ensures ok { IfOk result (IsRangeOf versions.now) }
     ensures events { IfOk result (λ r. (v : Parts) → IsVersion v → events_say r.events v ≡ affected versions.now v) }
     ensures valid { IfOk result IsRangeAgain }
-    ensures err { IfErr result (IsRefusal ErrorKind.BadParam (IsStarAlone versions.now)) }
+    ensures err { IfErr result (IsRefusal ErrorKind.BadParam (HasUnboundedInterval versions.now)) }
 {
     let ranges = ranges_for_advisory(alloc, versions)?;
     if ranges.is_empty() {
