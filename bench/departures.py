@@ -19,7 +19,15 @@ def equal_starts(command, data, ours, theirs):
     return theirs == PANIC and rules.answer(command, data) == (ours, "equal starts")
 
 
-OF_LINES = [numbers_at_the_limit, equal_starts]
+REFUSED = (b"refused: bad parameter\n", 2)
+
+
+def merged_patched(command, data, ours, theirs):
+    """The Rust crate refuses patched requirements that overlap; ours merges them."""
+    return theirs in (REFUSED, PANIC) and rules.answer(command, data) == (ours, "merged")
+
+
+OF_LINES = [numbers_at_the_limit, equal_starts, merged_patched]
 
 
 def with_its_table(data):
@@ -42,6 +50,25 @@ def starts_of_an_advisory(command, data, ours, theirs):
     """The two starts above, in the lists of an advisory: there ours lints it."""
     equal, above = (set(re.findall(sign + rb"\s*([0-9][0-9A-Za-z.+-]*)", data)) for sign in (rb"=", rb">"))
     return theirs == PANIC and ours[1] < 2 and bool(equal & above)
+
+
+def lists_of(text):
+    """The patched and the unaffected requirements of an advisory, as lines of `ranges`."""
+    front = re.match(r"\s*```toml\s*\n(.*?)\n```", text, re.S)
+    try:
+        lists = tomllib.loads(front[1])["versions"]
+    except (TypeError, KeyError, ValueError):
+        return b""
+    return "".join(f"{word} {r}\n" for word in ("patched", "unaffected") for r in lists.get(word, [])).encode()
+
+
+def has_merged(text):
+    return rules.answer("ranges", lists_of(text.decode(errors="replace")))[1] == "merged"
+
+
+def merged_patched_of_an_advisory(command, data, ours, theirs):
+    """The overlap above, in the list of an advisory: there ours reads it, and its export may be empty."""
+    return theirs in ((b"refused: parse error\n", 2), REFUSED, PANIC) and ours != theirs and has_merged(data)
 
 
 def fault_of_a_source(command, data, ours, theirs):
@@ -88,6 +115,12 @@ def first_of_faults(command, data, ours, theirs):
     return refused and theirs[1] in (2, 101) and sum(path.startswith(b"/root/") for path in files_of(data)) > 1
 
 
+def merged_patched_in_some_file(command, data, ours, theirs):
+    """The overlap above, in some file of a database."""
+    refused = theirs in ((b"refused: parse error\n", 2), PANIC)
+    return refused and ours != theirs and any(has_merged(text) for text in files_of(data).values())
+
+
 def message_cut_in_some_file(command, data, ours, theirs):
     """The message above, of some file of a database."""
     cut = any(len(text) > 20 and 0x80 <= text[20] < 0xC0 for text in files_of(data).values())
@@ -121,16 +154,16 @@ def edition_of_toml(command, data, ours, theirs):
 
 OF_LINT = [
     number_of_an_advisory, starts_of_an_advisory, fault_of_a_source, source_that_is_no_address,
-    message_cut_inside_a_character, empty_name, edition_of_toml, nesting,
+    message_cut_inside_a_character, empty_name, edition_of_toml, nesting, merged_patched_of_an_advisory,
 ]
 OF_OSV = [
     number_of_an_advisory, starts_of_an_advisory, source_that_is_no_address, message_cut_inside_a_character, empty_name,
-    star_alone, edition_of_toml, nesting,
+    star_alone, edition_of_toml, nesting, merged_patched_of_an_advisory,
 ]
 OF_DATABASES = [
     number_of_an_advisory, starts_of_an_advisory, source_that_is_no_address, message_cut_inside_a_character, empty_name,
     checksum_of_another_form, edition_of_toml, other_keys_of_a_lockfile, message_cut_in_some_file,
-    first_of_faults, nesting,
+    merged_patched_in_some_file, first_of_faults, nesting,
 ]
 
 

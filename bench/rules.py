@@ -12,7 +12,7 @@ COMPARATOR = re.compile(
     rf"(>=|>|<=|<|=|~|\^|) *{NUMBER}"
     rf"(?:\.[*xX](?:\.[*xX])?|\.{NUMBER}\.[*xX]|\.{NUMBER}\.{NUMBER}{PRE}{BUILD}|\.{NUMBER})? *"
 )
-WORDS = {"patched": True, "unaffected": True, "version": False}
+WORDS = ("patched", "unaffected", "version")
 
 
 class Malformed(Exception):
@@ -86,6 +86,7 @@ class Interval:
 
     def __init__(self, comparators):
         self.start = self.end = None
+        self.is_patched = False
         if len(comparators) > 2:
             raise Refused
         for op, (major, minor, patch), pre in comparators:
@@ -130,6 +131,12 @@ class Interval:
     def order(self):
         return (False,) if not self.start else (True, self.start[0].key, not self.start[1])
 
+    def last(self):
+        return (True,) if not self.end else (False, self.end[0].key, self.end[1])
+
+    def overlaps(self, other):
+        return reaches(self.start, other.end) and reaches(other.start, self.end)
+
 
 def reaches(start, end):
     if not start or not end:
@@ -137,9 +144,23 @@ def reaches(start, end):
     return start[0].key < end[0].key or (start[0].key == end[0].key and start[1] and end[1])
 
 
+def merged(intervals):
+    """The chains of overlapping intervals, each as one interval with the least start and the greatest end."""
+    chains = []
+    for interval in intervals:
+        joined = [c for c in chains if any(interval.overlaps(other) for other in c)]
+        chains = [c for c in chains if c not in joined] + [[interval, *(other for c in joined for other in c)]]
+    out = []
+    for chain in chains:
+        whole = object.__new__(Interval)
+        whole.start, whole.end = min(chain, key=Interval.order).start, max(chain, key=Interval.last).end
+        out.append(whole)
+    return out
+
+
 def ranges(intervals):
     introduced, out = "-", []
-    for i in sorted(intervals, key=Interval.order):
+    for i in sorted(merged(intervals), key=Interval.order):
         if i.start:
             out.append((introduced, str(i.start[0] if i.start[1] else i.start[0].successor())))
         if not i.end:
@@ -149,7 +170,7 @@ def ranges(intervals):
 
 
 def said(command, data):
-    """The requirements and versions of an input, or the number of its first malformed line."""
+    """The requirements, each with whether it is patched, and the versions; or the number of the first malformed line."""
     requirements, versions = [], []
     for at, line in enumerate(data.split(b"\n")):
         line = line[:-1] if line.endswith(b"\r") else line
@@ -157,36 +178,35 @@ def said(command, data):
             continue
         try:
             word, space, rest = line.decode().partition(" ")
-            if not space or word not in WORDS or (command == "ranges" and not WORDS[word]):
+            if not space or word not in WORDS or (command == "ranges" and word == "version"):
                 raise Malformed
-            if WORDS[word]:
-                requirements.append(comparators_of(rest))
-            else:
+            if word == "version":
                 versions.append(version_of(rest))
+            else:
+                requirements.append((word == "patched", comparators_of(rest)))
         except (Malformed, UnicodeDecodeError):
             return at + 1
     return requirements, versions
 
 
 def answer(command, data):
-    """What the rules answer: the text and the status; and what is odd in the lists: `limit` or `equal starts`."""
+    """What the rules answer: the text and the status; and what is odd in the lists: `limit`, `merged` or `equal starts`."""
     lines = said(command, data)
     if isinstance(lines, int):
         return (f"line {lines}: malformed\n".encode(), 2), None
     requirements, versions = lines
     intervals, faults = [], []
-    for requirement in requirements:
+    for is_patched, requirement in requirements:
         try:
             intervals.append(Interval(requirement))
+            intervals[-1].is_patched = is_patched
         except Refused as fault:
             faults.append(fault)
-    clash = any(
-        reaches(a.start, b.end) and reaches(b.start, a.end) for i, a in enumerate(intervals) for b in intervals[i + 1:]
-    )
-    if faults or clash:
+    meeting = [(a, b) for i, a in enumerate(intervals) for b in intervals[i + 1:] if a.overlaps(b)]
+    if faults or not all(a.is_patched and b.is_patched for a, b in meeting):
         return (b"refused: bad parameter\n", 2), "limit" if any(f.limit for f in faults) else None
     starts = [i.start[0].key for i in intervals if i.start]
-    odd = "equal starts" if any(starts.count(s) > 1 for s in starts) else None
+    odd = "merged" if meeting else "equal starts" if any(starts.count(s) > 1 for s in starts) else None
     if command == "ranges":
         text = "".join(f"{a} {b}\n" for a, b in ranges(intervals))
     else:

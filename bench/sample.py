@@ -45,7 +45,7 @@ def verdict_features(data):
     """Where the versions asked about are from the bounds, and what holds there."""
     requirements, versions = rules.said("affected", data)
     found = set()
-    for comparators in requirements:
+    for _, comparators in requirements:
         interval = rules.Interval(comparators)
         for version in versions:
             for op, numbers, pre in comparators:

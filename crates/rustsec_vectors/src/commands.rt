@@ -46,12 +46,15 @@ fn star_alone(rt: HostRuntime) -> Result<(), Fail> {
 
 #[test]
 fn bounds_overlap_without_a_version(rt: HostRuntime) -> Result<(), Fail> {
-    let input = "patched < 1.2.4-0\npatched > 1.2.3\n";
+    let both = "patched < 1.2.4-0\npatched > 1.2.3\n";
+    let one = "patched < 1.2.4-0\nunaffected > 1.2.3\n";
     expect_outputs(
         &rt,
         &[
-            (&["affected"], input, 2, "refused: bad parameter\n"),
-            (&["ranges"], input, 2, "refused: bad parameter\n"),
+            (&["affected"], both, 0, ""),
+            (&["ranges"], both, 0, ""),
+            (&["affected"], one, 2, "refused: bad parameter\n"),
+            (&["ranges"], one, 2, "refused: bad parameter\n"),
         ],
     )
 }

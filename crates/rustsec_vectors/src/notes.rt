@@ -82,7 +82,7 @@ const REFUSALS: &[NoteRow<'static>] = &[
     ),
     (
         &["ranges"],
-        "patched < 2.0.0\npatched > 1.0.0\n",
+        "patched < 2.0.0\nunaffected > 1.0.0\n",
         2,
         &["<2.0.0", ">1.0.0"],
     ),

@@ -188,6 +188,8 @@ fn refusal(alloc: Global, patched: &str) -> Result<Option<ErrorKind>, Fail> {
 fn star_alone_exported(rt: HostRuntime) -> Result<(), Fail> {
     assert!(rt; refusal(rt.alloc(), "\"*\"")? == Some(ErrorKind::BadParam));
     assert!(rt; refusal(rt.alloc(), "\"< 1.2.3\", \">= 1.2.3\"")?.is_none());
+    let merged = "\"< 1.2.4-0\", \"> 1.2.3\"";
+    assert!(rt; refusal(rt.alloc(), merged)? == Some(ErrorKind::BadParam));
     Ok(())
 }
 

@@ -113,6 +113,16 @@ fn overlapping_requirements(rt: HostRuntime) -> Result<(), Fail> {
                 &["=1.0.0"],
                 "the requirements `=1.0.0` and `=1.0.0` overlap",
             ),
+            (
+                &["< 2.0.0", "< 1.5.0", "^1"],
+                &["=3.0.0", "~1.6"],
+                "the requirements `<2.0.0` and `~1.6` overlap",
+            ),
+            (
+                &[],
+                &["^1", "=0.1.0", "^1.2"],
+                "the requirements `^1` and `^1.2` overlap",
+            ),
         ],
     )
 }

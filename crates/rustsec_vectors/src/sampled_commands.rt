@@ -99,12 +99,12 @@ const AFFECTED_MALFORMED: [(&[u8], u8); 15] = [
 /// Inputs of `affected` whose lists are not accepted.
 const AFFECTED_REFUSED: [&[u8]; 15] = [
     b"unaffected >=1, >=2",
-    b"patched >=1\r\npatched *\n\n",
+    b"patched >=1\r\nunaffected *\n\n",
     b"\r\npatched >1.0.10, <1.0.10\r\n",
-    b"patched <=0.1\npatched >=  0.1",
+    b"patched <=0.1\nunaffected >=  0.1",
     b"patched <1, <=2\nunaffected > 3\n",
     b"unaffected >=1.*\npatched >= 9.1",
-    b"patched =1.2.x\npatched >=1.1.2-a.0\n",
+    b"patched =1.2.x\nunaffected >=1.1.2-a.0\n",
     b"\npatched <= 2.9.2\n\r\nunaffected 2.9.2\n\n",
     b"patched  11.1.2-0\nunaffected 11.1.2-0\n",
     b"patched >  1.0.0,<1.0\npatched <1.0.0\n\n",
@@ -202,19 +202,41 @@ const RANGES_MALFORMED: [(&[u8], u8); 15] = [
 const RANGES_REFUSED: [&[u8]; 15] = [
     b"patched ~1, >0",
     b"patched <1.x\npatched 1.X.*",
-    b"patched x\npatched <=0.1.2\n\r\n",
-    b"patched  *\npatched >=  1.10.11",
-    b"patched >  9.0.1\npatched  9.0.1",
-    b"patched >=1.*\npatched >10.1.1-9",
+    b"patched x\nunaffected <=0.1.2\n\r\n",
+    b"patched  *\nunaffected >=  1.10.11",
+    b"patched >  9.0.1\nunaffected  9.0.1",
+    b"patched >=1.*\nunaffected >10.1.1-9",
     b"patched ~2.3.0\nunaffected =2.3\n",
-    b"patched ^0.2.2-0.0.9.-\npatched *",
+    b"patched ^0.2.2-0.0.9.-\nunaffected *",
     b"patched 1.*\r\npatched ~ 0.0.1-beta.2\r\n",
-    b"patched   1.0.0-a.0.1.1\npatched > 0.2.2",
+    b"patched   1.0.0-a.0.1.1\nunaffected > 0.2.2",
     b"\nunaffected = 2\npatched >2.0.1,<=2.0.1+x",
-    b"patched ~  0.9.2-alpha\n\npatched >=0.9.2\n",
-    b"patched   9.0.0\npatched >=9.0.4-0.4-0\n\n\r\n\n",
-    b"patched ^0.1\npatched 0.1.0\npatched >= 0.2\n",
+    b"patched ~  0.9.2-alpha\n\nunaffected >=0.9.2\n",
+    b"patched   9.0.0\nunaffected >=9.0.4-0.4-0\n\n\r\n\n",
+    b"patched ^0.1\nunaffected 0.1.0\npatched >= 0.2\n",
     b"patched ^ 3.0.1-0\r\npatched <  3.0.0,>= 3.0.0",
+];
+
+/// Inputs of `ranges` whose patched requirements overlap, with what is written.
+const MERGED: [(&[u8], &[u8]); 9] = [
+    (b"patched x\npatched <=0.1.2\n\r\n", b""),
+    (b"patched  *\npatched >=  1.10.11", b""),
+    (b"patched >  9.0.1\npatched  9.0.1", b"- 9.0.1\n"),
+    (b"patched >=1.*\npatched >10.1.1-9", b"- 1.0.0\n"),
+    (b"patched ^0.2.2-0.0.9.-\npatched *", b""),
+    (b"patched   1.0.0-a.0.1.1\npatched > 0.2.2", b"- 0.2.3-0\n"),
+    (
+        b"patched ~  0.9.2-alpha\n\npatched >=0.9.2\n",
+        b"- 0.9.2-alpha\n",
+    ),
+    (
+        b"patched   9.0.0\npatched >=9.0.4-0.4-0\n\n\r\n\n",
+        b"- 9.0.0\n",
+    ),
+    (
+        b"patched ^0.1\npatched 0.1.0\npatched >= 0.2\n",
+        b"- 0.1.0\n0.2.0-0 0.2.0\n",
+    ),
 ];
 
 /// Checks what a command writes for inputs, with status 0.
@@ -286,6 +308,7 @@ fn sampled_affected(rt: HostRuntime) -> Result<(), Fail> {
 #[test]
 fn sampled_ranges(rt: HostRuntime) -> Result<(), Fail> {
     expect_answers(&rt, "ranges", &RANGES)?;
+    expect_answers(&rt, "ranges", &MERGED)?;
     expect_malformed(&rt, "ranges", &RANGES_MALFORMED)?;
     expect_refused(&rt, "ranges", &RANGES_REFUSED)
 }
