@@ -50,8 +50,8 @@ pub same-intervals : (ls ms : Lists) → SameRequirements ls ms → IsPermutatio
 same-intervals ls ms p = IsPermutation-filter_map interval_of (ls.patched ++ ls.unaffected) (ms.patched ++ ms.unaffected) p
 
 -- the order within each list changes no acceptance
-pub same-accepted : (ls ms : Lists) → SameInEachList ls ms → accepted ms ≡ accepted ls
-same-accepted ls ms (p, q) =
+pub same_accepted : (ls ms : Lists) → SameInEachList ls ms → accepted ms ≡ accepted ls
+same_accepted ls ms (p, q) =
     let both = IsPermutation-append _ _ _ _ p q in
     let all = list_all-IsPermutation (λ r. is_some (interval_of r)) (ls.patched ++ ls.unaffected) (ms.patched ++ ms.unaffected) both in
     let same = IsPermutation-append _ _ _ _ (IsPermutation-map (mark true) _ _ (IsPermutation-filter_map interval_of ls.patched ms.patched p))

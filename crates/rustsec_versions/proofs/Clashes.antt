@@ -275,8 +275,8 @@ apart-clear [] h = refl
 apart-clear (c ∷ cs) h = rw (none-clash c cs (not-true _ (and-first _ _ h))) (apart-clear cs (and-second _ _ h))
 
 -- lists of which no two intervals overlap are accepted
-pub accepted-apart : (ls : Lists) → accepted_apart ls ≡ true → accepted ls ≡ true
-accepted-apart ls h =
+pub accepted_if_apart : (ls : Lists) → accepted_apart ls ≡ true → accepted ls ≡ true
+accepted_if_apart ls h =
     let all = and-first _ _ h in
     accepted-clear ls all ∙ apart-clear (marks ls) (rw (spans-marks ls) (and-second _ _ h))
 

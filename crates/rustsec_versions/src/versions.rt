@@ -72,6 +72,7 @@ impl Versions {
     ///
     /// `BadParam` if a requirement is not admissible or two clash, with a message that shows the
     /// requirement or the two; else `OutOfMemory`.
+    #[tactic(auto, using(crate::proofs::Agreement::same_accepted, crate::proofs::Clashes::accepted_if_apart))]
     pub fn new(
         alloc: Global,
         patched: Vec<VersionReq>,

@@ -232,8 +232,8 @@ impl OsvAdvisory {
     ///
     /// # Errors
     ///
-    /// `BadParam` if the advisory's requirements leave no range of affected versions, which is so for
-    /// the one requirement `*`; else `Parse` if the address of the package's page or of the advisory's
+    /// `BadParam` if the list of ranges is empty, which is so where one merged interval of the
+    /// requirements is unbounded on both sides, as that of `*`; else `Parse` if the address of the package's page or of the advisory's
     /// is refused; else `OutOfMemory`.
     pub fn from_rustsec(alloc: Global, advisory: Advisory, modified: &str) -> Result<OsvAdvisory>
         ensures ok { IfOk result (IsDocument advisory modified.now) }

@@ -81,7 +81,8 @@ fn events_of(
 ///
 /// # Errors
 ///
-/// `BadParam` if there is no range, which is so for the one requirement `*`; else `OutOfMemory`.
+/// `BadParam` if there is no range, which is so where one merged interval is unbounded on both sides, as
+/// that of `*`; else `OutOfMemory`.
 pub(crate) fn range_of(alloc: Global, versions: &Versions) -> Result<OsvJsonRange>
     ensures ok { IfOk result (IsRangeOf versions.now) }
     ensures events { IfOk result (λ r. (v : Parts) → IsVersion v → events_say r.events v ≡ affected versions.now v) }

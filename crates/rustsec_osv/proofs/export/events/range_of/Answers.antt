@@ -5,7 +5,7 @@ use Rattle.rustsec_osv.proofs.export.events.range_of.Goals as goal
 
 pub returns-clause-events : goal.returns-clause-events
 returns-clause-events c v valid =
-    let ranges = c.in_ok-ranges.ensures.ranges in
+    let ranges = c.in_ok-ranges.ensures.ranges.ranges in
     rw c.in_ok-events.ensures
     (events-say c.in_ok-ranges.ranges.items v valid ranges.in_order ranges.followed ∙ c.in_ok-ranges.ensures.agree v valid)
 
