@@ -62,6 +62,11 @@ refused a range (Err f) parts e is_range h =
     subst (λ (p : Metadata × Option Affected × Lists). IsRangeOf p.2 range → IsRefusal kind.Parse (references_of p.0 ≡ None) f
     → IsRefusedFor a.versions a.metadata f) (sym e) (λ is_range h. one-refused a.versions a.metadata f is_range.some h) is_range h
 
+-- a refusal of the range
+pub range-refused : (a : Advisory) (f : Failure) (parts : Metadata × Option Affected × Lists) → AreParts a parts
+    → IsRefusal kind.BadParam (HasUnboundedInterval parts.2) f → IsRefusedFor a.versions a.metadata f
+range-refused a f parts e h = inl (subst (λ (p : Metadata × Option Affected × Lists). IsRefusal kind.BadParam (HasUnboundedInterval p.2) f) e h)
+
 -- ---- valid events
 
 member-valid : (a : OsvAffected) (range : JsonRange) → a.ranges ≡ Some (range ∷ []) → IsRangeAgain range → IfThere (All IsRangeAgain) a.ranges
