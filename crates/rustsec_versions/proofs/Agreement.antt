@@ -1,5 +1,5 @@
 -- What accepted lists give: the ranges that their merged intervals leave, and what these hold.
-use Rattle.std.proofs.Common.{◌≡◌, ◌<◌, ◌+◌, ◌++◌, ◌↔◌, ℕ, zero, suc, Bool, true, false, List, [], ◌∷◌, Option, Some, None, length, get_or, map, refl, sym, ap, ◌∙◌, arith, inl, inr, IsPermutation}
+use Rattle.std.proofs.Common.{◌≡◌, ◌<◌, ◌+◌, ◌++◌, ◌↔◌, ℕ, zero, suc, Bool, true, false, List, [], ◌∷◌, Option, Some, None, length, get_or, map, refl, sym, ap, ◌∙◌, arith, subst, inl, inr, IsPermutation}
 use Rattle.std.specs.Prelude.{Contains, filter_map, is_some, not}
 use Rattle.std.specs.Borrow.{Bor}
 use Rattle.std.specs.List.{cons_option, list_any}
@@ -12,7 +12,7 @@ use Rattle.rustsec_versions.specs.Between.{AreGapsOf, gaps_between}
 use Rattle.rustsec_versions.specs.Gaps.{cut, gaps_from, start_order}
 use Rattle.rustsec_versions.specs.Interval.{Endpoint, Interval, exclusive, holds, inclusive, overlap, unbounded}
 use Rattle.rustsec_versions.specs.Lists.{Lists, accepted, accepted_apart, affected, all_admissible, intervals}
-use Rattle.rustsec_versions.specs.Merged.{AreMerged}
+use Rattle.rustsec_versions.specs.Merged.{AreMerged, IsJoined}
 use Rattle.rustsec_versions.specs.Precedence.{IsVersion, precedence}
 use Rattle.rustsec_versions.specs.Ranges.{AreRanges, HasCuts, Range, SameInEachList, SameRequirements, affects, has_bound, in_ranges, lower_cut, upper_cut, whole}
 use Rattle.rustsec_versions.specs.Requirement.{interval_of, is_admissible, is_end, is_start}
@@ -20,18 +20,19 @@ use Rattle.rustsec_versions.specs.StoredRanges.{AreMergedRanges, AreRangesOf, Ha
 use Rattle.rustsec_versions.specs.Sweep.{Marked, all_swept, are_clear, mark, marked, marks, spans}
 use Rattle.rustsec_versions.proofs.AreRanges.{AreFit, AreRanges-IsPermutation, admissible_shuffled, gaps-AreRanges, sound_shuffled}
 use Rattle.rustsec_versions.proofs.Chain.{AllAdmissible, StartsRise}
-use Rattle.rustsec_versions.proofs.Clashes.{AllSound, accepted-all, accepted-clear, accepted-refused, intervals-sound, spans-marks}
+use Rattle.rustsec_versions.proofs.Clashes.{AllSound, accepted-all, accepted-clear, accepted-refused, apart-intervals, intervals-sound, spans-marks}
 use Rattle.rustsec_versions.proofs.Clear.{clear-alone, clear_shuffled}
 use Rattle.rustsec_versions.proofs.Complement.{AllFit, IsRow, fit-held, fit-valid, from-nothing, gaps-cut, gaps-fit, gaps-hold, gaps-in_turn, row}
 use Rattle.rustsec_versions.proofs.Contained.{contains-from_map, contains-here, contains-map}
 use Rattle.rustsec_versions.proofs.Contraction.{apart-merged}
 use Rattle.rustsec_versions.proofs.LeastAbove.{successor-there}
-use Rattle.rustsec_versions.proofs.MergedFit.{merged-alone, merged-fit, merged-whole}
+use Rattle.rustsec_versions.proofs.MergedFit.{joined-alone, merged-fit, merged-whole}
 use Rattle.rustsec_versions.proofs.OneMerge.{merged-one, merged-permutation, merged-ranges-one}
 use Rattle.rustsec_versions.proofs.OwnOrder.{all-affect, cuts-plain, gaps-plain}
 use Rattle.rustsec_versions.proofs.RangeEnds.{list_all-IsPermutation}
 use Rattle.rustsec_versions.proofs.Shuffled.{IsPermutation-filter_map, shuffled}
 use Rattle.rustsec_versions.proofs.Sound.{admissible-end, admissible-start, and-second, interval_of-admissible}
+use Rattle.rustsec_versions.proofs.Unique.{AreRanges-unique}
 use Rattle.rustsec_versions.proofs.Swept.{IsSwept, all_swept-none, all_swept-some}
 
 -- ---- the intervals of requirements are admissible
@@ -124,8 +125,8 @@ module _ (ls : Lists) (all : all_admissible (ls.patched ++ ls.unaffected) ≡ tr
     pub walk-AreGapsOf : AreGapsOf ls (gaps_between unbounded (spans ms))
     walk-AreGapsOf = record {
       ranges = record {
-        accepts = same-clear ∙ walk-swept.clear;
         ranges = record {
+          accepts = same-clear ∙ walk-swept.clear;
           merged = spans ms;
           are_merged = walk-merged;
           ranges = rw walk-cut (gaps-AreRanges (spans ms) (spans ms) (IsPermutation-refl (spans ms)) walk-swept.fit walk-swept.rise);
@@ -163,12 +164,9 @@ module _ (ls : Lists) where
       let (x, (at, is)) = contains-from_map (λ m. m.interval) (marks ls) j (rw (spans-marks ls) d) in
       sym is ∙ clear-alone (marks ls) clear (mark false i) x there at refl (rw is near)
 
-  pub kept-alone : accepted ls ≡ true → (ms : List Interval) → AreMerged (intervals ls) ms
-      → (i : Interval) → Contains (filter_map interval_of ls.unaffected) i → Contains ms i
-  kept-alone accepts ms m i c =
-      let there : Contains (intervals ls) i =
-      rw (filter_map-append interval_of ls.patched ls.unaffected) (Contains-append_right (filter_map interval_of ls.patched) _ i c) in
-      merged-alone (intervals ls) ms i own-sound own-admissible there (λ j d near. unaffected-alone accepts i j c d near) m
+  -- so no chain joins it with another one
+  pub kept-alone : accepted ls ≡ true → (i j : Interval) → Contains (filter_map interval_of ls.unaffected) i → IsJoined (intervals ls) i j → j ≡ i
+  kept-alone accepts i j c h = joined-alone i (λ k at near. unaffected-alone accepts i k c at near) h refl
 
   module _ (rs : List Range) (kept : AreRangesOf ls rs) where
     pub kept-empty : (rs ≡ []) ↔ HasUnboundedInterval ls
@@ -189,12 +187,15 @@ module _ (ls : Lists) where
     kept-length us r = ap length (kept-order ls us (IsPermutation-refl (ls.patched ++ ls.unaffected)) r)
 
     -- intervals of which no two overlap are their own merged ones
-    pub kept-apart : accepted_apart ls ≡ true → AreRanges (intervals ls) rs
-    kept-apart h =
+    pub kept-apart : accepted_apart ls ≡ true → (us : List Range) → AreRanges (intervals ls) us ↔ (us ≡ rs)
+    kept-apart h us =
         let r = kept.ranges in
-        let itself = apart-merged (intervals ls) own-admissible (and-second _ _ h) in
-        AreRanges-IsPermutation r.merged (intervals ls) rs
-        (merged-one (intervals ls) (intervals ls) r.merged (intervals ls) own-sound own-admissible (IsPermutation-refl (intervals ls)) r.are_merged itself) r.ranges
+        let itself = apart-merged (intervals ls) own-admissible (apart-intervals ls h) in
+        let own = AreRanges-IsPermutation r.merged (intervals ls) rs
+        (merged-one (intervals ls) (intervals ls) r.merged (intervals ls) own-sound own-admissible (IsPermutation-refl (intervals ls)) r.are_merged itself) r.ranges in (
+          λ u. AreRanges-unique (intervals ls) (intervals ls) rs us (IsPermutation-refl (intervals ls)) own-sound own u,
+          λ e. rw e own,
+        )
 
 -- ---- cuts
 

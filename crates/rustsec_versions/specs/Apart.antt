@@ -1,4 +1,4 @@
--- Intervals that are apart: no one overlaps a later one of the list.
+-- Intervals that are apart: none overlaps a later one of the list.
 -- It carries meaning: public contracts cite it.
 use Rattle.std.specs.Prelude.{Bool, true, not, ◌&&◌, List, [], ◌∷◌}
 use Rattle.std.specs.List.{list_any}

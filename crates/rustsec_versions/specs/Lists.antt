@@ -3,7 +3,6 @@
 use Rattle.std.specs.Prelude.{◌&&◌, ◌==◌, ℕ, not, Bool, true, false, List, [], ◌++◌, Option, Some, None, filter_map, is_some, map}
 use Rattle.std.specs.List.{enumerate_from, list_all, list_any}
 use Rattle.semver.specs.Parse.{Held, Parts}
-use Rattle.rustsec_versions.specs.Apart.{are_apart}
 use Rattle.rustsec_versions.specs.Precedence.{precedence}
 use Rattle.rustsec_versions.specs.Interval.{Interval, holds, overlap}
 use Rattle.rustsec_versions.specs.Requirement.{interval_of}
@@ -77,9 +76,9 @@ some_clash ps = list_any (λ p. list_any (clash p) ps) ps
 unfoldable pub accepted : Lists → Bool
 accepted ls = all_admissible (ls.patched ++ ls.unaffected) && not (some_clash (joined ls))
 
--- lists of which no two intervals overlap, in one list or in both
+-- the same where no two requirements may overlap, wherever they stand: as if all were unaffected ones
 abbrev pub accepted_apart : Lists → Bool
-accepted_apart ls = all_admissible (ls.patched ++ ls.unaffected) && are_apart precedence (intervals ls)
+accepted_apart ls = accepted (record { patched = []; unaffected = ls.patched ++ ls.unaffected })
 
 -- ---- verdicts
 

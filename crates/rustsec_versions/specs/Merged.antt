@@ -25,7 +25,7 @@ ends_by (exclusive d) (inclusive e) = is_at_most d e
 ends_by (inclusive d) (exclusive e) = is_below d e
 ends_by (inclusive d) (inclusive e) = is_at_most d e
 
--- a chain of intervals of a list joins two: each overlaps the next one
+-- a chain of intervals of a list joins two: each overlaps the next one; an interval is joined with itself
 pub data IsJoined (is : List Interval) : Interval → Interval → Type 0 where
   itself : (i : Interval) → IsJoined is i i
   onward : (i j : Interval) {k : Interval} → Contains is j → overlap precedence i j ≡ true → IsJoined is j k → IsJoined is i k
@@ -37,7 +37,8 @@ pub record IsMergedOf (is : List Interval) (i m : Interval) : Type 0 where
   pub end : (j : Interval) × (Contains is j × (IsJoined is i j × (j.end ≡ m.end)))
   pub greatest : (j : Interval) → Contains is j → IsJoined is i j → ends_by j.end m.end ≡ true
 
--- the merged intervals of a list: that of each of its intervals, and no other; none stands twice, since no two overlap
+-- the merged intervals of a list: that of each of its intervals, and no other. No two of them overlap, so none stands
+-- twice, as an interval whose start is at or below its end overlaps itself
 pub record AreMerged (is ms : List Interval) : Type 0 where
   pub each : (i : Interval) → Contains is i → (m : Interval) × (Contains ms m × IsMergedOf is i m)
   pub only : (m : Interval) → Contains ms m → (i : Interval) × (Contains is i × IsMergedOf is i m)

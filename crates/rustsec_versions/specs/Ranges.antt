@@ -1,5 +1,5 @@
 -- Ranges of affected versions, `[introduced, fixed)`, either side possibly missing: what one means, what a list of
--- them means, and which list the requirements of an advisory have.
+-- them means, and which list intervals have of which no two overlap.
 -- It carries meaning: public contracts cite it.
 use Rattle.std.specs.Prelude.{◌≡◌, ◌&&◌, ◌+◌, ◌≤◌, ◌↔◌, Bool, true, false, List, [], ◌∷◌, ◌++◌, Option, Some, None, filter_map, is_none, is_some, length}
 use Rattle.std.specs.List.{AllAdjacentBelow, list_all, list_any}
@@ -113,7 +113,7 @@ pub record AreRanges (is : List Interval) (rs : List Range) : Type 0 where
   -- where none lacks an end
   pub first : (r : Range) (rest : List Range) → rs ≡ r ∷ rest → is_none r.introduced ≡ list_all (λ i. has_bound i.start) is
   pub last : (r : Range) (front : List Range) → rs ≡ front ++ r ∷ [] → is_none r.fixed ≡ list_all (λ i. has_bound i.end) is
-  -- at most one more range than intervals, and none at all only where the one interval has no bounds
+  -- at most one more range than intervals, and none at all exactly where the one interval has no bounds
   pub bound : length rs ≤ length is + 1
   pub empty : (rs ≡ []) ↔ (is ≡ whole ∷ [])
 

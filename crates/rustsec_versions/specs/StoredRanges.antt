@@ -9,9 +9,10 @@ use Rattle.rustsec_versions.specs.Lists.{Lists, accepted, affected, intervals}
 use Rattle.rustsec_versions.specs.Precedence.{IsVersion}
 use Rattle.rustsec_versions.specs.Ranges.{AreRanges, Range, affects, in_ranges, whole}
 
--- the ranges between the merged intervals of lists. In accepted lists only patched requirements overlap others, so the
--- interval of an unaffected one is its own merged interval
+-- the ranges between the merged intervals of accepted lists. Both lists are merged together: only patched requirements
+-- overlap there, and only one another, so a chain joins patched ones alone, and an unaffected one has its own interval
 pub record AreMergedRanges (ls : Lists) (rs : List Range) : Type 0 where
+  pub accepts : accepted ls ≡ true
   pub merged : List Interval
   pub are_merged : AreMerged (intervals ls) merged
   pub ranges : AreRanges merged rs
@@ -23,7 +24,6 @@ HasUnboundedInterval ls = (ms : List Interval) × (AreMerged (intervals ls) ms �
 -- the ranges of accepted lists, which have the valid versions that the lists leave affected, in precedence and in
 -- the order of `Version`
 pub record AreRangesOf (ls : Lists) (rs : List Range) : Type 0 where
-  pub accepts : accepted ls ≡ true
   pub ranges : AreMergedRanges ls rs
   pub agree : (v : Parts) → IsVersion v → in_ranges rs v ≡ affected ls v
   pub agree_affects : (v : Parts) → IsVersion v → list_any (λ r. affects r v) rs ≡ affected ls v

@@ -1,5 +1,6 @@
--- The sweep that merges intervals: over intervals in the order of their starts, each one is taken into the one before it
--- where the two overlap and both stand in the patched list.
+-- The sweep that merges intervals: over intervals in the order of their starts, each one is taken into the merged interval so
+-- far where the two overlap and both stand in the patched list. Where they overlap and one does not, two clash, and there is
+-- no answer.
 -- It only helps proofs: what public contracts say of merged intervals stands in Merged.
 use Rattle.std.specs.Prelude.{Bool, true, false, not, ◌&&◌, List, [], ◌∷◌, ◌++◌, Option, Some, None, cond, filter_map, map, option_map}
 use Rattle.std.specs.List.{list_any}

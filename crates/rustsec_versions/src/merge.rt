@@ -7,7 +7,7 @@ ghost use Rattle.rustsec_versions.specs.Sweep.{all_swept, later_end, stretched_m
 ghost use Rattle.rustsec_versions.specs.Views.{endpoint_of};
 
 use crate::interval::{Bound, ends_by, reaches};
-use crate::placed::Placed;
+use crate::marked::Marked;
 use std::alloc::{AllocError, Global};
 use std::marker::Model;
 
@@ -41,13 +41,13 @@ fn later_end<'a>(first: &'a Bound, second: &'a Bound) -> &'a Bound
 
 impl<'a> Merged<'a> {
     /// The interval of one requirement.
-    fn of(placed: &'a Placed) -> Merged<'a>
-        ensures { result ≡ placed.now }
+    fn of(one: &'a Marked) -> Merged<'a>
+        ensures { result ≡ one.now }
     {
         Merged {
-            start: placed.interval.start(),
-            end: placed.interval.end(),
-            is_patched: placed.is_patched,
+            start: one.interval.start(),
+            end: one.interval.end(),
+            is_patched: one.is_patched,
         }
     }
 
@@ -66,21 +66,21 @@ impl<'a> Merged<'a> {
     }
 
     /// Whether each one's start is at or below the other's end.
-    fn overlaps(&self, next: &Placed) -> bool
+    fn overlaps(&self, next: &Marked) -> bool
         ensures { result ≡ overlap version_order self.now.interval next.now.interval }
     {
         reaches(self.start, next.interval.end()) && reaches(next.interval.start(), self.end)
     }
 
     /// Whether both stand in the patched list.
-    fn is_patched_with(&self, next: &Placed) -> bool
+    fn is_patched_with(&self, next: &Marked) -> bool
         ensures { result ≡ (self.now.is_patched && next.now.is_patched) }
     {
         self.is_patched && next.is_patched
     }
 
     /// The interval that goes on to the end of the next one, if that is later.
-    fn stretched(&self, next: &'a Placed) -> Merged<'a>
+    fn stretched(&self, next: &'a Marked) -> Merged<'a>
         ensures { result ≡ stretched_mark self.now next.now }
     {
         Merged {
@@ -94,8 +94,8 @@ impl<'a> Merged<'a> {
 /// The merged intervals from one on, if no two clash.
 fn sweep<'a>(
     alloc: Global,
-    first: &'a Placed,
-    others: &[&'a Placed],
+    first: &'a Marked,
+    others: &[&'a Marked],
 ) -> std::result::Result<Option<Vec<Merged<'a>>>, AllocError>
     ensures { IfOk result (λ o. option_map (λ v. v.items) o ≡ swept first.now (map (λ x. x.now) others.now)) }
 {
@@ -118,7 +118,7 @@ fn sweep<'a>(
 /// The merged intervals of some that stand in the order of their starts, if no two clash.
 pub(crate) fn merged_intervals<'a>(
     alloc: Global,
-    sorted: &[&'a Placed],
+    sorted: &[&'a Marked],
 ) -> std::result::Result<Option<Vec<Merged<'a>>>, AllocError>
     ensures { IfOk result (λ o. option_map (λ v. v.items) o ≡ all_swept (map (λ x. x.now) sorted.now)) }
 {

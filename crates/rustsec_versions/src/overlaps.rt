@@ -5,26 +5,27 @@ ghost use Rattle.rustsec_versions.specs.Failure.{IsMemory, IsOfKind};
 
 use crate::error::{Error, ErrorKind, Result};
 use crate::interval::ends_by;
-use crate::placed::Placed;
+use crate::marked::Marked;
 use crate::print::quoted;
 use semver::VersionReq;
 use std::alloc::Global;
 
 /// The one of two intervals that ends later, if there are two.
-fn later<'a, 'b>(first: Option<&'b Placed<'a>>, second: &'b Placed<'a>) -> &'b Placed<'a> {
+fn later<'a, 'b>(first: Option<&'b Marked<'a>>, second: &'b Marked<'a>) -> &'b Marked<'a> {
     match first {
         Some(first) if ends_by(second.interval.end(), first.interval.end()) => first,
         _ => second,
     }
 }
 
-/// Two requirements that clash, by their intervals in the order of their starts: the first that one before
-/// it reaches, which is the one that ends last.
-fn clashing<'a>(sorted: &[&Placed<'a>]) -> Option<(&'a VersionReq, &'a VersionReq)> {
+/// Two requirements that clash, by their intervals in the order of their starts: the first that overlaps one
+/// before it, if not both are patched. It is compared with the one that ends last, of all or, if it is
+/// patched, of the unaffected ones.
+fn clashing<'a>(sorted: &[&Marked<'a>]) -> Option<(&'a VersionReq, &'a VersionReq)> {
     let mut last = None;
     let mut last_unaffected = None;
     for next in sorted {
-        let before: Option<&Placed> = if next.is_patched {
+        let before: Option<&Marked> = if next.is_patched {
             last_unaffected
         } else {
             last
@@ -52,7 +53,7 @@ fn message_of(alloc: Global, first: &VersionReq, second: &VersionReq) -> Result<
     Ok(message)
 }
 
-/// The refusal of two requirements that overlap.
+/// The refusal of two requirements that clash.
 fn refused(alloc: Global, first: &VersionReq, second: &VersionReq) -> Error
     ensures { IsOfKind ErrorKind.BadParam result }
 {
@@ -63,7 +64,7 @@ fn refused(alloc: Global, first: &VersionReq, second: &VersionReq) -> Error
 }
 
 /// The refusal of requirements of which two clash: its message names the two.
-pub(crate) fn overlap_refused(alloc: Global, sorted: &[&Placed]) -> Error
+pub(crate) fn overlap_refused(alloc: Global, sorted: &[&Marked]) -> Error
     ensures { IsOfKind ErrorKind.BadParam result }
 {
     match clashing(sorted) {

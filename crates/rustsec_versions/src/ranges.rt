@@ -8,7 +8,7 @@ ghost use Rattle.rustsec_versions.specs.Failure.{IsMemory};
 ghost use Rattle.rustsec_versions.specs.Gaps.{HasValidBounds, IsValidBound, cut};
 ghost use Rattle.rustsec_versions.specs.Interval.{Interval};
 ghost use Rattle.rustsec_versions.specs.Lists.{Lists, accepted_apart, affected, intervals};
-ghost use Rattle.rustsec_versions.specs.Merged.{AreMerged};
+ghost use Rattle.rustsec_versions.specs.Merged.{AreMerged, IsJoined};
 ghost use Rattle.rustsec_versions.specs.Precedence.{IsVersion};
 ghost use Rattle.rustsec_versions.specs.Ranges.{AreRanges, HasCuts, Range, SameRequirements, affects, affects_from, affects_till, in_ranges, lower_cut, upper_cut};
 ghost use Rattle.rustsec_versions.specs.Requirement.{interval_of};
@@ -162,21 +162,22 @@ pub fn ranges_for_advisory(alloc: Global, versions: &Versions) -> Result<Vec<Osv
     // Each merged interval with a start has a lower cut, and each with an end an upper one.
     ensures has_cuts { (ms : List Interval) → AreMerged (intervals versions.now) ms → All HasCuts ms }
 
-    // The interval of an unaffected requirement is merged with no other one.
-    ensures alone { (ms : List Interval) → AreMerged (intervals versions.now) ms
-        → (i : Interval) → Contains (filter_map interval_of versions.now.unaffected) i → Contains ms i }
+    // No chain joins the interval of an unaffected requirement with another one.
+    ensures alone { (i j : Interval) → Contains (filter_map interval_of versions.now.unaffected) i
+        → IsJoined (intervals versions.now) i j → j ≡ i }
 
     // The list is empty exactly where one merged interval is unbounded on both sides.
     ensures empty { IfOk result (λ v. (v.items ≡ []) ↔ HasUnboundedInterval versions.now) }
 
-    // Intervals of which no two overlap have the gaps between them as their ranges.
-    ensures apart { IfOk result (λ v. accepted_apart versions.now ≡ true → AreRanges (intervals versions.now) v.items) }
+    // Where no two requirements overlap, the list is that of the intervals themselves, and no other list is.
+    ensures apart { IfOk result (λ v. accepted_apart versions.now ≡ true → (rs : List Range)
+        → AreRanges (intervals versions.now) rs ↔ (rs ≡ v.items)) }
 
     // A valid version is affected exactly where a range has it, in precedence and in the order of `Version`.
     ensures agree { IfOk result (λ v. (w : Parts) → IsVersion w → in_ranges v.items w ≡ affected versions.now w) }
     ensures affects { IfOk result (λ v. (w : Parts) → IsVersion w → list_any (λ r. affects r w) v.items ≡ affected versions.now w) }
 
-    // Neither the order of the requirements nor the list that one stands in changes the ranges.
+    // Neither the order of the requirements nor the list that one stands in changes the ranges of accepted lists.
     ensures order { IfOk result (λ v. (ls : Lists) (rs : List Range) → SameRequirements versions.now ls
         → AreMergedRanges ls rs → rs ≡ v.items) }
     ensures err { IfErr result IsMemory }

@@ -15,9 +15,9 @@ ghost use Rattle.rustsec_versions.specs.Views.{comparators_of, lists_of};
 
 use crate::error::{Error, ErrorKind, Result};
 use crate::gap::{Gap, gaps};
+use crate::marked::{by_start, marked_intervals};
 use crate::merge::merged_intervals;
 use crate::overlaps::overlap_refused;
-use crate::placed::{by_start, placed_intervals};
 use crate::ranges::{OsvRange, ranges_of};
 use crate::requirements::Requirements;
 use crate::search::in_gaps;
@@ -54,8 +54,8 @@ fn gaps_of(alloc: Global, patched: &Requirements, unaffected: &Requirements) -> 
     ensures err { IfErr result (IsRefusal ErrorKind.BadParam
         (accepted (record { patched = patched.now; unaffected = unaffected.now }) ≡ false)) }
 {
-    let placed = placed_intervals(alloc, patched, unaffected)?;
-    let sorted = by_start(alloc, &placed)?;
+    let all = marked_intervals(alloc, patched, unaffected)?;
+    let sorted = by_start(alloc, &all)?;
     match merged_intervals(alloc, &sorted)? {
         Some(intervals) => {
             let gaps = gaps(alloc, &intervals)?;
@@ -85,7 +85,7 @@ impl Versions {
         ensures order { (ls : Lists) → SameInEachList (lists_of patched.items unaffected.items) ls
             → accepted ls ≡ accepted (lists_of patched.items unaffected.items) }
 
-        // Lists of which no two intervals overlap are accepted.
+        // Lists that are accepted with every requirement as an unaffected one are accepted.
         ensures apart { accepted_apart (lists_of patched.items unaffected.items) ≡ true
             → accepted (lists_of patched.items unaffected.items) ≡ true }
         ensures err { IfErr result (IsRefusal ErrorKind.BadParam (accepted (lists_of patched.items unaffected.items) ≡ false)) }

@@ -94,7 +94,7 @@ pub(crate) fn range_of(alloc: Global, versions: &Versions) -> Result<OsvJsonRang
         return Err(Error::new(
             alloc,
             ErrorKind::BadParam,
-            "the requirement `*` leaves no version affected, so there is no range to export",
+            "the requirements leave no version affected, so there is no range to export",
         ));
     }
     let events = events_of(alloc, ranges)?;

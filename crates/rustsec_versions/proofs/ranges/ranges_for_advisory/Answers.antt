@@ -33,7 +33,7 @@ pub returns-in_err-ranges-clause-has_cuts : goal.returns-in_err-ranges-clause-ha
 returns-in_err-ranges-clause-has_cuts c = all-cuts c.args.versions.now
 
 pub returns-clause-alone : goal.returns-clause-alone
-returns-clause-alone c = kept-alone c.args.versions.now c.in_ok-ranges.ensures.ok.accepts
+returns-clause-alone c = kept-alone c.args.versions.now c.in_ok-ranges.ensures.accepted
 
 pub returns-in_err-ranges-clause-alone : goal.returns-in_err-ranges-clause-alone
 returns-in_err-ranges-clause-alone c = kept-alone c.args.versions.now c.ranges-2.ensures.accepted

@@ -23,7 +23,7 @@ returns-clause-build c = λ b. affected-build c.args.self.now (parts_of c.args.v
 pub returns-clause-accepted : goal.returns-clause-accepted
 returns-clause-accepted c =
     let kept : AreGapsOf c.args.self.now c.deref.result.now = rw (c.deref.ensures.value, ← c.self.view_is) c.self.invariant in
-    kept.ranges.accepts
+    kept.ranges.ranges.accepts
 
 pub returns-clause-count : goal.returns-clause-count
 returns-clause-count c = λ rs digits r d.

@@ -8,4 +8,4 @@ returns-in_err-gaps-clause-err c =
     rw (p.1, p.2) bad
 
 pub returns-clause-accepted : goal.returns-clause-accepted
-returns-clause-accepted c = (rw (c.from-patched.ensures, c.from-unaffected.ensures) at c.in_ok-gaps.ensures.ok).ranges.accepts
+returns-clause-accepted c = (rw (c.from-patched.ensures, c.from-unaffected.ensures) at c.in_ok-gaps.ensures.ok).ranges.ranges.accepts

@@ -1,6 +1,6 @@
 use Rattle.std.proofs.Common.{refl}
 use Rattle.semver.specs.Order.{strip_zeros}
-use Rattle.rustsec_versions.proofs.placed.compare_starts.Goals as goal
+use Rattle.rustsec_versions.proofs.marked.compare_starts.Goals as goal
 
 pub returns-in-Unbounded-Unbounded : goal.returns-in-Unbounded-Unbounded
 unfolding strip_zeros

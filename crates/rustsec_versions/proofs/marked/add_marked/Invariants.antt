@@ -2,11 +2,11 @@ use Rattle.std.proofs.Common.{◌≡◌, ◌++◌, map, take, true}
 use Rattle.rustsec_versions.specs.Lists.{all_admissible}
 use Rattle.rustsec_versions.specs.Sweep.{marked}
 use Rattle.rustsec_versions.specs.Views.{comparators_of}
-use Rattle.rustsec_versions.proofs.placed.add_placed.Given as goal
+use Rattle.rustsec_versions.proofs.marked.add_marked.Given as goal
 
 -- the requirements so far are admissible, and their intervals were appended
 abbrev pub invariant-loop-requirement : goal.invariant-loop-requirement
 invariant-loop-requirement l = record {
-  added : l.placed.items ≡ l.fn.placed.items ++ marked l.is_patched (map comparators_of (take l.requirement-index l.reqs));
+  added : l.intervals.items ≡ l.fn.intervals.items ++ marked l.is_patched (map comparators_of (take l.requirement-index l.reqs));
   admissible : all_admissible (map comparators_of (take l.requirement-index l.reqs)) ≡ true;
 }

@@ -18,13 +18,13 @@ use std::marker::Model;
 
 /// The interval of a requirement, and whether this stands in the patched list.
 #[derive(Drop)]
-pub(crate) struct Placed<'a> {
+pub(crate) struct Marked<'a> {
     pub(crate) interval: UnaffectedRange,
     pub(crate) requirement: &'a VersionReq,
     pub(crate) is_patched: bool,
 }
 
-impl<'a> Model for Placed<'a> {
+impl<'a> Model for Marked<'a> {
     ghost use Rattle.rustsec_versions.specs.Sweep.{Marked};
 
     ghost Value = { Marked };
@@ -33,42 +33,42 @@ impl<'a> Model for Placed<'a> {
 }
 
 /// Appends the interval of each requirement of one list.
-fn add_placed<'a>(
+fn add_marked<'a>(
     alloc: Global,
     reqs: &'a [VersionReq],
     is_patched: bool,
-    placed: &mut Vec<Placed<'a>>,
+    intervals: &mut Vec<Marked<'a>>,
 ) -> Result<()>
-    ensures ok { OnOk result (placed.new.items ≡ placed.old.items ++ marked is_patched (map comparators_of reqs.now)) }
+    ensures ok { OnOk result (intervals.new.items ≡ intervals.old.items ++ marked is_patched (map comparators_of reqs.now)) }
     ensures admissible { OnOk result (all_admissible (map comparators_of reqs.now) ≡ true) }
     ensures err { IfErr result (IsRefusal ErrorKind.BadParam (all_admissible (map comparators_of reqs.now) ≡ false)) }
 {
     for requirement in reqs {
         let interval = UnaffectedRange::from_req(alloc, requirement)?;
-        let one = Placed {
+        let one = Marked {
             interval,
             requirement,
             is_patched,
         };
-        placed.push(one).map_err(|_| AllocError)?;
+        intervals.push(one).map_err(|_| AllocError)?;
     }
     Ok(())
 }
 
 /// The intervals of the requirements of both lists.
-pub(crate) fn placed_intervals<'a>(
+pub(crate) fn marked_intervals<'a>(
     alloc: Global,
     patched: &'a Requirements,
     unaffected: &'a Requirements,
-) -> Result<Vec<Placed<'a>>>
+) -> Result<Vec<Marked<'a>>>
     ensures ok { IfOk result (λ v. v.items ≡ marks (record { patched = patched.now; unaffected = unaffected.now })) }
     ensures admissible { OnOk result (all_admissible (patched.now ++ unaffected.now) ≡ true) }
     ensures err { IfErr result (IsRefusal ErrorKind.BadParam (all_admissible (patched.now ++ unaffected.now) ≡ false)) }
 {
-    let mut placed = Vec::new(alloc);
-    add_placed(alloc, patched.as_slice(), true, &mut placed)?;
-    add_placed(alloc, unaffected.as_slice(), false, &mut placed)?;
-    Ok(placed)
+    let mut intervals = Vec::new(alloc);
+    add_marked(alloc, patched.as_slice(), true, &mut intervals)?;
+    add_marked(alloc, unaffected.as_slice(), false, &mut intervals)?;
+    Ok(intervals)
 }
 
 /// The order of starts.
@@ -89,30 +89,30 @@ fn compare_starts(a: &Bound, b: &Bound) -> Ordering
 /// References to intervals.
 fn references<'a, 'b>(
     alloc: Global,
-    placed: &'b [Placed<'a>],
-) -> std::result::Result<Vec<&'b Placed<'a>>, AllocError>
-    ensures { IfOk result (λ v. map (λ x. x.now) v.items ≡ placed.now) }
+    intervals: &'b [Marked<'a>],
+) -> std::result::Result<Vec<&'b Marked<'a>>, AllocError>
+    ensures { IfOk result (λ v. map (λ x. x.now) v.items ≡ intervals.now) }
 {
-    placed.iter().collect(alloc)
+    intervals.iter().collect(alloc)
 }
 
 /// Sorts references to intervals by their starts.
-fn sort_by_start<'a, 'b>(placed: &mut Vec<&'b Placed<'a>>) -> std::result::Result<(), AllocError>
-    ensures same { IsPermutation placed.old.items placed.new.items }
-    ensures sorted { OnOk result (IsSortedByKey (λ x. x.now.interval.start) start_order placed.new.items) }
+fn sort_by_start<'a, 'b>(intervals: &mut Vec<&'b Marked<'a>>) -> std::result::Result<(), AllocError>
+    ensures same { IsPermutation intervals.old.items intervals.new.items }
+    ensures sorted { OnOk result (IsSortedByKey (λ x. x.now.interval.start) start_order intervals.new.items) }
 {
-    placed.sort_by(|a, b| compare_starts(a.interval.start(), b.interval.start()))
+    intervals.sort_by(|a, b| compare_starts(a.interval.start(), b.interval.start()))
 }
 
 /// References to intervals, in the order of their starts.
 pub(crate) fn by_start<'a, 'b>(
     alloc: Global,
-    placed: &'b [Placed<'a>],
-) -> std::result::Result<Vec<&'b Placed<'a>>, AllocError>
-    ensures same { IfOk result (λ v. IsPermutation placed.now (map (λ x. x.now) v.items)) }
+    intervals: &'b [Marked<'a>],
+) -> std::result::Result<Vec<&'b Marked<'a>>, AllocError>
+    ensures same { IfOk result (λ v. IsPermutation intervals.now (map (λ x. x.now) v.items)) }
     ensures sorted { IfOk result (λ v. IsSortedByKey (λ x. x.now.interval.start) start_order v.items) }
 {
-    let mut sorted = references(alloc, placed)?;
+    let mut sorted = references(alloc, intervals)?;
     sort_by_start(&mut sorted)?;
     Ok(sorted)
 }
