@@ -184,7 +184,7 @@ class Maker:
         return self.entries(lines)
 
     def versions(self):
-        lines = {"patched": self.texts(REQUIREMENTS, 1)}
+        lines = {"patched": self.texts(REQUIREMENTS, 3)}
         if self.r.random() < 0.4:
             lines["unaffected"] = self.texts((["< 0.1.0", "< 0.3", "=0.1.0"], ["*", "1.*", "x"]), 1)
         if self.r.random() < 0.15:

@@ -54,12 +54,12 @@ def starts_of_an_advisory(command, data, ours, theirs):
 
 def lists_of(text):
     """The patched and the unaffected requirements of an advisory, as lines of `ranges`."""
-    front = re.match(r"\s*```toml\s*\n(.*?)\n```", text, re.S)
+    front = re.match(r"```toml(.*?)\r?\n```", text, re.S)
     try:
         lists = tomllib.loads(front[1])["versions"]
-    except (TypeError, KeyError, ValueError):
+        return "".join(f"{word} {r}\n" for word in ("patched", "unaffected") for r in lists.get(word, [])).encode()
+    except (TypeError, KeyError, ValueError, AttributeError):
         return b""
-    return "".join(f"{word} {r}\n" for word in ("patched", "unaffected") for r in lists.get(word, [])).encode()
 
 
 def has_merged(text):
@@ -69,6 +69,11 @@ def has_merged(text):
 def merged_patched_of_an_advisory(command, data, ours, theirs):
     """The overlap above, in the list of an advisory: there ours reads it, and its export may be empty."""
     return theirs in ((b"refused: parse error\n", 2), REFUSED, PANIC) and ours != theirs and has_merged(data)
+
+
+def starts_in_some_file(command, data, ours, theirs):
+    """The two starts, in a file of a database that ours reads, and may refuse for where it stands."""
+    return starts_of_an_advisory(command, data, (ours[0], 0), theirs)
 
 
 def fault_of_a_source(command, data, ours, theirs):
@@ -103,7 +108,7 @@ def checksum_of_another_form(command, data, ours, theirs):
 
 def files_of(data):
     """The files of a database and its lockfile, by their paths, out of their joined bytes."""
-    paths = rb"(?:^|\n)(/Cargo\.lock|/root/(?:crates|rust)/[^/\n]*(?:/[^/\n]*)?)\n"
+    paths = rb"(?:^|\n)(/Cargo\.lock|/(?:root|database)/(?:crates|rust)/[^/\n]*(?:/[^/\n]*)?)\n"
     _, *parts = re.split(paths, data)
     return dict(zip(parts[::2], parts[1::2]))
 
@@ -112,7 +117,7 @@ def first_of_faults(command, data, ours, theirs):
     """Ours reads all files before it loads the first, in the order of their names; the Rust crate goes file by file, in the
     disk's order. So with two faults in a database each may meet another one first."""
     refused = ours[1] == 2 and ours[0].startswith(b"refused: ")
-    return refused and theirs[1] in (2, 101) and sum(path.startswith(b"/root/") for path in files_of(data)) > 1
+    return refused and theirs[1] in (2, 101) and sum(not path.endswith(b"Cargo.lock") for path in files_of(data)) > 1
 
 
 def merged_patched_in_some_file(command, data, ours, theirs):
@@ -161,7 +166,7 @@ OF_OSV = [
     star_alone, edition_of_toml, nesting, merged_patched_of_an_advisory,
 ]
 OF_DATABASES = [
-    number_of_an_advisory, starts_of_an_advisory, source_that_is_no_address, message_cut_inside_a_character, empty_name,
+    number_of_an_advisory, starts_in_some_file, source_that_is_no_address, message_cut_inside_a_character, empty_name,
     checksum_of_another_form, edition_of_toml, other_keys_of_a_lockfile, message_cut_in_some_file,
     merged_patched_in_some_file, first_of_faults, nesting,
 ]
