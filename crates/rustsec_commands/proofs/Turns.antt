@@ -1,13 +1,14 @@
 -- How what the lines ask follows a loop over them.
-use Rattle.std.proofs.Common.{◌≡◌, ℕ, ◌+◌, ◌<◌, ◌≤◌, true, false, List, [], ◌∷◌, ◌++◌, Option, Some, None, length, take, get_or, map, refl, sym, ap, ◌∙◌, append-nil, arith, below_more, subst}
+use Rattle.std.proofs.Common.{◌≡◌, ◌==◌, ℕ, ◌+◌, ◌<◌, ◌≤◌, true, false, List, [], ◌∷◌, ◌++◌, Option, Some, None, length, take, get_or, map, refl, sym, ap, ◌∙◌, append-nil, arith, below_more, subst}
 use Rattle.std.specs.Prelude.{is_none, nat_lt}
-use Rattle.std.specs.List.{position_or_len}
+use Rattle.std.specs.List.{enumerate_from, position_or_len}
 use Rattle.std.proofs.lemmas.Bool.Decides.{nat_tests}
 use Rattle.std.proofs.lemmas.List.{get_or-map, take_more}
 use Rattle.std.proofs.lemmas.List.Elements.{filter_map-append}
-use Rattle.std.proofs.lemmas.List.Sums.{position_or_len_is}
+use Rattle.std.proofs.lemmas.List.Sums.{count_by-le-length, position_or_len_is}
 use Rattle.std.proofs.Math.ListN.{length-map}
-use Rattle.std.specs.Borrow.{Bor}
+use Rattle.std.proofs.lemmas.List.FromFn.{get_or-enumerate_from, length-enumerate_from}
+use Rattle.std.proofs.lemmas.List.Splits.{length-slice_split}
 use Rattle.rustsec_commands.specs.Asked.{Asked, asked, first_malformed, patched_in, says, unaffected_in, version_in}
 use Rattle.rustsec_commands.specs.Line.{Line, asked_by, blank, line_says, lines_of, patched, unaffected, version}
 use Rattle.rustsec_commands.specs.Output.{AreRangeLines, AreRangeLinesOr, IsRangesOutput, Output, affected_output, malformed, verdicts, verdicts_or}
@@ -51,28 +52,40 @@ pub asked-more : (lines : List (Option Line)) (i : ℕ) (l : Line) → i < lengt
     → asked (take (i + 1) lines) ≡ with_line (asked (take i lines)) l
 asked-more lines i l lt at = rw (take_more lines i None lt, at) (asked-push (take i lines) l)
 
--- ---- lines behind references
+-- ---- the lines of an input, one after the other
 
-module _ (q : Question) where
-  abbrev pub said_of : List (Bor (List ℕ)) → List (Option Line)
-  said_of lines = map (λ x. asked_by q (line_says x.now)) lines
+pair-first : (a b : ℕ) (x y : List ℕ) → ◌≡◌ {A = ℕ × List ℕ} (a, x) (b, y) → a ≡ b
+pair-first a b x y e = ap (λ (p : ℕ × List ℕ). p.0) e
 
-  pub said-at : (lines : List (Bor (List ℕ))) (i : ℕ) (d : Bor (List ℕ)) (o : Option Line) → i < length lines
-      → o ≡ asked_by q (line_says (get_or lines i d).now) → get_or (said_of lines) i None ≡ o
-  said-at lines i d o lt h = get_or-map (λ (x : Bor (List ℕ)). asked_by q (line_says x.now)) lines i d None lt ∙ sym h
+pair-second : (a b : ℕ) (x y : List ℕ) → ◌≡◌ {A = ℕ × List ℕ} (a, x) (b, y) → x ≡ y
+pair-second a b x y e = ap (λ (p : ℕ × List ℕ). p.1) e
 
-  pub said-length : (lines : List (Bor (List ℕ))) → length (said_of lines) ≡ length lines
-  said-length lines = length-map lines (λ (x : Bor (List ℕ)). asked_by q (line_says x.now))
+module _ (q : Question) (input : List ℕ) where
+  -- the line that follows so many
+  pub next-line : (i n : ℕ) (line : List ℕ) (o : Option Line) → i < length (enumerate_from 0 (lines_of input))
+      → ◌≡◌ {A = ℕ × List ℕ} (n, line) (get_or (enumerate_from 0 (lines_of input)) i (n, line)) → o ≡ asked_by q (line_says line)
+      → (n ≡ i) × ((i < length (says q input)) × (get_or (says q input) i None ≡ o))
+  next-line i n line o low at says-so =
+      let lines = lines_of input in
+      let says-line = λ (l : List ℕ). asked_by q (line_says l) in
+      let here : i < length lines = rw (← length-enumerate_from 0 lines) low in
+      let is = at ∙ get_or-enumerate_from 0 lines i (n, line) here in
+      let same : line ≡ get_or lines i line = pair-second n (0 + i) line (get_or lines i line) is in (
+        pair-first n (0 + i) line (get_or lines i line) is ∙ (let zero-more : 0 + i ≡ i = omega arith in zero-more),
+        (
+          (rw (length-map lines says-line) here),
+          get_or-map says-line lines i line None here ∙ sym (ap says-line same) ∙ sym says-so,
+        ),
+      )
 
-  pub said-lines : (refs : List (Bor (List ℕ))) (lines : List (List ℕ)) → map (λ x. x.now) refs ≡ lines → said_of refs ≡ map (λ line. asked_by q (line_says line)) lines
-  said-lines [] lines h = ap (map (λ (line : List ℕ). asked_by q (line_says line))) h
-  said-lines (r ∷ refs) lines h =
-      ap (λ (l : List (Option Line)). asked_by q (line_says r.now) ∷ l) (said-lines refs (map (λ x. x.now) refs) refl)
-      ∙ ap (map (λ (line : List ℕ). asked_by q (line_says line))) h
+  -- all lines are said
+  pub no-line : (i : ℕ) → i ≡ length (enumerate_from 0 (lines_of input)) → length (says q input) ≤ i
+  no-line i e = omega (arith, e, length-enumerate_from 0 (lines_of input), length-map (lines_of input) (λ l. asked_by q (line_says l)))
 
-  -- the lines of an input
-  pub said-input : (input : List ℕ) (refs : List (Bor (List ℕ))) → map (λ x. x.now) refs ≡ lines_of input → said_of refs ≡ says q input
-  said-input input refs h = said-lines refs (lines_of input) h
+  -- there are at most as many lines as bytes, and one
+  pub few-lines : (i : ℕ) → i < length (enumerate_from 0 (lines_of input)) → i ≤ length input
+  few-lines i low =
+      omega (arith, low, length-enumerate_from 0 (lines_of input), length-slice_split (λ b. b == 10) input, count_by-le-length (λ b. b == 10) input)
 
 -- ---- the whole output
 

@@ -5,7 +5,6 @@ ghost use Rattle.semver.specs.Identifiers.{parts_of};
 ghost use Rattle.rustsec_commands.specs.Output.{affected_output, verdict, verdicts};
 
 use crate::asked::{self, Asked, Question};
-use crate::line;
 use crate::output::{self, Output};
 use rustsec_versions::{ErrorKind, Versions};
 use semver::Version;
@@ -51,8 +50,7 @@ fn verdicts(alloc: Global, asked: Asked) -> Result<Output, AllocError>
 pub fn affected_output(alloc: Global, input: &[u8]) -> Result<Output, AllocError>
     ensures { IfOk result (λ o. o ≡ affected_output input.now) }
 {
-    let lines = line::lines_of(alloc, input)?;
-    match asked::read(alloc, Question::Verdicts, &lines)? {
+    match asked::read(alloc, Question::Verdicts, input)? {
         Ok(asked) => verdicts(alloc, asked),
         Err(place) => output::malformed(alloc, place),
     }

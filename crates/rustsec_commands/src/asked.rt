@@ -1,7 +1,7 @@
 //! What the lines of an input ask together.
 
-ghost use Rattle.std.specs.Prelude.{◌≡◌, IfOk, MatchResult, None, OnOk, Some, [], map, option_map};
-ghost use Rattle.rustsec_commands.specs.Asked.{asked, first_malformed};
+ghost use Rattle.std.specs.Prelude.{◌≡◌, ◌≤◌, IfOk, MatchResult, None, OnOk, Some, [], length, option_map};
+ghost use Rattle.rustsec_commands.specs.Asked.{asked, first_malformed, says};
 ghost use Rattle.rustsec_commands.specs.Line.{asked_by, line_says};
 ghost use Rattle.rustsec_commands.specs.Views.{line_view, with_line};
 
@@ -75,22 +75,21 @@ fn said(alloc: Global, question: Question, line: &[u8]) -> Result<Option<Line>, 
     }
 }
 
-/// What the lines ask, or the place of the first malformed one, from 0.
+/// What the lines of an input ask, or the place of the first malformed one, from 0.
 pub fn read(
     alloc: Global,
     question: Question,
-    lines: &[&[u8]],
+    input: &[u8],
 ) -> Result<Result<Asked, usize>, AllocError>
     ensures { IfOk result (λ r. MatchResult r
-        (λ a. (first_malformed (map (λ x. asked_by question (line_says x.now)) lines.now) ≡ None)
-        × (a ≡ asked (map (λ x. asked_by question (line_says x.now)) lines.now)))
-        (λ n. first_malformed (map (λ x. asked_by question (line_says x.now)) lines.now) ≡ Some n)) }
+        (λ a. (first_malformed (says question input.now) ≡ None) × (a ≡ asked (says question input.now)))
+        (λ n. (first_malformed (says question input.now) ≡ Some n) × (n ≤ length input.now))) }
 {
     let mut all = Asked::new(alloc);
-    for (i, line) in lines.iter().enumerate() {
+    for (place, line) in input.split(|b| *b == b'\n').enumerate() {
         match said(alloc, question, line)? {
             Some(line) => all.add(line)?,
-            None => return Ok(Err(i)),
+            None => return Ok(Err(place)),
         }
     }
     Ok(Ok(all))

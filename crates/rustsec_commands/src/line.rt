@@ -1,11 +1,11 @@
 //! The lines of the input.
 
-ghost use Rattle.std.specs.Prelude.{◌≡◌, IfOk, map, option_map, true};
+ghost use Rattle.std.specs.Prelude.{◌≡◌, IfOk, option_map};
 ghost use Rattle.semver.specs.Identifiers.{parts_of};
 ghost use Rattle.semver.specs.Parse.{memory_error, req_of, version_parts};
 ghost use Rattle.rustsec_values.specs.Reading.{value_of};
 ghost use Rattle.rustsec_versions.specs.Views.{comparators_of};
-ghost use Rattle.rustsec_commands.specs.Line.{by_word, line_says, lines_of, without_return};
+ghost use Rattle.rustsec_commands.specs.Line.{by_word, line_says, without_return};
 ghost use Rattle.rustsec_commands.specs.Views.{line_view};
 
 use rustsec_versions::is_out_of_memory;
@@ -20,13 +20,6 @@ pub enum Line {
     Patched(VersionReq),
     Unaffected(VersionReq),
     Version(Version),
-}
-
-/// What stands between the line feeds.
-pub fn lines_of(alloc: Global, input: &[u8]) -> Result<Vec<&[u8]>, AllocError>
-    ensures { IfOk result (λ v. map (λ x. x.now) v.items ≡ lines_of input.now) }
-{
-    input.split(|b| *b == b'\n').collect(alloc)
 }
 
 /// The line without the carriage return that ends it.

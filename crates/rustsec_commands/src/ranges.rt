@@ -6,7 +6,6 @@ ghost use Rattle.rustsec_commands.specs.Output as spec;
 ghost use Rattle.rustsec_commands.specs.Output.{AreRangeLines, IsRangesOutput, range_line, side_text};
 
 use crate::asked::{self, Asked, Question};
-use crate::line;
 use crate::output::{self, Output};
 use rustsec_versions::{ErrorKind, OsvRange, Versions, ranges_for_advisory};
 use semver::Version;
@@ -62,8 +61,7 @@ pub fn ranges_output(alloc: Global, input: &[u8]) -> Result<Output, AllocError>
     ensures output { IfOk result (IsRangesOutput input.now) }
     ensures only { IfOk result (λ o. (p : spec.Output) → IsRangesOutput input.now p → p ≡ o) }
 {
-    let lines = line::lines_of(alloc, input)?;
-    match asked::read(alloc, Question::Ranges, &lines)? {
+    match asked::read(alloc, Question::Ranges, input)? {
         Ok(asked) => ranges(alloc, asked),
         Err(place) => output::malformed(alloc, place),
     }

@@ -1,38 +1,48 @@
-use Rattle.std.proofs.Common.{◌≡◌, ◌∙◌, ◌<◌, ◌≤◌, None, Some, arith, ap, get_or, length, refl, sym}
+use Rattle.std.proofs.Common.{◌≡◌, ◌∙◌, ◌==◌, ◌∷◌, [], ℕ, None, Some, ap, get_or, length, refl, sym}
+use Rattle.std.proofs.lemmas.Iterator.Consumers.{YieldsList-at, YieldsList-end, YieldsList-from_enumerate, YieldsList-turn}
+use Rattle.std.proofs.lemmas.Iterator.Splits.{YieldsList-from_slice_split}
 use Rattle.std.proofs.lemmas.List.{take_all}
-use Rattle.rustsec_commands.specs.Asked.{asked}
+use Rattle.std.proofs.Math.ListN.{length-append}
+use Rattle.rustsec_commands.specs.Asked.{asked, says}
 use Rattle.rustsec_commands.specs.Views.{line_view}
-use Rattle.rustsec_commands.proofs.Turns.{asked-more, malformed-here, malformed-nowhere, none-more, said-at, said-length, said_of}
+use Rattle.rustsec_commands.proofs.Turns.{asked-more, few-lines, malformed-here, malformed-nowhere, next-line, no-line, none-more}
 use Rattle.rustsec_commands.proofs.asked.read.Goals as goal
 
-pub returns-in-None : goal.returns-in-None
-returns-in-None c =
-    let q = c.args.question in
-    let lines = c.args.lines.now in
-    let i = c.loop-i.i in
-    let here : get_or (said_of q lines) i None ≡ None = said-at q lines i _ _ c.loop-i-test.true c.in_ok-line.ensures ∙ rw c.in-None.is refl in
-    let low : i < length (said_of q lines) = rw (said-length q lines) c.loop-i-test.true in
-    malformed-here (said_of q lines) i low c.loop-i.invariant.none_yet here
+pub returns-in-None-2 : goal.returns-in-None-2
+returns-in-None-2 c =
+    let parts = YieldsList-from_slice_split _ (λ b. b == 10) c.args.input.now c.split.ensures.rest c.split.ensures.done c.split.ensures.closure (λ x b q k. (refl, k.called.met.said-raw.1.1.1 ∙ ap (λ (z : ℕ). z == 10) k.shows)) in
+    let whole = YieldsList-at c.into_iter-place-iterator.ensures.into_iter_gives
+    (YieldsList-from_enumerate (YieldsList-at c.enumerate-place-items.ensures.source parts) c.enumerate-place-items.ensures.count) in
+    let (low, at) = YieldsList-turn whole c.loop-place.yielded _ c.loop-place.yielded_by _ _ _ c.in-Some.is c.next.ensures.steps in
+    let line = next-line c.args.question c.args.input.now (length c.loop-place.yielded) c.in-Some.place c.in-Some.line.now _ low at c.in_ok-line.ensures in
+    let lines = says c.args.question c.args.input.now in
+    let here : get_or lines (length c.loop-place.yielded) None ≡ None = line.1.1 ∙ rw c.in-None-2.is refl in (
+      malformed-here lines (length c.loop-place.yielded) line.1.0 c.loop-place.invariant.none_yet here ∙ ap (λ (i : ℕ). Some i) (sym line.0),
+      rw line.0 (few-lines c.args.question c.args.input.now (length c.loop-place.yielded) low),
+    )
 
-pub loop-i-preserved : goal.loop-i-preserved
-loop-i-preserved c =
-    let q = c.args.question in
-    let lines = c.args.lines.now in
-    let i = c.loop-i.i in
-    let here : get_or (said_of q lines) i None ≡ Some (line_view c.in-Some.line) =
-    said-at q lines i _ _ c.loop-i-test.true c.in_ok-line.ensures ∙ rw c.in-Some.is refl in
-    let low : i < length (said_of q lines) = rw (said-length q lines) c.loop-i-test.true in
+pub loop-place-preserved : goal.loop-place-preserved
+loop-place-preserved c =
+    let parts = YieldsList-from_slice_split _ (λ b. b == 10) c.args.input.now c.split.ensures.rest c.split.ensures.done c.split.ensures.closure (λ x b q k. (refl, k.called.met.said-raw.1.1.1 ∙ ap (λ (z : ℕ). z == 10) k.shows)) in
+    let whole = YieldsList-at c.into_iter-place-iterator.ensures.into_iter_gives
+    (YieldsList-from_enumerate (YieldsList-at c.enumerate-place-items.ensures.source parts) c.enumerate-place-items.ensures.count) in
+    let (low, at) = YieldsList-turn whole c.loop-place.yielded _ c.loop-place.yielded_by _ _ _ c.in-Some.is c.next.ensures.steps in
+    let line = next-line c.args.question c.args.input.now (length c.loop-place.yielded) c.in-Some.place c.in-Some.line.now _ low at c.in_ok-line.ensures in
+    let lines = says c.args.question c.args.input.now in
+    let here : get_or lines (length c.loop-place.yielded) None ≡ Some (line_view c.in-Some-2.line) = line.1.1 ∙ rw c.in-Some-2.is refl in
+    let more = length-append c.loop-place.yielded ((c.in-Some.place, c.in-Some.line) ∷ []) in
     record {
-      none_yet = none-more (said_of q lines) i _ c.loop-i.invariant.none_yet here;
-      so_far = c.in_ok-add-in-Some.ensures ∙ rw c.loop-i.invariant.so_far (sym (asked-more (said_of q lines) i _ low here));
+      none_yet = rw more (none-more lines (length c.loop-place.yielded) _ c.loop-place.invariant.none_yet here);
+      so_far = c.in_ok-add-in-Some-2.ensures ∙ rw (c.loop-place.invariant.so_far, more) (sym (asked-more lines (length c.loop-place.yielded) _ line.1.0 here));
     }
 
 pub returns : goal.returns
 returns c =
-    let q = c.args.question in
-    let lines = c.args.lines.now in
-    let i = c.loop-i.i in
-    let all : length (said_of q lines) ≤ i = rw (said-length q lines) (omega arith) in (
-      malformed-nowhere (said_of q lines) i all c.loop-i.invariant.none_yet,
-      c.loop-i.invariant.so_far ∙ ap asked (take_all i (said_of q lines) all),
+    let parts = YieldsList-from_slice_split _ (λ b. b == 10) c.args.input.now c.split.ensures.rest c.split.ensures.done c.split.ensures.closure (λ x b q k. (refl, k.called.met.said-raw.1.1.1 ∙ ap (λ (z : ℕ). z == 10) k.shows)) in
+    let whole = YieldsList-at c.into_iter-place-iterator.ensures.into_iter_gives
+    (YieldsList-from_enumerate (YieldsList-at c.enumerate-place-items.ensures.source parts) c.enumerate-place-items.ensures.count) in
+    let end = YieldsList-end whole c.loop-place.yielded _ c.loop-place.yielded_by _ _ c.in-None.is c.next.ensures.steps in
+    let all = no-line c.args.question c.args.input.now (length c.loop-place.yielded) end.1 in (
+      malformed-nowhere (says c.args.question c.args.input.now) (length c.loop-place.yielded) all c.loop-place.invariant.none_yet,
+      c.loop-place.invariant.so_far ∙ ap asked (take_all (length c.loop-place.yielded) (says c.args.question c.args.input.now) all),
     )

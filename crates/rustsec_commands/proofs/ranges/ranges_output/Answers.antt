@@ -1,25 +1,22 @@
 use Rattle.std.proofs.lemmas.Result.{IfOk-weaker}
-use Rattle.rustsec_commands.specs.declared.asked.Question.TheVariants as question
 use Rattle.rustsec_commands.proofs.OneOutput.{one-output}
-use Rattle.rustsec_commands.proofs.Turns.{ranges-given, ranges-malformed, said-input}
+use Rattle.rustsec_commands.proofs.Turns.{ranges-given, ranges-malformed}
 use Rattle.rustsec_commands.proofs.ranges.ranges_output.Goals as goal
 
 pub returns-in-Ok-clause-output : goal.returns-in-Ok-clause-output
 returns-in-Ok-clause-output c =
-    let whole = said-input question.Ranges c.args.input.now c.deref.result.now (rw c.deref.ensures.value c.in_ok-lines.ensures) in
-    let read = rw (c.in-Ok.is, whole) at c.in_ok-asked.ensures in
+    let read = rw c.in-Ok.is at c.in_ok-asked.ensures in
     IfOk-weaker c.ranges-in-Ok.result _ _ (λ o t. ranges-given c.args.input.now c.in-Ok.asked o read.0 read.1 t) c.ranges-in-Ok.ensures
 
-pub returns-clause-output : goal.returns-clause-output
-returns-clause-output c =
-    let whole = said-input question.Ranges c.args.input.now c.deref.result.now (rw c.deref.ensures.value c.in_ok-lines.ensures) in
-    let read = rw (c.in-Err.is, whole) at c.in_ok-asked.ensures in
-    IfOk-weaker c.malformed.result _ _ (λ o t. ranges-malformed c.args.input.now c.in-Err.place o read t) c.malformed.ensures
+pub returns-in-Err-clause-output : goal.returns-in-Err-clause-output
+returns-in-Err-clause-output c =
+    let read = rw c.in-Err.is at c.in_ok-asked.ensures in
+    IfOk-weaker c.malformed.result _ _ (λ o t. ranges-malformed c.args.input.now c.in-Err.place o read.0 t) c.malformed.ensures
 
 pub returns-in-Ok-clause-only : goal.returns-in-Ok-clause-only
 returns-in-Ok-clause-only c =
     IfOk-weaker c.ranges-in-Ok.result _ _ (λ o t p k. one-output c.args.input.now o p t k) (returns-in-Ok-clause-output c)
 
-pub returns-clause-only : goal.returns-clause-only
-returns-clause-only c =
-    IfOk-weaker c.malformed.result _ _ (λ o t p k. one-output c.args.input.now o p t k) (returns-clause-output c)
+pub returns-in-Err-clause-only : goal.returns-in-Err-clause-only
+returns-in-Err-clause-only c =
+    IfOk-weaker c.malformed.result _ _ (λ o t p k. one-output c.args.input.now o p t k) (returns-in-Err-clause-output c)
