@@ -1,11 +1,11 @@
 -- What accepted lists give: the ranges that their merged intervals leave, and what these hold.
-use Rattle.std.proofs.Common.{◌≡◌, ◌<◌, ◌+◌, ◌++◌, ◌↔◌, ℕ, zero, suc, Bool, true, false, List, [], ◌∷◌, Option, Some, None, length, get_or, map, refl, sym, ap, ◌∙◌, arith, subst, inl, inr, IsPermutation}
+use Rattle.std.proofs.Common.{◌≡◌, ◌<◌, ◌+◌, ◌++◌, ◌↔◌, ℕ, zero, suc, true, false, List, [], ◌∷◌, Option, Some, None, length, get_or, map, refl, sym, ap, ◌∙◌, arith, inl, inr, IsPermutation}
 use Rattle.std.specs.Prelude.{Contains, filter_map, is_some, not}
 use Rattle.std.specs.Borrow.{Bor}
 use Rattle.std.specs.List.{cons_option, list_any}
 use Rattle.std.specs.List.Sorted.{IsSortedByKey}
 use Rattle.std.proofs.lemmas.Bool.{cases_Bool}
-use Rattle.std.proofs.lemmas.List.Elements.{Contains-append_right, filter_map-append}
+use Rattle.std.proofs.lemmas.List.Elements.{Contains-append_right}
 use Rattle.std.proofs.lemmas.List.Sorted.{Contains-permutation, IsPermutation-append, IsPermutation-map, IsPermutation-refl, IsPermutation-sym, list_any-IsPermutation}
 use Rattle.semver.specs.Parse.{Held, Parts}
 use Rattle.rustsec_versions.specs.Between.{AreGapsOf, gaps_between}
@@ -18,7 +18,7 @@ use Rattle.rustsec_versions.specs.Ranges.{AreRanges, HasCuts, Range, SameInEachL
 use Rattle.rustsec_versions.specs.Requirement.{interval_of, is_admissible, is_end, is_start}
 use Rattle.rustsec_versions.specs.StoredRanges.{AreMergedRanges, AreRangesOf, HasUnboundedInterval}
 use Rattle.rustsec_versions.specs.Sweep.{Marked, all_swept, are_clear, mark, marked, marks, spans}
-use Rattle.rustsec_versions.proofs.AreRanges.{AreFit, AreRanges-IsPermutation, admissible_shuffled, gaps-AreRanges, sound_shuffled}
+use Rattle.rustsec_versions.proofs.AreRanges.{AreRanges-IsPermutation, admissible_shuffled, gaps-AreRanges, sound_shuffled}
 use Rattle.rustsec_versions.proofs.Chain.{AllAdmissible, StartsRise}
 use Rattle.rustsec_versions.proofs.Clashes.{AllSound, accepted-all, accepted-clear, accepted-refused, apart-intervals, intervals-sound, spans-marks}
 use Rattle.rustsec_versions.proofs.Clear.{clear-alone, clear_shuffled}
@@ -31,7 +31,7 @@ use Rattle.rustsec_versions.proofs.OneMerge.{merged-one, merged-permutation, mer
 use Rattle.rustsec_versions.proofs.OwnOrder.{all-affect, cuts-plain, gaps-plain}
 use Rattle.rustsec_versions.proofs.RangeEnds.{list_all-IsPermutation}
 use Rattle.rustsec_versions.proofs.Shuffled.{IsPermutation-filter_map, shuffled}
-use Rattle.rustsec_versions.proofs.Sound.{admissible-end, admissible-start, and-second, interval_of-admissible}
+use Rattle.rustsec_versions.proofs.Sound.{admissible-end, admissible-start, interval_of-admissible}
 use Rattle.rustsec_versions.proofs.Unique.{AreRanges-unique}
 use Rattle.rustsec_versions.proofs.Swept.{IsSwept, all_swept-none, all_swept-some}
 

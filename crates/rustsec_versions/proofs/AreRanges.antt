@@ -1,10 +1,9 @@
 -- The gaps between the cuts of intervals, in the order of their starts, are the ranges that the intervals leave.
-use Rattle.std.proofs.Common.{◌≡◌, ◌&&◌, ◌||◌, Bool, true, false, List, [], ◌∷◌, None, map, refl, sym, ap, ◌∙◌, arith, IsPermutation}
+use Rattle.std.proofs.Common.{◌≡◌, ◌&&◌, ◌||◌, Bool, true, false, List, None, map, refl, sym, ◌∙◌, arith, IsPermutation}
 use Rattle.std.specs.Prelude.{filter_map, not}
 use Rattle.std.specs.List.{list_any}
 use Rattle.std.proofs.Math.ListN.{length-map}
 use Rattle.std.proofs.lemmas.List.Sorted.{IsPermutation-sym, IsPermutation-trans, length_permutation, list_any-IsPermutation}
-use Rattle.semver.specs.Parse.{Parts}
 use Rattle.rustsec_versions.specs.Apart.{are_apart}
 use Rattle.rustsec_versions.specs.Gaps.{cut, gaps_from}
 use Rattle.rustsec_versions.specs.Interval.{Interval, overlap}
@@ -16,7 +15,6 @@ use Rattle.rustsec_versions.proofs.RangeEnds.{all-ends, all-starts, gaps-first_i
 use Rattle.rustsec_versions.proofs.RangeList.{chain-begins, chain-ends, cuts-fixed, cuts-introduced, followed-from, gaps-fixed, gaps-followed, gaps-in_order, gaps-introduced, gaps-length}
 use Rattle.rustsec_versions.proofs.Rising.{IsSorted-from}
 use Rattle.rustsec_versions.proofs.Shuffled.{IsPermutation-filter_map, Shuffled, both, keep, permuted, same, shuffled, turn}
-use Rattle.rustsec_versions.proofs.Sound.{admissible-end, admissible-start}
 
 -- ---- what no order changes
 

@@ -11,10 +11,10 @@ use Rattle.semver.specs.Parse.{Held, Parts}
 use Rattle.rustsec_versions.specs.Apart.{are_apart}
 use Rattle.rustsec_versions.specs.Interval.{Endpoint, Interval, exclusive, holds, inclusive, is_after, is_before, overlap, reaches, unbounded}
 use Rattle.rustsec_versions.specs.Lists.{Lists, Place, Placed, accepted, accepted_apart, affected, all_admissible, clash, in_patched, in_unaffected, intervals, is_patched, is_same, joined, meet, no_lists, some_clash}
-use Rattle.rustsec_versions.specs.Precedence.{precedence, version_order, with_build}
+use Rattle.rustsec_versions.specs.Precedence.{precedence, with_build}
 use Rattle.rustsec_versions.specs.Requirement.{interval_of}
 use Rattle.rustsec_versions.specs.Sweep.{Marked, are_clear, clashes, mark, marked, marks, spans}
-use Rattle.rustsec_versions.proofs.Sound.{IsSoundInterval, and-first, and-second, interval_of-sound, overlap-plain}
+use Rattle.rustsec_versions.proofs.Sound.{IsSoundInterval, and-first, and-second, interval_of-sound}
 
 -- ---- tests
 

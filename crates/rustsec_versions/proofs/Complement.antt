@@ -1,15 +1,14 @@
 -- The gaps between intervals that follow one another: they hold what no interval holds, stand in turn, and are the ranges by their cuts.
-use Rattle.std.proofs.Common.{◌≡◌, ◌&&◌, ◌||◌, ◌+◌, ◌<◌, ℕ, zero, suc, Bool, true, false, List, [], ◌∷◌, Option, Some, get_or, length, map, refl, sym, ap, ◌∙◌, arith, inl, inr}
+use Rattle.std.proofs.Common.{◌≡◌, ◌&&◌, ◌||◌, ◌+◌, ◌<◌, ℕ, zero, suc, Bool, true, false, List, [], ◌∷◌, Option, Some, get_or, length, map, refl, ap, ◌∙◌, arith}
 use Rattle.std.specs.Prelude.{not}
 use Rattle.std.specs.List.{AllAdjacentBelow, list_any}
 use Rattle.std.specs.Ordering.{is_lt}
-use Rattle.std.proofs.lemmas.Bool.{cases_Bool}
 use Rattle.semver.specs.Parse.{Parts}
 use Rattle.rustsec_versions.specs.Apart.{are_apart}
 use Rattle.rustsec_versions.specs.Between.{AreInTurn, gap_to, gaps_after, gaps_between, turned}
 use Rattle.rustsec_versions.specs.Gaps.{HasValidBounds, IsValidBound, cut, gap_before, gaps_beyond, gaps_from, start_order}
 use Rattle.rustsec_versions.specs.Interval.{Endpoint, Interval, exclusive, holds, inclusive, is_after, is_before, overlap, reaches, unbounded}
-use Rattle.rustsec_versions.specs.Precedence.{IsVersion, is_at_most, is_below, precedence}
+use Rattle.rustsec_versions.specs.Precedence.{IsVersion, precedence}
 use Rattle.rustsec_versions.specs.Ranges.{Range, in_ranges, lower_cut, upper_cut}
 use Rattle.rustsec_versions.specs.Requirement.{is_admissible, is_end, is_start}
 use Rattle.rustsec_versions.proofs.Chain.{AllAdmissible, StartsRise, earlier-reaches, not-or-first}

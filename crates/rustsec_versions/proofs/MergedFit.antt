@@ -1,11 +1,10 @@
 -- The merged intervals of a list are fit to have ranges; what overlaps no other stays alone.
-use Rattle.std.proofs.Common.{◌≡◌, ◌⊎◌, ◌<◌, ℕ, zero, suc, Bool, true, List, [], ◌∷◌, length, get_or, refl, sym, ap, subst, ◌∙◌, arith, inl, inr}
+use Rattle.std.proofs.Common.{◌≡◌, true, List, [], ◌∷◌, refl, sym, ap, subst, inl, inr}
 use Rattle.std.specs.Prelude.{Contains, not}
 use Rattle.std.specs.List.{list_any}
-use Rattle.std.proofs.lemmas.List.Folds.{list_any_at}
 use Rattle.rustsec_versions.specs.Apart.{are_apart}
 use Rattle.rustsec_versions.specs.Interval.{Endpoint, Interval, exclusive, inclusive, overlap, reaches, unbounded}
-use Rattle.rustsec_versions.specs.Merged.{AreMerged, IsJoined, IsMergedOf, ends_by, itself, onward}
+use Rattle.rustsec_versions.specs.Merged.{AreMerged, IsJoined, IsMergedOf, itself, onward}
 use Rattle.rustsec_versions.specs.Precedence.{precedence}
 use Rattle.rustsec_versions.specs.Ranges.{whole}
 use Rattle.rustsec_versions.specs.Requirement.{is_admissible, is_end, is_start}

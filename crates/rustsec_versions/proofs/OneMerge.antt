@@ -1,10 +1,10 @@
 -- Lists with the same intervals have the same merged intervals, and the same ranges.
-use Rattle.std.proofs.Common.{◌≡◌, true, List, [], ◌∷◌, refl, sym, ap, subst, inl, inr, IsPermutation}
+use Rattle.std.proofs.Common.{◌≡◌, true, List, [], ◌∷◌, refl, sym, subst, inl, inr, IsPermutation}
 use Rattle.std.specs.Prelude.{Contains, not}
 use Rattle.std.specs.List.{list_any}
 use Rattle.std.proofs.lemmas.List.Sorted.{Contains-permutation, IsPermutation-cons, IsPermutation-refl, IsPermutation-sym, IsPermutation-trans}
 use Rattle.rustsec_versions.specs.Apart.{are_apart}
-use Rattle.rustsec_versions.specs.Interval.{Endpoint, Interval, exclusive, inclusive, overlap, unbounded}
+use Rattle.rustsec_versions.specs.Interval.{Endpoint, Interval, overlap}
 use Rattle.rustsec_versions.specs.Merged.{AreMerged, IsJoined, IsMergedOf, begins_by, ends_by, itself, onward}
 use Rattle.rustsec_versions.specs.Precedence.{precedence}
 use Rattle.rustsec_versions.specs.Ranges.{AreRanges, Range}
@@ -15,8 +15,8 @@ use Rattle.rustsec_versions.proofs.Clashes.{AllSound}
 use Rattle.rustsec_versions.proofs.Contained.{any-contained, contains-cases, contains-here, contains-nil, contains-there}
 use Rattle.rustsec_versions.proofs.MergedFit.{interval-same, merged-fit, merged-sound}
 use Rattle.rustsec_versions.proofs.Shuffled.{Shuffled, both, keep, permuted, same, shuffled, turn}
-use Rattle.rustsec_versions.proofs.Sound.{IsSoundEnd, admissible-reaches, and-first, and-second}
-use Rattle.rustsec_versions.proofs.Unique.{AreRanges-unique, at_most-same}
+use Rattle.rustsec_versions.proofs.Sound.{admissible-reaches, and-first, and-second}
+use Rattle.rustsec_versions.proofs.Unique.{AreRanges-unique}
 
 -- ---- lists with the same elements
 

@@ -9,7 +9,6 @@ use Rattle.std.specs.declared.cmp.Ordering.{Ordering}
 use Rattle.std.specs.declared.cmp.Ordering.TheVariants.{Less, Equal, Greater}
 use Rattle.std.proofs.lemmas.Bool.{cases_Bool}
 use Rattle.semver.specs.Parse.{Parts}
-use Rattle.rustsec_versions.specs.Apart.{are_apart}
 use Rattle.rustsec_versions.specs.Gaps.{start_order, start_order_total}
 use Rattle.rustsec_versions.specs.Interval.{Endpoint, Interval, holds, overlap, reaches}
 use Rattle.rustsec_versions.specs.Merged.{AreMerged, begins_by, ends_by}

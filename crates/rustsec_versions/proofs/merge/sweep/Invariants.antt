@@ -1,6 +1,6 @@
-use Rattle.std.proofs.Common.{◌≡◌, ◌++◌, List, drop, map}
+use Rattle.std.proofs.Common.{◌≡◌, ◌++◌, drop, map}
 use Rattle.std.specs.Option.{option_map}
-use Rattle.rustsec_versions.specs.Sweep.{Marked, swept}
+use Rattle.rustsec_versions.specs.Sweep.{swept}
 use Rattle.rustsec_versions.proofs.merge.sweep.Given as goal
 
 -- the merged intervals so far, and those from the current one on

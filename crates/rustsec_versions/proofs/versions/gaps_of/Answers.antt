@@ -1,4 +1,4 @@
-use Rattle.std.proofs.Common.{◌≡◌, IsPermutation, map, refl, sym}
+use Rattle.std.proofs.Common.{IsPermutation, map, sym}
 use Rattle.std.specs.List.Sorted.{IsSortedByKey}
 use Rattle.std.proofs.lemmas.Result.{err_from_is_err_and}
 use Rattle.rustsec_versions.specs.Gaps.{start_order}
