@@ -15,7 +15,7 @@ use Rattle.rustsec_advisory.specs.declared.metadata.Metadata.{Metadata}
 use Rattle.rustsec_versions.specs.Lists.{Lists}
 use Rattle.rustsec_lock.specs.Package.{PackageValue}
 use Rattle.rustsec_query.specs.declared.vulnerability.Vulnerability.{Vulnerability}
-use Rattle.rustsec_report.specs.Trees.{Entry, affected_entries, affected_tree, functions, info_entries, kinds, kinds_of_warnings, lockfile_tree, metadata_entries, metadata_tree, object_of, origin, package_entries, package_tree, report_entries, report_tree, requirements_tree, settings_entries, settings_tree, subject, terms, versions_entries, versions_tree, vulnerabilities_tree, vulnerability_entries, vulnerability_tree, warning_entries, warning_tree, with_members}
+use Rattle.rustsec_report.specs.Trees.{Entry, affected_entries, affected_tree, functions, info_entries, kinds, kinds_of_warnings, metadata_entries, metadata_tree, object_of, origin, package_entries, package_tree, report_entries, report_tree, requirements_tree, settings_entries, settings_tree, subject, terms, versions_entries, versions_tree, vulnerabilities_tree, vulnerability_entries, vulnerability_tree, warning_entries, warning_tree, with_members}
 use Rattle.rustsec_report.specs.declared.info.VulnerabilityInfo.{VulnerabilityInfo}
 use Rattle.rustsec_report.specs.declared.report.Report.{Report}
 use Rattle.rustsec_report.specs.declared.settings.Settings.{Settings}

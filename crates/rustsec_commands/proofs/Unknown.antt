@@ -1,5 +1,5 @@
 -- Words that name no command, by how many they are.
-use Rattle.std.proofs.Common.{◌≡◌, ◌≢◌, ◌<◌, ◌≤◌, ℕ, List, [], ◌∷◌, Bor, arith, codes, false, true, get_or, inl, inr, length, map, nat_eq, refl}
+use Rattle.std.proofs.Common.{◌≡◌, ◌≢◌, ◌<◌, ◌≤◌, ℕ, List, [], ◌∷◌, Bor, arith, codes, false, get_or, inl, inr, length, map, nat_eq, refl}
 use Rattle.std.proofs.lemmas.Bool.{cases_Bool}
 use Rattle.std.specs.Cmp.Lexicographic.{bytes_decides, pointwise}
 use Rattle.rustsec_commands.specs.Words.{command_of, none}

@@ -1,5 +1,5 @@
 -- What the commands over a database and a lockfile write.
-use Rattle.std.specs.Prelude.{◌≡◌, ◌≢◌, ◌⊎◌, ℕ, List, [], ◌∷◌, Option, Some, None, if◌then◌else◌}
+use Rattle.std.specs.Prelude.{◌≡◌, ◌≢◌, ◌⊎◌, ℕ, List, [], ◌∷◌, Some, None, if◌then◌else◌}
 use Rattle.rustsec_values.specs.Reading.{read_all}
 use Rattle.rustsec_versions.specs.Failure.{Failure, IsOfKind, IsRefusal}
 use Rattle.rustsec_versions.specs.declared.error.ErrorKind.TheVariants as kind

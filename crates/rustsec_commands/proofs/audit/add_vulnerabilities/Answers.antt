@@ -1,4 +1,4 @@
-use Rattle.std.proofs.Common.{◌≡◌, ◌++◌, flat_map, string_bytes}
+use Rattle.std.proofs.Common.{string_bytes}
 use Rattle.std.proofs.lemmas.List.{flat_map_more, take_more}
 use Rattle.rustsec_commands.specs.Audit.{vulnerability_line}
 use Rattle.rustsec_commands.proofs.audit.add_vulnerabilities.Goals as goal

@@ -1,7 +1,6 @@
-use Rattle.std.proofs.Common.{rules, ◌≡◌, ◌∙◌, ap, arith, map, ℕ, ◌+◌, ◌<◌, ◌≤◌, length, true, false, List, [], ◌∷◌, ◌++◌, refl, sym, Bor}
+use Rattle.std.proofs.Common.{◌∙◌, arith, sym}
 use Rattle.std.proofs.lemmas.List.{map-append}
-use Rattle.rustsec_commands.specs.Options.{options_of}
-use Rattle.rustsec_commands.proofs.OptionWords.{after-all, after-another, after-deny, after-id, after-ignore, after-no-id, behind_all, no_word, rest_of}
+use Rattle.rustsec_commands.proofs.OptionWords.{after-all, after-another, after-deny, after-id, after-ignore, after-no-id, no_word}
 use Rattle.rustsec_commands.proofs.options.options_of.Goals as goal
 use Rattle.rustsec_commands.proofs.options.options_of.Goals.{then-awaits_id+in_ok-push, else-awaits_id+then-eq, else-awaits_id+else-eq+then-eq-2}
 
