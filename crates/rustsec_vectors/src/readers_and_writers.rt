@@ -66,7 +66,7 @@ const READ: &[Row] = &[
     ),
     (
         Call::Answer,
-        b"patched >= 1\npatched 2\n",
+        b"patched >= 1\nunaffected 2\n",
         2,
         b"refused: bad parameter\n",
     ),
