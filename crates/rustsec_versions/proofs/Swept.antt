@@ -21,7 +21,7 @@ use Rattle.rustsec_versions.proofs.Chain.{AllAdmissible, StartsRise}
 use Rattle.rustsec_versions.proofs.Clashes.{AllSound, none-clash}
 use Rattle.rustsec_versions.proofs.Contraction.{contract, extend, nothing, stretched-holds, stretched-overlap}
 use Rattle.rustsec_versions.proofs.Neighbours.{beyond, over-before}
-use Rattle.rustsec_versions.proofs.Sound.{IsSoundEnd, IsSoundInterval, admissible-end, admissible-reaches, admissible-start, overlap-plain}
+use Rattle.rustsec_versions.proofs.Sound.{IsSoundEnd, IsSoundInterval, admissible-end, admissible-reaches, admissible-start, and-first, and-second, overlap-plain}
 
 -- ---- an interval that goes on to the end of another
 
@@ -174,14 +174,6 @@ one-clear n o false b r h p q = rw (p, q) refl
 or-assoc : (a b c : Bool) → ((a || b) || c) ≡ (a || (b || c))
 or-assoc true b c = refl
 or-assoc false b c = refl
-
-and-first : (a b : Bool) → (a && b) ≡ true → a ≡ true
-and-first true b h = refl
-and-first false b h = cc h
-
-and-second : (a b : Bool) → (a && b) ≡ true → b ≡ true
-and-second true b h = h
-and-second false b h = cc h
 
 near-first : (i j : Interval) (is : List Interval) → AreReady (i ∷ j ∷ is) → begins_by i.start j.start ≡ true
 near-first i j is r = rises-begins_by i.start j.start r.sound.0.start r.sound.1.0.start r.rise.0
