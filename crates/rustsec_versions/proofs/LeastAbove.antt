@@ -19,6 +19,8 @@ use Rattle.rustsec_values.specs.Reading.{only_if}
 use Rattle.rustsec_versions.specs.Precedence.{IsVersion, is_at_most, is_below}
 use Rattle.rustsec_versions.specs.Requirement.{fits, has_successor, least_of}
 use Rattle.rustsec_versions.specs.Successor.{IsLeastAbove, successor}
+use Rattle.rustsec_versions.proofs.PrecedenceLaws.{lt-Less}
+use Rattle.rustsec_versions.proofs.Sound.{and-first, and-second}
 
 -- ---- numbers
 
@@ -27,14 +29,6 @@ cmp-less x y h = grind (arith, nat_tests)
 
 cmp-same : (x : ℕ) → nat_cmp x x ≡ Equal
 cmp-same x = grind (arith, nat_tests)
-
-and-first : (a b : Bool) → (a && b) ≡ true → a ≡ true
-and-first true b h = refl
-and-first false b h = cc h
-
-and-second : (a b : Bool) → (a && b) ≡ true → b ≡ true
-and-second true b h = h
-and-second false b h = cc h
 
 -- what decides a comparison decides it still, and where nothing did the rest does
 then-least : (r s t : Ordering) → ordering_then r s ≡ Less → (s ≡ Less → is_le t ≡ true) → is_le (ordering_then r t) ≡ true
@@ -165,11 +159,6 @@ pre-above : (p : List ℕ) → is_there p → pre_cmp p (p ++ 46 ∷ zero_part) 
 pre-above p there = pre_cmp-both p (p ++ 46 ∷ zero_part) there (there-more p _ there) ∙ rw (parts-more p zero_part) (more-above (parts p))
 
 -- ---- versions
-
-lt-Less : (o : Ordering) → is_lt o ≡ true → o ≡ Less
-lt-Less Less h = refl
-lt-Less Equal h = cc h
-lt-Less Greater h = cc h
 
 Less-lt : (o : Ordering) → o ≡ Less → is_lt o ≡ true
 Less-lt o e = rw e refl

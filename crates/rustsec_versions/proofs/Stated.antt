@@ -6,6 +6,7 @@ use Rattle.semver.specs.Parse.{Held, Parts}
 use Rattle.rustsec_values.specs.Reading.{only_if}
 use Rattle.rustsec_versions.specs.Interval.{Interval}
 use Rattle.rustsec_versions.specs.Requirement.{Side, fits, named, names_version, of_one, of_sides, side_of, stated}
+use Rattle.rustsec_versions.proofs.Sound.{and-first, and-second}
 
 -- a value under a test that holds
 pub only_if-Some : {A : Type 0} (b : Bool) (x y : A) → only_if b (Some x) ≡ Some y → (b ≡ true) × (x ≡ y)
@@ -49,14 +50,6 @@ stated_more [] h = absurd (omega arith)
 stated_more (c ∷ []) h = absurd (omega arith)
 stated_more (c ∷ d ∷ []) h = absurd (omega arith)
 stated_more (c ∷ d ∷ e ∷ rest) h = only_if-None _
-
-and-first : (a b : Bool) → (a && b) ≡ true → a ≡ true
-and-first true b h = refl
-and-first false b h = cc h
-
-and-second : (a b : Bool) → (a && b) ≡ true → b ≡ true
-and-second true b h = h
-and-second false b h = cc h
 
 -- a version whose numbers fit is named where its pre-release is SemVer text
 pub named-there : (c : Held) (pre : List ℕ) → (fits c.1 && (fits (unwrap_or c.2 0) && fits (unwrap_or c.3 0))) ≡ true

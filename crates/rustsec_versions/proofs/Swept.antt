@@ -21,6 +21,7 @@ use Rattle.rustsec_versions.proofs.Chain.{AllAdmissible, StartsRise}
 use Rattle.rustsec_versions.proofs.Clashes.{AllSound, none-clash}
 use Rattle.rustsec_versions.proofs.Contraction.{contract, extend, nothing, stretched-holds, stretched-overlap}
 use Rattle.rustsec_versions.proofs.Neighbours.{beyond, over-before}
+use Rattle.rustsec_versions.proofs.PrecedenceLaws.{lt-Less}
 use Rattle.rustsec_versions.proofs.Sound.{IsSoundEnd, IsSoundInterval, admissible-end, admissible-reaches, admissible-start, and-first, and-second, overlap-plain}
 
 -- ---- an interval that goes on to the end of another
@@ -56,11 +57,6 @@ reverse-le : (o : Ordering) → is_lt o ≡ false → is_le (ordering_reverse o)
 reverse-le Less h = cc h
 reverse-le Equal h = refl
 reverse-le Greater h = refl
-
-lt-Less : (o : Ordering) → is_lt o ≡ true → o ≡ Less
-lt-Less Less h = refl
-lt-Less Equal h = cc h
-lt-Less Greater h = cc h
 
 starts-trans : (s t u : Endpoint) → is_lt (start_order t s) ≡ false → is_lt (start_order u t) ≡ false → is_lt (start_order u s) ≡ false
 starts-trans s t u h k = elim (cases_Bool (is_lt (start_order u s))) [
