@@ -77,6 +77,10 @@ first-fault files i f loaded e l is h (inl fault) =
       names = fault.1;
     })
 
+-- at the path and the text of a file
+pub at-file : (P : List ℕ → List ℕ → Type 0) (p q t u : List ℕ) → p ≡ q → t ≡ u → P p t → P q u
+at-file P p q t u path text h = rw (← path, ← text) h
+
 -- ---- what was added
 
 some-step : (b : Bool) (n m : ℕ) (l k more : List Advisory) → Some n ≡ cond b (Some m) None → more ≡ cond b l k → (n ≡ m) × (more ≡ l)

@@ -3,4 +3,5 @@ pub mod Indexes
 pub mod Places
 pub mod Tables
 pub mod Files
+pub mod Opening
 pub mod Pairs

@@ -1,9 +1,9 @@
 -- What opening a root gives, by the answers that its folders allow.
-use Rattle.std.specs.Prelude.{◌⊎◌, ℕ, List, None, Some}
+use Rattle.std.specs.Prelude.{◌⊎◌, ℕ, IfErr, IfOk, List, None, Result, Some}
 use Rattle.rustsec_folders.specs.Allowed.{Allowed}
-use Rattle.rustsec_folders.specs.Listed.{Listed}
+use Rattle.rustsec_folders.specs.Listed.{FailsAtFile, IsFile, Listed, Pairwise}
 use Rattle.rustsec_folders.specs.declared.source_file.SourceFile.{SourceFile}
-use Rattle.rustsec_versions.specs.Failure.{Failure, IsRefusal}
+use Rattle.rustsec_versions.specs.Failure.{Failure, IsMemory, IsRefusal}
 use Rattle.rustsec_versions.specs.declared.error.ErrorKind.TheVariants as kind
 use Rattle.rustsec_advisory.specs.declared.advisory.Advisory.{Advisory}
 use Rattle.rustsec_database.specs.Loaded.{AreLoaded, IsFirstFault}
@@ -16,3 +16,18 @@ AreOpened allowed root loaded = (files : List SourceFile) × (Listed allowed roo
 abbrev pub IsOpenRefusal : Allowed → List ℕ → Failure → Type 0
 IsOpenRefusal allowed root e =
     IsRefusal kind.Io (Listed allowed root None) e ⊎ ((files : List SourceFile) × (Listed allowed root (Some files) × IsFirstFault files e))
+
+-- ---- the same of the files at some paths, for what opening calls
+
+-- what is loaded from the files at these paths
+abbrev pub AreRead : Allowed → List (List ℕ) → List Advisory → Type 0
+AreRead allowed paths loaded = (files : List SourceFile) × (Pairwise (IsFile allowed) paths files × AreLoaded files loaded)
+
+-- a path that cannot be read, the refusal of the first file at fault, or out of memory
+abbrev pub IsReadRefusal : Allowed → List (List ℕ) → Failure → Type 0
+IsReadRefusal allowed paths e =
+    IsRefusal kind.Io (FailsAtFile allowed paths) e ⊎ ((files : List SourceFile) × (Pairwise (IsFile allowed) paths files × IsFirstFault files e))
+
+-- what loading these files answers: their advisories, the refusal of the first file at fault, or out of memory
+abbrev pub IsLoadOf : List SourceFile → Result (List Advisory) Failure → Type 0
+IsLoadOf files answer = IfOk answer (AreLoaded files) × IfErr answer (λ e. IsFirstFault files e ⊎ IsMemory e)

@@ -90,21 +90,22 @@ fn index_both(
     Ok(())
 }
 
-/// Loads one file.
+/// Loads the file with this path and this text.
 fn load_one(
     alloc: Global,
-    file: &SourceFile,
+    path: &str,
+    text: &str,
     entries: &mut Entries,
     crates: &mut Index,
     rust: &mut Index,
 ) -> Result<()>
-    ensures added { OnOk result ((place : Option ℕ) × IsAdded entries.old file.now.path file.now.text place entries.new) }
+    ensures added { OnOk result ((place : Option ℕ) × IsAdded entries.old path.now text.now place entries.new) }
     ensures indexed { OnOk result (
         (IsIndexOf Collection.Crates entries.old crates.old → IsIndexOf Collection.Crates entries.new crates.new)
         × (IsIndexOf Collection.Rust entries.old rust.old → IsIndexOf Collection.Rust entries.new rust.new)) }
-    ensures err { IfErr result (IsFault entries.old file.now.path file.now.text) }
+    ensures err { IfErr result (IsFault entries.old path.now text.now) }
 {
-    let added = entries.load_text(alloc, file.path.as_str(), file.text.as_str())?;
+    let added = entries.load_text(alloc, path, text)?;
     match added {
         Some(slot) => {
             index_both(alloc, entries, slot, crates, rust)?;
@@ -214,6 +215,39 @@ fn is_audited(package: &Package) -> bool
 }
 
 impl Database {
+    /// The database of no file.
+    pub(crate) fn empty(alloc: Global) -> Database
+        ensures { result ≡ [] }
+    {
+        Database {
+            entries: Entries::new(alloc),
+            crates: Index::new(alloc),
+            rust: Index::new(alloc),
+        }
+    }
+
+    /// The database with one file more, of this path and this text.
+    ///
+    /// # Errors
+    ///
+    /// As `Entries::load_text`.
+    pub(crate) fn with_file(self, alloc: Global, path: &str, text: &str) -> Result<Database>
+        ensures ok { IfOk result (λ d. (place : Option ℕ) × IsAdded self path.now text.now place d) }
+        ensures err { IfErr result (IsFault self path.now text.now) }
+    {
+        let Database {
+            mut entries,
+            mut crates,
+            mut rust,
+        } = self;
+        load_one(alloc, path, text, &mut entries, &mut crates, &mut rust)?;
+        Ok(Database {
+            entries,
+            crates,
+            rust,
+        })
+    }
+
     /// The database of some files. Advisories whose ID is the placeholder are left out.
     ///
     /// # Errors
@@ -224,17 +258,11 @@ impl Database {
         ensures ok { IfOk result (AreLoaded files.now) }
         ensures err { IfErr result (λ e. IsFirstFault files.now e ⊎ IsMemory e) }
     {
-        let mut entries = Entries::new(alloc);
-        let mut crates = Index::new(alloc);
-        let mut rust = Index::new(alloc);
+        let mut database = Database::empty(alloc);
         for file in files {
-            load_one(alloc, file, &mut entries, &mut crates, &mut rust)?;
+            database = database.with_file(alloc, file.path.as_str(), file.text.as_str())?;
         }
-        Ok(Database {
-            entries,
-            crates,
-            rust,
-        })
+        Ok(database)
     }
 
     /// The advisory with an ID.

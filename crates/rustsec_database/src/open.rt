@@ -1,29 +1,58 @@
 // Databases of the files under a root.
 
-ghost use Rattle.std.specs.Prelude.{IfErr, IfOk};
+ghost use Rattle.std.specs.Prelude.{◌++◌, ◌∷◌, [], IfErr, IfOk, List};
 ghost use Rattle.rustsec_folders.specs.Allowed.{AllowSame, every_answer};
-ghost use Rattle.rustsec_database.specs.Opened.{AreOpened, IsOpenRefusal};
+ghost use Rattle.rustsec_folders.specs.declared.source_file.SourceFile.{SourceFile};
+ghost use Rattle.rustsec_database.specs.Opened.{AreOpened, AreRead, IsLoadOf, IsOpenRefusal, IsReadRefusal};
 
 use crate::database::Database;
-use rustsec_folders::{Folders, RealFolders, source_files};
+use rustsec_folders::{Folders, RealFolders, source_paths};
+use rustsec_values::Text;
 use rustsec_versions::Result;
 use std::alloc::Global;
 use std::rt::Files;
 
+/// What loading some files answers, from what loading those before the last answered. Behind a file at
+/// fault none is loaded.
+fn load_next(alloc: Global, before: Result<Database>, path: &str, text: &str) -> Result<Database>
+    ensures { (files : List SourceFile) → IsLoadOf files before
+        → IsLoadOf (files ++ record { path = path.now; text = text.now } ∷ []) result }
+{
+    let database = before?;
+    database.with_file(alloc, path, text)
+}
+
+/// The database of the files at some paths. All are read, also behind a file at fault; one text is held
+/// at a time.
+fn load_paths<F: Folders>(alloc: Global, folders: &mut F, paths: &[Text]) -> Result<Database>
+    ensures ok { IfOk result (AreRead (F.allowed folders.old) paths.now) }
+    ensures err { IfErr result (IsReadRefusal (F.allowed folders.old) paths.now) }
+    ensures same { AllowSame (F.allowed folders.old) (F.allowed folders.new) }
+{
+    let mut loaded = Ok(Database::empty(alloc));
+    for path in paths {
+        let text = folders.read(alloc, path.as_str())?;
+        loaded = load_next(alloc, loaded, path.as_str(), text.as_str());
+    }
+    loaded
+}
+
 impl Database {
-    /// The database of the files under a root, by any folders: first all texts are read, those of
-    /// `crates` and behind them those of `rust`, then they are loaded.
+    /// The database of the files under a root, by any folders: the files of `crates` and behind them
+    /// those of `rust`, in the order of their folders' names and then of their own. All folders are
+    /// listed first; then each file is read and loaded, and its text is dropped.
     ///
     /// # Errors
     ///
-    /// `Io` if `crates`, a package's folder or a file in one cannot be listed or read; then as `load`.
+    /// `Io` if `crates`, a package's folder or a file in one cannot be listed or read, wherever it
+    /// stands; then as `load`.
     pub fn open_with<F: Folders>(alloc: Global, folders: &mut F, root: &str) -> Result<Database>
         ensures ok { IfOk result (AreOpened (F.allowed folders.old) root.now) }
         ensures err { IfErr result (IsOpenRefusal (F.allowed folders.old) root.now) }
         ensures same { AllowSame (F.allowed folders.old) (F.allowed folders.new) }
     {
-        let files = source_files(alloc, folders, root)?;
-        Database::load(alloc, files.as_slice())
+        let paths = source_paths(alloc, folders, root)?;
+        load_paths(alloc, folders, paths.as_slice())
     }
 
     /// The database of the files under a root of the disk. Nothing that waits is opened there: a pipe, a

@@ -10,6 +10,6 @@ mod source_file;
 
 pub use crate::entry::FolderEntry;
 pub use crate::folders::Folders;
-pub use crate::listing::source_files;
+pub use crate::listing::{source_files, source_paths};
 pub use crate::real::RealFolders;
 pub use crate::source_file::SourceFile;

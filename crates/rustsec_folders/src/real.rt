@@ -10,35 +10,10 @@ use crate::entry::FolderEntry;
 use crate::folders::Folders;
 use rustsec_files::reading;
 use rustsec_values::{Items, Text};
-use rustsec_versions::{Error, ErrorKind, Result};
-use std::alloc::{AllocError, Global};
+use rustsec_versions::{ErrorKind, Result};
+use std::alloc::Global;
 use std::rt::Files;
 use std::{fs, io};
-
-/// The refusal of a path that cannot be listed or read, for this reason.
-fn refused(alloc: Global, path: &str, why: &str) -> Error
-    ensures kind { IsOfKind ErrorKind.Io result }
-    ensures names { IsReadFailure path.now result }
-{
-    match format!(in alloc; "couldn't open {path}") {
-        Ok(message) => Error::with_source(alloc, ErrorKind::Io, &message, why),
-        Err(refused) => Error::from(refused),
-    }
-}
-
-/// The refusal of a path that cannot be listed or read, for this error.
-fn failed(alloc: Global, path: &str, error: io::Error) -> Error
-    ensures kind { IsOfKind ErrorKind.Io result }
-    ensures names { IsReadFailure path.now result }
-{
-    if reading::is_out_of_memory(&error) {
-        return Error::from(AllocError);
-    }
-    match format!(in alloc; "{error}") {
-        Ok(why) => refused(alloc, path, &why),
-        Err(refused) => Error::from(refused),
-    }
-}
 
 /// The names of a folder's entries, each with a NUL behind it.
 fn name_bytes<R: Files>(rt: &R, alloc: Global, path: &str) -> io::Result<Vec<u8>> {
@@ -56,9 +31,9 @@ fn names_text<R: Files>(rt: &R, alloc: Global, path: &str) -> Result<String>
     match name_bytes(rt, alloc, path) {
         Ok(bytes) => match String::from_utf8(bytes) {
             Ok(text) => Ok(text),
-            Err(_) => Err(refused(alloc, path, "the name of an entry is no UTF-8")),
+            Err(_) => Err(reading::failure(alloc, path, "the name of an entry is no UTF-8")),
         },
-        Err(e) => Err(failed(alloc, path, e)),
+        Err(e) => Err(reading::failed(alloc, path, e)),
     }
 }
 
@@ -79,7 +54,7 @@ fn entry<R: Files>(rt: &R, alloc: Global, path: &str, name: &str) -> Result<Fold
             let name = Text::from_str(alloc, name)?;
             Ok(FolderEntry { name, folder })
         }
-        Err(e) => Err(failed(alloc, path, e)),
+        Err(e) => Err(reading::failed(alloc, path, e)),
     }
 }
 

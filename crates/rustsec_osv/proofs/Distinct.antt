@@ -8,32 +8,10 @@ use Rattle.std.specs.Ordering.{eq_by_cmp}
 use Rattle.std.proofs.lemmas.List.Filters.{dedup_is}
 use Rattle.std.proofs.lemmas.List.Kept.{Contains-dedup, Contains-from_dedup, IsStrictlySortedBy-dedup}
 use Rattle.std.proofs.lemmas.List.Sorted.{Contains-permutation, IsPermutation-map, IsPermutation-sym}
+use Rattle.rustsec_values.proofs.Seen.{dedup-map, rise-map}
 use Rattle.rustsec_osv.specs.Imports.{AreDistinct}
 
 module _ {A B : Type 0} (f : A → B) where
-  all-map : (P : B → Type 0) (xs : List A) → AllByRecursion (λ x. P (f x)) xs → AllByRecursion P (map f xs)
-  all-map P [] h = tt
-  all-map P (x ∷ xs) h = (h.0, all-map P xs h.1)
-
-  -- what rises by what is seen of each element, seen
-  rise-map : (R : B → B → Ordering) (xs : List A) → IsStrictlySortedBy (λ x y. R (f x) (f y)) xs → IsStrictlySortedBy R (map f xs)
-  unfolding IsStrictlySortedBy
-  rise-map R [] h = tt
-  rise-map R (x ∷ xs) h = (all-map (λ y. R (f x) y ≡ Less) xs h.0, rise-map R xs h.1)
-
-  either-map : (b : Bool) (us vs : List A) → map f (cond b us vs) ≡ cond b (map f us) (map f vs)
-  either-map true us vs = refl
-  either-map false us vs = refl
-
-  dedup_from-map : (E : B → B → Bool) (k : A) (xs : List A) → map f (dedup_from (λ x y. E (f x) (f y)) k xs) ≡ dedup_from E (f k) (map f xs)
-  dedup_from-map E k [] = refl
-  dedup_from-map E k (x ∷ xs) =
-      either-map (E (f x) (f k)) _ _ ∙ rw (dedup_from-map E k xs, dedup_from-map E x xs) refl
-
-  dedup-map : (E : B → B → Bool) (xs : List A) → map f (dedup (λ x y. E (f x) (f y)) xs) ≡ dedup E (map f xs)
-  dedup-map E [] = refl
-  dedup-map E (x ∷ xs) = dedup_from-map E x xs
-
   module _ (R : B → B → Ordering) (total : IsTotalOrder R) (E : B → B → Bool) (ties : (x y : B) → E x y ≡ eq_by_cmp R x y)
       (equiv : IsEquivalence E) (same : (x y : B) → E x y ≡ true → x ≡ y) where
     pub are-distinct : (values sorted left : List A) → IsPermutation values sorted → IsSorted (λ x y. R (f x) (f y)) sorted
@@ -41,10 +19,10 @@ module _ {A B : Type 0} (f : A → B) where
     are-distinct values sorted left perm up kept =
         let is : left ≡ dedup (λ x y. E (f x) (f y)) sorted = dedup_is _ sorted left kept in
         let rising = IsStrictlySortedBy-dedup (on_total f total) (λ x y. ties (f x) (f y)) sorted up in
-        let seen : map f left ≡ dedup E (map f sorted) = ap (map f) is ∙ dedup-map E sorted in
+        let seen : map f left ≡ dedup E (map f sorted) = ap (map f) is ∙ dedup-map f E sorted in
         let shuffled : IsPermutation (map f values) (map f sorted) = IsPermutation-map f values sorted perm in
         record {
-          rise = rw is (rise-map R _ rising);
+          rise = rw is (rise-map f R _ rising);
           same = λ x. (
             λ h. Contains-permutation _ _ x (IsPermutation-sym _ _ shuffled) (Contains-from_dedup E (map f sorted) x (rw seen at h)),
             λ h. rw seen (Contains-dedup equiv same (map f sorted) x (Contains-permutation _ _ x shuffled h)),

@@ -9,32 +9,9 @@ use Rattle.std.specs.List.Sorted.{IsSorted, IsStrictlySortedBy}
 use Rattle.std.proofs.lemmas.List.Filters.{dedup_is}
 use Rattle.std.proofs.lemmas.List.Kept.{Contains-dedup, Contains-from_dedup, IsStrictlySortedBy-dedup}
 use Rattle.std.proofs.lemmas.List.Sorted.{Contains-permutation, IsPermutation-map, IsPermutation-sym}
+use Rattle.rustsec_values.proofs.Seen.{dedup-map, rise-map}
 use Rattle.rustsec_lock.specs.Package.{PackageValue, package_cmp, package_decides, package_eq, package_equiv, package_ties, package_total}
 use Rattle.rustsec_registry.specs.Packages.{AreDistinct}
-
-module _ {A B : Type 0} (f : A → B) where
-  all-map : (P : B → Type 0) (xs : List A) → AllByRecursion (λ x. P (f x)) xs → AllByRecursion P (map f xs)
-  all-map P [] h = tt
-  all-map P (x ∷ xs) h = (h.0, all-map P xs h.1)
-
-  -- what rises by what is read of each element, read
-  rise-map : (R : B → B → Ordering) (xs : List A) → IsStrictlySortedBy (λ x y. R (f x) (f y)) xs → IsStrictlySortedBy R (map f xs)
-  unfolding IsStrictlySortedBy
-  rise-map R [] h = tt
-  rise-map R (x ∷ xs) h = (all-map (λ y. R (f x) y ≡ Less) xs h.0, rise-map R xs h.1)
-
-  either-map : (b : Bool) (us vs : List A) → map f (cond b us vs) ≡ cond b (map f us) (map f vs)
-  either-map true us vs = refl
-  either-map false us vs = refl
-
-  dedup_from-map : (E : B → B → Bool) (k : A) (xs : List A) → map f (dedup_from (λ x y. E (f x) (f y)) k xs) ≡ dedup_from E (f k) (map f xs)
-  dedup_from-map E k [] = refl
-  dedup_from-map E k (x ∷ xs) =
-      either-map (E (f x) (f k)) _ _ ∙ rw (dedup_from-map E k xs, dedup_from-map E x xs) refl
-
-  dedup-map : (E : B → B → Bool) (xs : List A) → map f (dedup (λ x y. E (f x) (f y)) xs) ≡ dedup E (map f xs)
-  dedup-map E [] = refl
-  dedup-map E (x ∷ xs) = dedup_from-map E x xs
 
 -- the package that a reference refers to
 abbrev read : Bor PackageValue → PackageValue

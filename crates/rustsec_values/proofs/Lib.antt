@@ -1,2 +1,3 @@
 pub mod Copies
 pub mod Readers
+pub mod Seen

@@ -131,7 +131,7 @@ identifiers [] h valid = cc h
 identifiers (b ∷ rest) h valid = valid
 
 -- the pre-release `0` is at most every pre-release, and none
-zero-pre : (w : List ℕ) → is_pre_release w ≡ true → is_le (pre_cmp zero_part w) ≡ true
+pub zero-pre : (w : List ℕ) → is_pre_release w ≡ true → is_le (pre_cmp zero_part w) ≡ true
 zero-pre w valid = elim (cases_Bool (length w == 0)) [
   | inl none ↦ less-le _ (pre_cmp-right zero_part w refl none)
   | inr some ↦

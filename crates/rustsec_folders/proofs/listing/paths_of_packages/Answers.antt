@@ -1,7 +1,7 @@
 use Rattle.std.proofs.lemmas.Result.{err_from_is_err_and}
 use Rattle.rustsec_versions.proofs.Refusals.{refused_by}
 use Rattle.rustsec_folders.proofs.Same.{folder-fails, folders-step, same-trans}
-use Rattle.rustsec_folders.proofs.listing.files_of_packages.Goals as goal
+use Rattle.rustsec_folders.proofs.listing.paths_of_packages.Goals as goal
 
 pub returns-in_err-part-clause-err : goal.returns-in_err-part-clause-err
 returns-in_err-part-clause-err g c =
@@ -12,9 +12,9 @@ returns-in_err-part-clause-err g c =
 
 pub loop-name-preserved : goal.loop-name-preserved
 loop-name-preserved g c = record {
-  same = same-trans _ _ _ c.loop-name.invariant.same c.files_of_package.ensures.same;
+  same = same-trans _ _ _ c.loop-name.invariant.same c.paths_of_package.ensures.same;
   all = rw c.in_ok-append.ensures.items
-      (folders-step _ (g.F.Folders.allowed c.loop-name.folders) c.args.collection.now c.args.names.now c.loop-name.files.items c.in_ok-part.part.items
+      (folders-step _ (g.F.Folders.allowed c.loop-name.folders) c.args.collection.now c.args.names.now c.loop-name.paths.items c.in_ok-part.part.items
       c.loop-name.name-index c.name-item.result c.as_str.result.now c.loop-name.invariant.same c.loop-name-test.true c.name-item.is c.as_str.ensures
       c.loop-name.invariant.all c.in_ok-part.ensures.ok);
 }

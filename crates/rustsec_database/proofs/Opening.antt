@@ -1,0 +1,111 @@
+-- What loading answers, one file after another, where a file at fault is remembered.
+use Rattle.std.proofs.Common.{◌≡◌, ◌∙◌, ◌⊎◌, ◌+◌, ◌<◌, ◌++◌, ℕ, List, [], ◌∷◌, Option, Some, None, inl, inr, get_or, length, take, refl, subst, sym, ap}
+use Rattle.std.proofs.lemmas.List.{append_assoc}
+use Rattle.std.specs.Prelude.{Err, IfErr, IfOk, Ok, Result}
+use Rattle.rustsec_versions.specs.Failure.{Failure, IsMemory}
+use Rattle.rustsec_advisory.specs.declared.advisory.Advisory.{Advisory}
+use Rattle.rustsec_folders.specs.Allowed.{Allowed, AllowSame}
+use Rattle.rustsec_folders.specs.Listed.{FailsAtFile, IsFile, Pairwise, Paths}
+use Rattle.rustsec_folders.specs.declared.source_file.SourceFile.{SourceFile}
+use Rattle.rustsec_folders.proofs.Lists.{contains-item, pairwise-step}
+use Rattle.rustsec_folders.proofs.Same.{listed-fails, listed-found}
+use Rattle.rustsec_versions.proofs.Refusals.{refused_by}
+use Rattle.rustsec_versions.specs.declared.error.ErrorKind.TheVariants as kind
+use Rattle.rustsec_database.specs.Loaded.{AreLoaded, IsAdded, IsFault, IsFirstFault}
+use Rattle.rustsec_database.specs.Opened.{AreOpened, AreRead, IsLoadOf, IsOpenRefusal, IsReadRefusal}
+use Rattle.rustsec_database.proofs.Files.{loaded-more}
+
+-- ---- what loading answers, from what loading the files before answered
+
+behind : (files : List SourceFile) (f : SourceFile) (e : Failure) → IsFirstFault files e → IsFirstFault (files ++ f ∷ []) e
+behind files f e h = record {
+  good = h.good;
+  bad = h.bad;
+  rest = h.rest ++ f ∷ [];
+  files_are = ap (λ (xs : List SourceFile). xs ++ f ∷ []) h.files_are ∙ append_assoc h.good (h.bad ∷ h.rest) (f ∷ []);
+  loaded = h.loaded;
+  are_loaded = h.are_loaded;
+  fault = h.fault;
+  names = h.names;
+}
+
+-- a refusal is the answer for the files behind it too
+pub still-refused : (files : List SourceFile) (f : SourceFile) (e : Failure) → IsFirstFault files e ⊎ IsMemory e
+    → IsFirstFault (files ++ f ∷ []) e ⊎ IsMemory e
+still-refused files f e (inl h) = inl (behind files f e h)
+still-refused files f e (inr memory) = inr memory
+
+-- the last file is at fault
+pub last-fault : (files : List SourceFile) (f : SourceFile) (loaded : List Advisory) (e : Failure) → AreLoaded files loaded
+    → IsFault loaded f.path f.text e → IsFirstFault (files ++ f ∷ []) e ⊎ IsMemory e
+last-fault files f loaded e h (inr memory) = inr memory
+last-fault files f loaded e h (inl fault) =
+    inl (record {
+      good = files;
+      bad = f;
+      rest = [];
+      files_are = refl;
+      loaded = loaded;
+      are_loaded = h;
+      fault = fault.0;
+      names = fault.1;
+    })
+
+-- one file more behind files that are loaded
+pub load-next : (files : List SourceFile) (f : SourceFile) (loaded : List Advisory) (answer : Result (List Advisory) Failure) → AreLoaded files loaded
+    → IfOk answer (λ d. (place : Option ℕ) × IsAdded loaded f.path f.text place d) → IfErr answer (IsFault loaded f.path f.text)
+    → IsLoadOf (files ++ f ∷ []) answer
+load-next files f loaded (Ok more) h one fault = (loaded-more files f loaded more one.0 h one.1, tt)
+load-next files f loaded (Err e) h one fault = (tt, last-fault files f loaded e h fault)
+
+-- a refusal is handed on
+pub refused-next : (files : List SourceFile) (f : SourceFile) (before answer : Result (List Advisory) Failure) (e r : Failure) → before ≡ Err e
+    → answer ≡ Err r → r ≡ e → IsLoadOf files before → IsLoadOf (files ++ f ∷ []) answer
+refused-next files f before answer e r was is same h =
+    subst (IsLoadOf (files ++ f ∷ [])) (sym (is ∙ ap (λ x. Err x) same))
+    (tt, still-refused files f e (subst (λ (a : Result (List Advisory) Failure). IfErr a (λ x. IsFirstFault files x ⊎ IsMemory x)) was h.1))
+
+-- ---- paths that are gone through
+
+-- a path that cannot be read
+pub file-fails : (a b : Allowed) (paths : List (List ℕ)) (i : ℕ) (item path : List ℕ) → AllowSame a b → i < length paths → item ≡ get_or paths i item
+    → path ≡ item → b.reads path None → FailsAtFile a paths
+file-fails a b paths i item path same l at is h = (item, contains-item paths i item l at, rw (← is) ((same.reads path None).1 h))
+
+file-read : (a b : Allowed) (item path copy text whole : List ℕ) → AllowSame a b → path ≡ item → copy ≡ item → text ≡ whole
+    → b.reads path (Some whole) → IsFile a item (record { path = copy; text = text })
+file-read a b item path copy text whole same is also all h =
+    (also, subst (λ (p : List ℕ). a.reads p (Some text)) is (subst (λ (t : List ℕ). a.reads path (Some t)) (sym all) ((same.reads path (Some whole)).1 h)))
+
+-- one file more was read, and what loading it too answers
+pub load-step : (a b : Allowed) (paths : List (List ℕ)) (i : ℕ) (item path copy text whole : List ℕ) (before answer : Result (List Advisory) Failure)
+    → AllowSame a b → i < length paths → item ≡ get_or paths i item → path ≡ item → copy ≡ item → text ≡ whole
+    → (files : List SourceFile) × (Pairwise (IsFile a) (take i paths) files × IsLoadOf files before) → b.reads path (Some whole)
+    → ((files : List SourceFile) → IsLoadOf files before → IsLoadOf (files ++ record { path = copy; text = text } ∷ []) answer)
+    → (files : List SourceFile) × (Pairwise (IsFile a) (take (i + 1) paths) files × IsLoadOf files answer)
+load-step a b paths i item path copy text whole before answer same l at is also all (files, (read, load)) h next = (
+  files ++ record { path = copy; text = text } ∷ [],
+  (
+    pairwise-step (IsFile a) paths files i item (record { path = copy; text = text }) l at read (file-read a b item path copy text whole same is also all h),
+    next files load,
+  ),
+)
+
+-- nothing is read yet
+pub load-none : (a : Allowed) (paths : List (List ℕ)) (answer : List Advisory) → answer ≡ [] → AreLoaded [] []
+    → (files : List SourceFile) × (Pairwise (IsFile a) (take 0 paths) files × IsLoadOf files (Ok answer))
+load-none a paths answer is none = ([], (tt, (rw is none, tt)))
+
+-- ---- paths that stand under a root, and what was read of them then
+
+pub opened : (a b : Allowed) (root : List ℕ) (paths items : List (List ℕ)) (loaded : List Advisory) → AllowSame a b → Paths a root (Some paths)
+    → items ≡ paths → AreRead b items loaded → AreOpened a root loaded
+opened a b root paths items loaded same found is (files, (read, load)) =
+    (files, (listed-found a b root paths files same found (subst (λ (ps : List (List ℕ)). Pairwise (IsFile b) ps files) is read), load))
+
+pub open-refused : (a b : Allowed) (root : List ℕ) (paths items : List (List ℕ)) (e : Failure) → AllowSame a b → Paths a root (Some paths)
+    → items ≡ paths → IsReadRefusal b items e → IsOpenRefusal a root e
+open-refused a b root paths items e same found is (inl refusal) =
+    inl (refused_by kind.Io e (λ f. listed-fails a b root paths same found (subst (FailsAtFile b) is f)) refusal)
+open-refused a b root paths items e same found is (inr (files, (read, fault))) =
+    inr (files, (listed-found a b root paths files same found (subst (λ (ps : List (List ℕ)). Pairwise (IsFile b) ps files) is read), fault))

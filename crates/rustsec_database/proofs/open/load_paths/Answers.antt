@@ -1,0 +1,32 @@
+use Rattle.std.proofs.Common.{inl}
+use Rattle.std.proofs.lemmas.Result.{err_from_is_err_and}
+use Rattle.rustsec_folders.proofs.Same.{same-refl, same-trans}
+use Rattle.rustsec_versions.proofs.Refusals.{refused_by}
+use Rattle.rustsec_database.proofs.Files.{loaded-none}
+use Rattle.rustsec_database.proofs.Opening.{file-fails, load-none, load-step}
+use Rattle.rustsec_database.proofs.open.load_paths.Goals as goal
+
+pub loop-path-init : goal.loop-path-init
+loop-path-init g c = record {
+  same = same-refl _;
+  load = load-none (g.F.Folders.allowed c.args.folders.now) c.args.paths.now c.empty.result c.empty.ensures loaded-none;
+}
+
+pub loop-path-preserved : goal.loop-path-preserved
+loop-path-preserved g c = record {
+  same = same-trans _ _ _ c.loop-path.invariant.same c.read.ensures.same;
+  load = load-step _ (g.F.Folders.allowed c.loop-path.folders) c.args.paths.now c.loop-path.path-index c.path-item.result c.as_str.result.now
+      c.as_str-in-loop-path.result.now c.as_str-in-loop-path-2.result.now c.in_ok-text.text c.loop-path.loaded c.load_next-loaded.result
+      c.loop-path.invariant.same c.loop-path-test.true c.path-item.is c.as_str.ensures c.as_str-in-loop-path.ensures c.as_str-in-loop-path-2.ensures
+      c.loop-path.invariant.load c.in_ok-text.ensures.ok c.load_next-loaded.ensures;
+}
+
+pub returns-in_err-text-clause-err : goal.returns-in_err-text-clause-err
+returns-in_err-text-clause-err g c =
+    let p = err_from_is_err_and c.from_residual.result c.from_residual.ensures.1 in
+    rw (p.1, p.2) (inl (refused_by _ c.in_err-text.field-0.0
+    (file-fails _ (g.F.Folders.allowed c.loop-path.folders) c.args.paths.now c.loop-path.path-index c.path-item.result c.as_str.result.now
+    c.loop-path.invariant.same c.loop-path-test.true c.path-item.is c.as_str.ensures) c.in_err-text.ensures.err))
+
+pub returns-in_err-text-clause-same : goal.returns-in_err-text-clause-same
+returns-in_err-text-clause-same g c = same-trans _ _ _ c.loop-path.invariant.same c.read.ensures.same
