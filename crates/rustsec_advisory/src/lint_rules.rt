@@ -22,25 +22,28 @@ use std::fmt;
 use std::fmt::Formatter;
 use toml::{Table, Value};
 
-/// Appends a lint error of a value, where a test holds.
-fn add_value(
-    alloc: Global,
-    errors: &mut Items<Error>,
-    test: bool,
-    section: &str,
-    name: &str,
-    value: &str,
-    message: &str,
-) -> Result<()>
-    ensures ok { OnOk result (errors.new ≡ errors.old ++ when test (bad_value section.now name.now value.now message.now)) }
-    ensures err { IfErr result IsMemory }
-{
-    if test {
-        let kind = ErrorKind::value(alloc, name, value)?;
-        let error = Error::new(alloc, kind, Some(section), Some(message))?;
-        errors.push(error)?;
+/// A lint error of a value: where it stands, how it prints, and what is wrong with it.
+#[derive(Clone, Copy)]
+struct BadValue<'a> {
+    section: &'a str,
+    name: &'a str,
+    value: &'a str,
+    message: &'a str,
+}
+
+impl<'a> BadValue<'a> {
+    /// Appends the lint error, where a test holds.
+    fn add_if(self, alloc: Global, errors: &mut Items<Error>, test: bool) -> Result<()>
+        ensures ok { OnOk result (errors.new ≡ errors.old ++ when test (bad_value self.entry.section.now self.entry.name.now self.entry.value.now self.entry.message.now)) }
+        ensures err { IfErr result IsMemory }
+    {
+        if test {
+            let kind = ErrorKind::value(alloc, self.name, self.value)?;
+            let error = Error::new(alloc, kind, Some(self.section), Some(self.message))?;
+            errors.push(error)?;
+        }
+        Ok(())
     }
-    Ok(())
 }
 
 /// Appends a lint error of a section's content, where a test holds.
@@ -113,8 +116,13 @@ fn lint_draft(
     ensures err { IfErr result IsMemory }
 {
     let test = differs(draft, metadata.id.is_placeholder());
-    let message = "advisory ID draft status does not match file name";
-    add_value(alloc, errors, test, "advisory", "id", printed, message)
+    let bad = BadValue {
+        section: "advisory",
+        name: "id",
+        value: printed,
+        message: "advisory ID draft status does not match file name",
+    };
+    bad.add_if(alloc, errors, test)
 }
 
 /// Appends the lint error of an ID of no known kind.
@@ -128,8 +136,13 @@ fn lint_kind(
     ensures err { IfErr result IsMemory }
 {
     let test = metadata.id.is_other();
-    let message = "unknown advisory ID type";
-    add_value(alloc, errors, test, "advisory", "id", printed, message)
+    let bad = BadValue {
+        section: "advisory",
+        name: "id",
+        value: printed,
+        message: "unknown advisory ID type",
+    };
+    bad.add_if(alloc, errors, test)
 }
 
 /// Appends the lint error of an ID of another year than the date's.
@@ -143,8 +156,13 @@ fn lint_year(
     ensures err { IfErr result IsMemory }
 {
     let test = names_another_year(metadata);
-    let message = "year in advisory ID does not match date";
-    add_value(alloc, errors, test, "advisory", "id", printed, message)
+    let bad = BadValue {
+        section: "advisory",
+        name: "id",
+        value: printed,
+        message: "year in advisory ID does not match date",
+    };
+    bad.add_if(alloc, errors, test)
 }
 
 /// Appends the lint errors of the ID, which prints so.
@@ -176,16 +194,13 @@ fn lint_category(alloc: Global, errors: &mut Items<Error>, category: &Category) 
     ensures err { IfErr result IsMemory }
 {
     let test = is_other_category(category);
-    let message = "unknown category";
-    add_value(
-        alloc,
-        errors,
-        test,
-        "advisory",
-        "category",
-        category.name(),
-        message,
-    )
+    let bad = BadValue {
+        section: "advisory",
+        name: "category",
+        value: category.name(),
+        message: "unknown category",
+    };
+    bad.add_if(alloc, errors, test)
 }
 
 /// Appends the lint errors of the categories.
@@ -211,16 +226,13 @@ fn lint_informational(
     let Some(kind) = informational else {
         return Ok(());
     };
-    let message = "unknown informational advisory type";
-    add_value(
-        alloc,
-        errors,
-        kind.is_other(),
-        "advisory",
-        "informational",
-        kind.as_str(),
-        message,
-    )
+    let bad = BadValue {
+        section: "advisory",
+        name: "informational",
+        value: kind.as_str(),
+        message: "unknown informational advisory type",
+    };
+    bad.add_if(alloc, errors, kind.is_other())
 }
 
 /// How a value prints.
@@ -244,8 +256,13 @@ fn lint_url(alloc: Global, errors: &mut Items<Error>, value: &Value) -> Result<(
     };
     let test = !text.starts_with("https://");
     let printed = printed(alloc, value)?;
-    let message = "URL must start with https://";
-    add_value(alloc, errors, test, "advisory", "url", &printed, message)
+    let bad = BadValue {
+        section: "advisory",
+        name: "url",
+        value: &printed,
+        message: "URL must start with https://",
+    };
+    bad.add_if(alloc, errors, test)
 }
 
 /// Whether a license is none of the table.
@@ -261,16 +278,13 @@ fn lint_license(alloc: Global, errors: &mut Items<Error>, license: &License) -> 
     ensures err { IfErr result IsMemory }
 {
     let test = is_other_license(license);
-    let message = "Unknown license";
-    add_value(
-        alloc,
-        errors,
-        test,
-        "advisory",
-        "license",
-        license.spdx(),
-        message,
-    )
+    let bad = BadValue {
+        section: "advisory",
+        name: "license",
+        value: license.spdx(),
+        message: "Unknown license",
+    };
+    bad.add_if(alloc, errors, test)
 }
 
 /// Whether a key of the section `advisory` has a meaning, and no lint error of its own.
@@ -395,16 +409,13 @@ fn lint_function(
 {
     let test = !begins_with(name, path);
     let printed = path.to_string(alloc)?;
-    let message = "function path must start with crate name";
-    add_value(
-        alloc,
-        errors,
-        test,
-        "affected",
-        "functions",
-        &printed,
-        message,
-    )
+    let bad = BadValue {
+        section: "affected",
+        name: "functions",
+        value: &printed,
+        message: "function path must start with crate name",
+    };
+    bad.add_if(alloc, errors, test)
 }
 
 /// Appends the lint errors of some functions of a crate.

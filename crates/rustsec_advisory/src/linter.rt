@@ -8,7 +8,7 @@ ghost use Rattle.rustsec_advisory.specs.LintErrors.{LintError, lint_error_text, 
 ghost use Rattle.rustsec_advisory.specs.Lints.{Lints};
 ghost use Rattle.rustsec_files.specs.Paths.{is_draft, is_markdown};
 ghost use Rattle.rustsec_advisory.specs.declared.advisory.Advisory as given;
-ghost use Rattle.rustsec_advisory.specs.declared.linter.ErrorKind.TheVariants as fault_kind;
+ghost use Rattle.rustsec_advisory.specs.declared.linter.ErrorKind.TheVariants as lint_kind;
 ghost use Rattle.rustsec_versions.specs.Failure.{IsMemory, IsOfKind, IsRefusal};
 ghost use Rattle.rustsec_versions.specs.declared.error.ErrorKind.TheVariants as failure;
 
@@ -48,7 +48,7 @@ impl ErrorKind {
     ///
     /// `OutOfMemory` alone.
     pub fn key(alloc: Global, name: &str) -> Result<ErrorKind>
-        ensures ok { IfOk result (λ k. k ≡ fault_kind.InvalidKey name.now) }
+        ensures ok { IfOk result (λ k. k ≡ lint_kind.InvalidKey name.now) }
         ensures err { IfErr result IsMemory }
     {
         let name = Text::from_str(alloc, name)?;
@@ -61,7 +61,7 @@ impl ErrorKind {
     ///
     /// `OutOfMemory` alone.
     pub fn value(alloc: Global, name: &str, value: &str) -> Result<ErrorKind>
-        ensures ok { IfOk result (λ k. k ≡ fault_kind.InvalidValue name.now value.now) }
+        ensures ok { IfOk result (λ k. k ≡ lint_kind.InvalidValue name.now value.now) }
         ensures err { IfErr result IsMemory }
     {
         let name = Text::from_str(alloc, name)?;
@@ -166,8 +166,8 @@ impl Error {
         ensures ok { IfOk result (λ e. e ≡ record { kind = kind; section = option_copied section.entry; message = option_copied message.entry }) }
         ensures err { IfErr result IsMemory }
     {
-        let section = copy_of(alloc, section)?;
-        let message = copy_of(alloc, message)?;
+        let section = Text::from_option(alloc, section)?;
+        let message = Text::from_option(alloc, message)?;
         Ok(Error {
             kind,
             section,
@@ -207,20 +207,6 @@ impl Error {
     {
         let copy = Clone::clone(self)?;
         Ok(copy)
-    }
-}
-
-/// A copy of a text that may be missing.
-fn copy_of(alloc: Global, text: Option<&str>) -> Result<Option<Text>>
-    ensures ok { IfOk result (λ t. t ≡ option_copied text.entry) }
-    ensures err { IfErr result IsMemory }
-{
-    match text {
-        Some(text) => {
-            let copy = Text::from_str(alloc, text)?;
-            Ok(Some(copy))
-        }
-        None => Ok(None),
     }
 }
 

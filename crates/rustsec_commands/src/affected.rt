@@ -52,6 +52,6 @@ pub fn affected_output(alloc: Global, input: &[u8]) -> Result<Output, AllocError
 {
     match asked::read(alloc, Question::Verdicts, input)? {
         Ok(asked) => verdicts(alloc, asked),
-        Err(place) => output::malformed(alloc, place),
+        Err(place) => output::malformed(alloc, input, place),
     }
 }

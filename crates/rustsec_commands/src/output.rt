@@ -9,12 +9,14 @@ ghost use Rattle.rustsec_commands.specs.Output.{malformed, refused, tree_line, u
 
 use crate::fault::Fault;
 use crate::refusal::why;
+use crate::shown::push_shown;
 use crate::usage::PAGE;
-use rustsec_versions::Error;
+use rustsec_versions::{Error, refused_text};
 use serde_json::Value;
 use std::alloc::{AllocError, Global};
 use std::io::Write;
 use std::marker::Model;
+use std::str;
 
 /// A text, the status that goes with it, and a note for a person, of which no contract speaks.
 #[derive(Drop)]
@@ -84,18 +86,39 @@ impl Output {
 }
 
 /// What a line may be.
-const LINES: &str =
-    "expected `patched REQ`, `unaffected REQ`, for `affected` also `version V`, or nothing";
+const LINES: &str = "`patched REQ`, `unaffected REQ`, for `affected` also `version V`, or nothing";
 
-/// The answer to a malformed line.
-pub fn malformed(alloc: Global, place: usize) -> Result<Output, AllocError>
+/// The line at a place.
+fn line_at(input: &[u8], place: usize) -> &[u8] {
+    for (i, line) in input.split(|b| *b == b'\n').enumerate() {
+        if i == place {
+            return line;
+        }
+    }
+    &[]
+}
+
+/// What is said of the malformed line at a place.
+fn line_note(alloc: Global, input: &[u8], place: usize) -> Result<String, AllocError> {
+    let number = place.saturating_add(1);
+    let mut note = format!(in alloc; "rustsec_audit: line {number}: ")?;
+    let found = str::from_utf8(line_at(input, place)).unwrap_or("bytes that are no UTF-8");
+    push_shown(
+        &mut note,
+        refused_text(alloc, "malformed", found, LINES).message(),
+    )?;
+    note.push('\n')?;
+    Ok(note)
+}
+
+/// The answer to the malformed line of an input at a place.
+pub fn malformed(alloc: Global, input: &[u8], place: usize) -> Result<Output, AllocError>
     requires { place < 2 ^ 64 - 1 }
     ensures { IfOk result (λ o. o ≡ malformed place) }
 {
     let number = place + 1;
     let text = format!(in alloc; "line {number}: malformed\n")?;
-    let note = format!(in alloc; "rustsec_audit: line {number}: {LINES}\n");
-    Ok(Output::new(text, 2).with_note(note.ok()))
+    Ok(Output::new(text, 2).with_note(line_note(alloc, input, place).ok()))
 }
 
 /// The answer to lists that are not accepted.

@@ -63,6 +63,6 @@ pub fn ranges_output(alloc: Global, input: &[u8]) -> Result<Output, AllocError>
 {
     match asked::read(alloc, Question::Ranges, input)? {
         Ok(asked) => ranges(alloc, asked),
-        Err(place) => output::malformed(alloc, place),
+        Err(place) => output::malformed(alloc, input, place),
     }
 }

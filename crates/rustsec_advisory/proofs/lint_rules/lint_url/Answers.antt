@@ -10,4 +10,4 @@ returns-clause-ok c =
     let value : view c.args.value.now ≡ string c.in-Some.text.now = is-string (view c.args.value.now) c.in-Some.text.now (rw c.in-Some.is at (sym c.as_str.ensures)) in
     let starts = starts_text _ (codes "https://") c.in-Some.text.now c.starts_with-test.ensures.cases in
     let text = rw value at c.in_ok-printed.ensures in
-    rw (value, ← starts, ← text, ← c.deref.ensures) c.add_value.ensures.ok
+    rw (value, ← starts, ← text, ← c.deref.ensures) c.add_if.ensures.ok
