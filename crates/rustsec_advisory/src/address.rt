@@ -6,7 +6,7 @@ ghost use Rattle.std.specs.Cmp.Lexicographic.{bytes_decides, nat_list_eq_equiv, 
 ghost use Rattle.url.specs.Parser.{parse_url};
 ghost use Rattle.url.specs.Parts.{serialize};
 ghost use Rattle.rustsec_advisory.specs.Addresses.{address_of, unless_no_room};
-ghost use Rattle.rustsec_versions.specs.Failure.{IsRefusal};
+ghost use Rattle.rustsec_versions.specs.Failure.{IsMemory, IsRefusal};
 
 use rustsec_values::{ExactClone, ExactEq};
 use rustsec_versions::{Error, ErrorKind, FromText, Result};
@@ -98,6 +98,19 @@ impl Address {
         ensures read_again { address_of self.now ≡ Some self.now }
     {
         self.url.as_str()
+    }
+
+    /// An equal address.
+    ///
+    /// # Errors
+    ///
+    /// `OutOfMemory` alone.
+    pub fn clone(&self, _alloc: Global) -> Result<Address>
+        ensures ok { IfOk result (λ a. a ≡ self.now) }
+        ensures err { IfErr result IsMemory }
+    {
+        let copy = Clone::clone(self)?;
+        Ok(copy)
     }
 }
 

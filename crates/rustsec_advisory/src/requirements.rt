@@ -1,8 +1,6 @@
 // Lists of requirements in a document.
 
-ghost use Rattle.std.specs.Prelude.{◌≡◌, ◌≢◌, [], Err, IfErr, IfOk, IsOk, None, Some, map, option_map, true};
-ghost use Rattle.semver.specs.Parse.{memory_error, req_of};
-ghost use Rattle.semver.specs.declared.error.Error as semver;
+ghost use Rattle.std.specs.Prelude.{◌≡◌, [], IfErr, IfOk, None, Some, map};
 ghost use Rattle.toml.specs.View.{array_view, table_view, view};
 ghost use Rattle.rustsec_values.specs.Reading.{read_all};
 ghost use Rattle.rustsec_toml.specs.Fields.{defaulted, list_of, required, text};
@@ -11,46 +9,18 @@ ghost use Rattle.rustsec_versions.specs.Failure.{IsRefusal};
 ghost use Rattle.rustsec_versions.specs.Views.{comparators_of};
 
 use rustsec_toml::Section;
-use rustsec_versions::{ErrorKind, Result, is_out_of_memory, refused_text};
+use rustsec_versions::{ErrorKind, Result, read_requirement};
 use semver::VersionReq;
 use std::alloc::{AllocError, Global};
 use toml::Value;
 use toml::value::Array;
-
-/// The requirement of a text, none if the text is refused. A refusal is never out of memory.
-fn parsed(alloc: Global, text: &str) -> std::result::Result<Option<VersionReq>, AllocError>
-    ensures ok { IfOk result (λ r. requirement_of text.now ≡ option_map comparators_of r) }
-    ensures refused { (e : semver.Error) → req_of text.now ≡ Err e → e ≢ memory_error → IsOk result }
-{
-    match VersionReq::parse(alloc, text) {
-        Ok(req) => Ok(Some(req)),
-        Err(e) if is_out_of_memory(e) => Err(AllocError),
-        Err(_) => Ok(None),
-    }
-}
-
-/// The requirement of a text.
-fn requirement(alloc: Global, text: &str) -> Result<VersionReq>
-    ensures ok { IfOk result (λ r. requirement_of text.now ≡ Some (comparators_of r)) }
-    ensures err { IfErr result (IsRefusal ErrorKind.Parse (requirement_of text.now ≡ None)) }
-{
-    match parsed(alloc, text)? {
-        Some(req) => Ok(req),
-        None => Err(refused_text(
-            alloc,
-            "not a requirement",
-            text,
-            "comparators such as `>=1.2.3, <2`",
-        )),
-    }
-}
 
 /// The requirement of a text that stands at a key.
 fn requirement_at(alloc: Global, section: Section<'_>, key: &str, text: &str) -> Result<VersionReq>
     ensures ok { IfOk result (λ r. requirement_of text.now ≡ Some (comparators_of r)) }
     ensures err { IfErr result (IsRefusal ErrorKind.Parse (requirement_of text.now ≡ None)) }
 {
-    match requirement(alloc, text) {
+    match read_requirement(alloc, text) {
         Ok(req) => Ok(req),
         Err(e) => Err(section.refused_at(alloc, key, &e)),
     }

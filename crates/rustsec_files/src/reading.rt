@@ -42,14 +42,15 @@ pub fn bytes_of<R: Read>(alloc: Global, reader: &mut R) -> io::Result<Vec<u8>>
 }
 
 /// Whether reading failed since memory ran out, and not for what was read.
-pub fn is_out_of_memory(error: &io::Error) -> bool
+fn is_out_of_memory(error: &io::Error) -> bool
     ensures { result ≡ true ↔ error_kind error.now ≡ IoErrorKind.OutOfMemory }
 {
     error.kind() == IoErrorKind::OutOfMemory
 }
 
-/// The failure of a file that cannot be read, for this reason.
-fn failure(alloc: Global, path: &str, why: &str) -> Error
+/// The failure of a path that cannot be read or listed, for this reason. The message names the path, the
+/// cause says why.
+pub fn failure(alloc: Global, path: &str, why: &str) -> Error
     ensures kind { IsOfKind ErrorKind.Io result }
     ensures names { IsReadFailure path.now result }
 {
@@ -59,8 +60,8 @@ fn failure(alloc: Global, path: &str, why: &str) -> Error
     }
 }
 
-/// The failure of a file that cannot be read, for this error.
-fn failed(alloc: Global, path: &str, error: io::Error) -> Error
+/// The failure of a path that cannot be read or listed, for this error. An error of memory stays that.
+pub fn failed(alloc: Global, path: &str, error: io::Error) -> Error
     ensures kind { IsOfKind ErrorKind.Io result }
     ensures names { IsReadFailure path.now result }
 {

@@ -4,45 +4,14 @@ ghost use Rattle.std.specs.Prelude.{◌≡◌, [], IfErr, IfOk, None, Some, opti
 ghost use Rattle.serde_json.specs.Find.{as_object, get_member};
 ghost use Rattle.serde_json.specs.View.{members_view, view};
 ghost use Rattle.rustsec_json.specs.Fields.{defaulted, every, optional, required};
-ghost use Rattle.rustsec_versions.specs.Failure.{IsOfKind, IsRefusal, out_of_memory};
+ghost use Rattle.rustsec_versions.specs.Failure.{IsRefusal};
 
 use crate::read::FromTree;
+use crate::refusal::{at_key, missing, unexpected};
 use rustsec_values::Items;
-use rustsec_versions::{Error, ErrorKind, Result};
+use rustsec_versions::{ErrorKind, Result};
 use serde_json::{Map, Value};
-use std::alloc::{AllocError, Global};
-
-/// The refusal of a tree.
-pub fn refused(alloc: Global, message: &str) -> Error
-    ensures { IsOfKind ErrorKind.Parse result }
-{
-    Error::new(alloc, ErrorKind::Parse, message)
-}
-
-/// The refusal of an object without a key that must be there.
-fn missing(alloc: Global, key: &str) -> Error
-    ensures { IsOfKind ErrorKind.Parse result }
-{
-    match format!(in alloc; "the key `{key}` is missing") {
-        Ok(message) => refused(alloc, &message),
-        Err(e) => Error::from(e),
-    }
-}
-
-/// The refusal of the value at a key, which names the key.
-fn at_key(alloc: Global, key: &str, error: Error) -> Error
-    ensures memory { error ≡ out_of_memory → result ≡ out_of_memory }
-    ensures kind { IsOfKind ErrorKind.Parse result }
-{
-    if error.kind() == ErrorKind::OutOfMemory {
-        return Error::from(AllocError);
-    }
-    let text = error.message();
-    match format!(in alloc; "at the key `{key}`: {text}") {
-        Ok(message) => refused(alloc, &message),
-        Err(e) => Error::from(e),
-    }
-}
+use std::alloc::Global;
 
 /// The members of a tree that must be an object.
 ///
@@ -55,7 +24,7 @@ pub fn fields_of(alloc: Global, tree: &Value) -> Result<&Map<String, Value>>
 {
     match tree.as_object() {
         Some(fields) => Ok(fields),
-        None => Err(refused(alloc, "an object was expected")),
+        None => Err(unexpected(alloc, tree, "an object")),
     }
 }
 
@@ -80,7 +49,7 @@ pub fn required_at<T: FromTree>(alloc: Global, fields: &Map<String, Value>, key:
     };
     match T::from_tree(alloc, tree) {
         Ok(value) => Ok(value),
-        Err(e) => Err(at_key(alloc, key, e)),
+        Err(e) => Err(at_key(alloc, key, &e)),
     }
 }
 
@@ -102,7 +71,7 @@ pub fn optional_at<T: FromTree>(
     };
     match Option::<T>::from_tree(alloc, tree) {
         Ok(value) => Ok(value),
-        Err(e) => Err(at_key(alloc, key, e)),
+        Err(e) => Err(at_key(alloc, key, &e)),
     }
 }
 
@@ -124,6 +93,6 @@ pub fn list_at<T: FromTree>(
     };
     match Items::<T>::from_tree(alloc, tree) {
         Ok(values) => Ok(values),
-        Err(e) => Err(at_key(alloc, key, e)),
+        Err(e) => Err(at_key(alloc, key, &e)),
     }
 }

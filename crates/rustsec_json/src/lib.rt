@@ -4,8 +4,10 @@
 mod fields;
 mod make;
 mod read;
+mod refusal;
 mod texts;
 
-pub use crate::fields::{fields_of, list_at, member, optional_at, refused, required_at};
+pub use crate::fields::{fields_of, list_at, member, optional_at, required_at};
 pub use crate::make::ToTree;
 pub use crate::read::FromTree;
+pub use crate::refusal::{at_key, refused, unexpected};

@@ -3,13 +3,13 @@
 ghost use Rattle.std.specs.Prelude.{◌≡◌, IfErr, IfOk, None, Option, Some};
 ghost use Rattle.serde_json.specs.Data.{Data};
 ghost use Rattle.serde_json.specs.View.{items_view, view};
-ghost use Rattle.rustsec_json.specs.Fields.{list_of};
+ghost use Rattle.rustsec_json.specs.Fields.{list_of, text};
 ghost use Rattle.rustsec_values.specs.Reading.{read_all};
 ghost use Rattle.rustsec_versions.specs.Failure.{IsRefusal};
 
-use crate::fields::refused;
+use crate::refusal::unexpected;
 use rustsec_values::Items;
-use rustsec_versions::{ErrorKind, Result};
+use rustsec_versions::{ErrorKind, FromText, Result};
 use serde_json::Value;
 use std::alloc::Global;
 
@@ -42,6 +42,17 @@ fn list<T: FromTree>(alloc: Global, trees: &Vec<Value>) -> Result<Items<T>>
     Ok(read)
 }
 
+/// The value of a tree that must be a string of the type's grammar.
+pub(crate) fn read_text<T: FromText>(alloc: Global, tree: &Value) -> Result<T>
+    ensures ok { IfOk result (λ x. text T.reads (view tree.now) ≡ Some x) }
+    ensures err { IfErr result (IsRefusal ErrorKind.Parse (text T.reads (view tree.now) ≡ None)) }
+{
+    match tree.as_str() {
+        Some(text) => T::from_text(alloc, text),
+        None => Err(unexpected(alloc, tree, "a string")),
+    }
+}
+
 impl<T: FromTree> FromTree for Items<T> {
     ghost use Rattle.rustsec_json.specs.Fields.{every};
 
@@ -50,7 +61,7 @@ impl<T: FromTree> FromTree for Items<T> {
     fn from_tree(alloc: Global, tree: &Value) -> Result<Items<T>> {
         match tree.as_array() {
             Some(trees) => list(alloc, trees),
-            None => Err(refused(alloc, "a list was expected")),
+            None => Err(unexpected(alloc, tree, "a list")),
         }
     }
 }

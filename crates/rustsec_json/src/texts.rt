@@ -3,9 +3,9 @@
 ghost use Rattle.serde_json.specs.Data.{string};
 ghost use Rattle.rustsec_json.specs.Fields.{text};
 
-use crate::fields::refused;
 use crate::make::ToTree;
-use crate::read::FromTree;
+use crate::read::{FromTree, read_text};
+use crate::refusal::unexpected;
 use rustsec_advisory::Address;
 use rustsec_lock::package::Name;
 use rustsec_lock::platforms::{Arch, OS};
@@ -37,7 +37,7 @@ impl FromTree for Text {
     fn from_tree(alloc: Global, tree: &Value) -> Result<Text> {
         match tree.as_str() {
             Some(text) => Ok(Text::from_str(alloc, text)?),
-            None => Err(refused(alloc, "a text was expected")),
+            None => Err(unexpected(alloc, tree, "a string")),
         }
     }
 }
@@ -59,10 +59,7 @@ impl FromTree for Id {
     ghost reads = { text (id_of) };
 
     fn from_tree(alloc: Global, tree: &Value) -> Result<Id> {
-        match tree.as_str() {
-            Some(text) => Id::from_str(alloc, text),
-            None => Err(refused(alloc, "a text was expected")),
-        }
+        read_text(alloc, tree)
     }
 }
 
@@ -85,10 +82,7 @@ impl FromTree for Category {
     ghost reads = { text (λ text. Some (category_of text)) };
 
     fn from_tree(alloc: Global, tree: &Value) -> Result<Category> {
-        match tree.as_str() {
-            Some(text) => Category::from_str(alloc, text),
-            None => Err(refused(alloc, "a text was expected")),
-        }
+        read_text(alloc, tree)
     }
 }
 
@@ -111,10 +105,7 @@ impl FromTree for Informational {
     ghost reads = { text (λ text. Some (informational_of text)) };
 
     fn from_tree(alloc: Global, tree: &Value) -> Result<Informational> {
-        match tree.as_str() {
-            Some(text) => Informational::from_str(alloc, text),
-            None => Err(refused(alloc, "a text was expected")),
-        }
+        read_text(alloc, tree)
     }
 }
 
@@ -136,10 +127,7 @@ impl FromTree for Arch {
     ghost reads = { text (arch_of) };
 
     fn from_tree(alloc: Global, tree: &Value) -> Result<Arch> {
-        match tree.as_str() {
-            Some(text) => Arch::from_str(alloc, text),
-            None => Err(refused(alloc, "a text was expected")),
-        }
+        read_text(alloc, tree)
     }
 }
 
@@ -161,10 +149,7 @@ impl FromTree for OS {
     ghost reads = { text (os_of) };
 
     fn from_tree(alloc: Global, tree: &Value) -> Result<OS> {
-        match tree.as_str() {
-            Some(text) => OS::from_str(alloc, text),
-            None => Err(refused(alloc, "a text was expected")),
-        }
+        read_text(alloc, tree)
     }
 }
 
@@ -185,10 +170,7 @@ impl FromTree for Address {
     ghost reads = { text (address_of) };
 
     fn from_tree(alloc: Global, tree: &Value) -> Result<Address> {
-        match tree.as_str() {
-            Some(text) => Address::from_str(alloc, text),
-            None => Err(refused(alloc, "a text was expected")),
-        }
+        read_text(alloc, tree)
     }
 }
 
@@ -211,10 +193,7 @@ impl FromTree for Cvss {
     ghost reads = { text (cvss_of) };
 
     fn from_tree(alloc: Global, tree: &Value) -> Result<Cvss> {
-        match tree.as_str() {
-            Some(text) => Cvss::from_str(alloc, text),
-            None => Err(refused(alloc, "a text was expected")),
-        }
+        read_text(alloc, tree)
     }
 }
 
@@ -237,10 +216,7 @@ impl FromTree for FunctionPath {
     ghost reads = { text (path_of) };
 
     fn from_tree(alloc: Global, tree: &Value) -> Result<FunctionPath> {
-        match tree.as_str() {
-            Some(text) => FunctionPath::from_str(alloc, text),
-            None => Err(refused(alloc, "a text was expected")),
-        }
+        read_text(alloc, tree)
     }
 }
 

@@ -1,12 +1,11 @@
 // Lockfiles.
 
 ghost use Rattle.std.specs.Prelude.{◌≡◌, ◌++◌, ◌∷◌, ◌⊎◌, [], ℕ, IfErr, IfOk, List, None, OnOk, Some, option_map};
-ghost use Rattle.semver.specs.Identifiers.{parts_of};
 ghost use Rattle.toml.specs.View.{array_view, table_view, view};
 ghost use Rattle.rustsec_values.specs.Reading.{read_all, read_optional};
 ghost use Rattle.rustsec_versions.specs.Failure.{IsMemory, IsOfKind, IsRefusal};
 ghost use Rattle.rustsec_toml.specs.Fields.{list_of};
-ghost use Rattle.rustsec_lock.specs.Lockfile.{AreValid, NamesLockfile, lockfile_of, package_in, package_of, packages_of, version_of};
+ghost use Rattle.rustsec_lock.specs.Lockfile.{AreValid, NamesLockfile, lockfile_of, package_in, package_of, packages_of};
 ghost use Rattle.rustsec_lock.specs.Source.{source_id_of};
 
 use crate::names::Name;
@@ -16,36 +15,12 @@ use rustsec_files::reading::text_of_file;
 use rustsec_toml::Section;
 use rustsec_values::{ExactClone, Items, Text, beginning_of};
 use rustsec_versions::{
-    Error, ErrorKind, Result, is_out_of_memory, refused_at, refused_file, refused_text,
+    Error, ErrorKind, Result, read_version, refused_at, refused_file, refused_text,
 };
-use semver::Version;
 use std::alloc::{AllocError, Global};
 use std::rt::Files;
 use toml::value::Array;
 use toml::{Table, Value};
-
-/// The refusal of a text that is no version, whose cause is what `semver` says of it.
-fn malformed_version(alloc: Global, text: &str, error: &semver::Error) -> Error
-    ensures { IsOfKind ErrorKind.Parse result }
-{
-    let refusal = refused_text(alloc, "malformed version", text, "one such as `1.2.3`");
-    match format!(in alloc; "{error}") {
-        Ok(cause) => Error::with_source(alloc, ErrorKind::Parse, refusal.message(), &cause),
-        Err(refused) => Error::from(refused),
-    }
-}
-
-/// The version of a text.
-fn version_of(alloc: Global, text: &str) -> Result<Version>
-    ensures ok { IfOk result (λ v. version_of text.now ≡ Some (parts_of v)) }
-    ensures err { IfErr result (IsRefusal ErrorKind.Parse (version_of text.now ≡ None)) }
-{
-    match Version::parse(alloc, text) {
-        Ok(version) => Ok(version),
-        Err(e) if is_out_of_memory(e) => Err(Error::from(AllocError)),
-        Err(e) => Err(malformed_version(alloc, text, &e)),
-    }
-}
 
 /// The source of a text that may be missing.
 fn source_of(alloc: Global, text: Option<&str>) -> Result<Option<SourceId>>
@@ -61,20 +36,6 @@ fn source_of(alloc: Global, text: Option<&str>) -> Result<Option<SourceId>>
     }
 }
 
-/// A copy of a text that may be missing.
-fn copy_of(alloc: Global, text: Option<&str>) -> Result<Option<Text>>
-    ensures ok { IfOk result (λ t. t ≡ option_map (λ t. t.now) text.entry) }
-    ensures err { IfErr result IsMemory }
-{
-    match text {
-        Some(text) => {
-            let copy = Text::from_str(alloc, text)?;
-            Ok(Some(copy))
-        }
-        None => Ok(None),
-    }
-}
-
 /// The package that a table stands for.
 fn package_in(alloc: Global, table: &Table) -> Result<Package>
     ensures ok { IfOk result (λ p. package_in (table_view table.now) ≡ Some p) }
@@ -85,9 +46,10 @@ fn package_in(alloc: Global, table: &Table) -> Result<Package>
         name: "[[package]]",
     };
     let name = Name::from_str(alloc, section.string_at(alloc, "name")?)?;
-    let version = version_of(alloc, section.string_at(alloc, "version")?)?;
+    let version = section.string_at(alloc, "version")?;
+    let version = read_version(alloc, version, version)?;
     let source = source_of(alloc, section.optional_string_at(alloc, "source")?)?;
-    let checksum = copy_of(alloc, section.optional_string_at(alloc, "checksum")?)?;
+    let checksum = Text::from_option(alloc, section.optional_string_at(alloc, "checksum")?)?;
     Ok(Package {
         name,
         version,

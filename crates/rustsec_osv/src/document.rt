@@ -77,7 +77,7 @@ pub struct OsvAdvisory {
     pub withdrawn: Option<Text>,
     /// Other IDs of the same fault.
     pub aliases: Items<Id>,
-    /// IDs of related faults.
+    /// IDs of related vulnerabilities.
     pub related: Items<Id>,
     /// The title.
     pub summary: Text,

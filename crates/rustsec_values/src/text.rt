@@ -1,6 +1,6 @@
 // A text that contracts see as the list of its bytes.
 
-ghost use Rattle.std.specs.Prelude.{◌≡◌, ◌==◌, [], List, ℕ, Some, IfOk, nat_eq, refl, string_bytes, length};
+ghost use Rattle.std.specs.Prelude.{◌≡◌, ◌==◌, [], List, ℕ, Some, IfOk, nat_eq, option_copied, refl, string_bytes, length};
 ghost use Rattle.std.proofs.Common.{rules};
 ghost use Rattle.std.specs.Cmp.{partial_equiv_from_equiv};
 ghost use Rattle.std.specs.Cmp.Lexicographic.{bytes_decides, nat_list_cmp_total, nat_list_eq_equiv, pointwise, slice_cmp, texts_po, texts_ties};
@@ -48,6 +48,23 @@ impl Text {
     {
         let string = String::from_str(alloc, text)?;
         Ok(Text { string })
+    }
+
+    /// A copy of a text that may be missing.
+    ///
+    /// # Errors
+    ///
+    /// Out of memory.
+    pub fn from_option(alloc: Global, text: Option<&str>) -> Result<Option<Text>, AllocError>
+        ensures { IfOk result (λ t. t ≡ option_copied text.entry) }
+    {
+        match text {
+            Some(text) => {
+                let copy = Text::from_str(alloc, text)?;
+                Ok(Some(copy))
+            }
+            None => Ok(None),
+        }
     }
 
     /// The text as std's type.

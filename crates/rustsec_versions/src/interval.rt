@@ -15,7 +15,7 @@ ghost use Rattle.rustsec_versions.specs.Views.{bound_version_of, comparators_of,
 
 use crate::comparator::bounds_of;
 use crate::error::{Error, ErrorKind, Result};
-use crate::print::refused_requirement;
+use crate::print::{quoted_bound, refused_requirement};
 use rustsec_values::{ExactClone, ExactEq};
 use semver::{Version, VersionReq};
 use std::alloc::{AllocError, Global};
@@ -210,6 +210,24 @@ fn no_version_above(alloc: Global) -> Error
     )
 }
 
+/// The refusal of a start that is not at or below the end, which shows both.
+fn not_in_order(alloc: Global, start: &Bound, end: &Bound) -> Error
+    ensures { IsOfKind ErrorKind.BadParam result }
+{
+    match (
+        quoted_bound(alloc, ">", start),
+        quoted_bound(alloc, "<", end),
+    ) {
+        (Ok(lower), Ok(upper)) => match format!(in alloc;
+            "the lower bound {lower} is not below the upper bound {upper}"
+        ) {
+            Ok(message) => Error::bad_param(alloc, message.as_str()),
+            Err(refused) => Error::from(refused),
+        },
+        _ => Error::from(AllocError),
+    }
+}
+
 impl UnaffectedRange {
     /// The interval of a requirement: the versions that it names as not affected.
     ///
@@ -243,7 +261,7 @@ impl UnaffectedRange {
         if reaches(&start, &end) {
             Ok(UnaffectedRange { start, end })
         } else {
-            Err(Error::bad_param(alloc, "the lower bound is not below the upper one"))
+            Err(not_in_order(alloc, &start, &end))
         }
     }
 

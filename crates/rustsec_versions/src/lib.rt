@@ -15,6 +15,7 @@ mod ranges;
 mod refusal;
 mod requirements;
 mod search;
+mod semver_texts;
 mod steps;
 mod versions;
 
@@ -27,5 +28,6 @@ pub use crate::print::requirement_text;
 pub use crate::ranges::{OsvRange, ranges_for_advisory};
 pub use crate::refusal::{refused_at, refused_file, refused_text};
 pub use crate::requirements::Requirements;
+pub use crate::semver_texts::{read_requirement, read_version};
 pub use crate::steps::Steps;
 pub use crate::versions::Versions;

@@ -7,9 +7,10 @@ ghost use Rattle.rustsec_versions.specs.RequirementText.{comparator_text, dotted
 ghost use Rattle.rustsec_versions.specs.Views.{comparators_of};
 
 use crate::error::{Error, Result};
+use crate::interval::Bound;
 use crate::refusal::refused_at;
 use rustsec_values::beginning_of;
-use semver::{Comparator, Op, Prerelease, VersionReq};
+use semver::{Comparator, Op, Prerelease, Version, VersionReq};
 use std::alloc::{AllocError, Global};
 
 /// The text of an operator.
@@ -106,6 +107,33 @@ pub(crate) fn quoted(alloc: Global, req: &VersionReq) -> Result<String>
     let shown = beginning_of(text.as_str(), SHOWN);
     let quoted = format!(in alloc; "`{shown}`")?;
     Ok(quoted)
+}
+
+/// A comparator of this sign and version for a message: its first 60 bytes, between back quotes.
+fn quoted_comparator(
+    alloc: Global,
+    sign: &str,
+    version: &Version,
+) -> std::result::Result<String, AllocError> {
+    let text = format!(in alloc; "{sign}{version}")?;
+    let shown = beginning_of(text.as_str(), SHOWN);
+    format!(in alloc; "`{shown}`")
+}
+
+/// A bound for a message, as a comparator of this sign.
+pub(crate) fn quoted_bound(
+    alloc: Global,
+    sign: &str,
+    bound: &Bound,
+) -> std::result::Result<String, AllocError> {
+    match bound {
+        Bound::Unbounded => String::from_str(alloc, "`*`"),
+        Bound::Exclusive(version) => quoted_comparator(alloc, sign, version),
+        Bound::Inclusive(version) => {
+            let sign = format!(in alloc; "{sign}=")?;
+            quoted_comparator(alloc, sign.as_str(), version)
+        }
+    }
 }
 
 /// Where a refusal of a requirement came up.

@@ -11,7 +11,9 @@ use crate::document::{MainOsvDatabaseSpecific, OsvAdvisory};
 use crate::reader::release::{Release, version_in};
 use crate::reference::{OsvReference, OsvReferenceKind};
 use crate::severity::OsvSeverity;
-use rustsec_json::{FromTree, fields_of, list_at, member, optional_at, refused, required_at};
+use rustsec_json::{
+    FromTree, fields_of, list_at, member, optional_at, refused, required_at, unexpected,
+};
 use rustsec_lock::Cvss;
 use rustsec_texts::Id;
 use rustsec_values::{Items, Text};
@@ -28,7 +30,7 @@ impl FromTree for OsvReferenceKind {
     fn from_tree(alloc: Global, tree: &Value) -> Result<OsvReferenceKind> {
         match tree.as_str() {
             Some(text) => OsvReferenceKind::from_str(alloc, text),
-            None => Err(refused(alloc, "a text was expected")),
+            None => Err(unexpected(alloc, tree, "a string")),
         }
     }
 }
@@ -128,7 +130,7 @@ pub(crate) struct Stamp {
     withdrawn: Option<Text>,
 }
 
-/// The keys that tell of the fault.
+/// The keys that tell of the vulnerability.
 #[derive(Drop)]
 pub(crate) struct Content {
     summary: Text,
@@ -176,7 +178,7 @@ fn stamp_of(alloc: Global, fields: &Map<String, Value>) -> Result<Stamp>
     })
 }
 
-/// The keys that tell of the fault.
+/// The keys that tell of the vulnerability.
 fn content_of(alloc: Global, fields: &Map<String, Value>) -> Result<Content>
     ensures ok { IfOk result (λ c. read_content (members_view fields.now.entries) ≡ Some c) }
     ensures err { IfErr result (IsRefusal ErrorKind.Parse (read_content (members_view fields.now.entries) ≡ None)) }

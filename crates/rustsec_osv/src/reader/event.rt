@@ -11,11 +11,10 @@ ghost use Rattle.rustsec_versions.specs.Failure.{IsMemory, IsOfKind, IsRefusal};
 ghost use Rattle.semver.specs.Identifiers.{parts_of};
 
 use crate::ranges::OsvJsonRange;
-use crate::reader::release::version_of;
 use crate::timeline::OsvTimelineEvent;
-use rustsec_json::{FromTree, fields_of, member, refused, required_at};
+use rustsec_json::{FromTree, at_key, fields_of, member, refused, required_at, unexpected};
 use rustsec_values::Text;
-use rustsec_versions::{Error, ErrorKind, Result, refused_at};
+use rustsec_versions::{Error, ErrorKind, Result, read_version};
 use semver::Version;
 use serde_json::{Map, Value};
 use std::alloc::{AllocError, Global};
@@ -52,7 +51,7 @@ fn version_of_text(alloc: Global, text: &str) -> Result<Version>
     ensures err { IfErr result (IsRefusal ErrorKind.Parse (version_of (in_full text.now) ≡ None)) }
 {
     let full = in_full(alloc, text)?;
-    version_of(alloc, text, &full)
+    read_version(alloc, &full, text)
 }
 
 /// The version of an event.
@@ -62,7 +61,7 @@ fn event_version(alloc: Global, tree: &Value) -> Result<Version>
 {
     match tree.as_str() {
         Some(text) => version_of_text(alloc, text),
-        None => Err(refused(alloc, "a text was expected")),
+        None => Err(unexpected(alloc, tree, "a string")),
     }
 }
 
@@ -73,7 +72,7 @@ fn version_at(alloc: Global, key: &str, tree: &Value) -> Result<Version>
 {
     match event_version(alloc, tree) {
         Ok(version) => Ok(version),
-        Err(e) => Err(refused_at(alloc, key, &e)),
+        Err(e) => Err(at_key(alloc, key, &e)),
     }
 }
 
@@ -170,7 +169,7 @@ impl FromTree for Events {
                 let list = events_of(alloc, trees)?;
                 Ok(Events { list })
             }
-            None => Err(refused(alloc, "a list was expected")),
+            None => Err(unexpected(alloc, tree, "a list")),
         }
     }
 }
