@@ -31,12 +31,14 @@ def unescaped(literal):
 
 def texts_of_tests():
     """Each text that a test has written out."""
-    folder, found = os.path.join(TOP, "crates", "rustsec_vectors", "src"), set()
-    for name in sorted(os.listdir(folder)):
-        with open(os.path.join(folder, name), encoding="utf-8") as f:
-            source = f.read()
-        for raw, plain in re.findall(r'r#"(.*?)"#|"((?:[^"\\]|\\.)*)"', source, re.S):
-            found.add(raw or unescaped(plain))
+    found = set()
+    for crate in ("rustsec_fixtures", "rustsec_tests", "rustsec_vectors"):
+        folder = os.path.join(TOP, "crates", crate, "src")
+        for name in sorted(os.listdir(folder)):
+            with open(os.path.join(folder, name), encoding="utf-8") as f:
+                source = f.read()
+            for raw, plain in re.findall(r'r#"(.*?)"#|"((?:[^"\\]|\\.)*)"', source, re.S):
+                found.add(raw or unescaped(plain))
     return sorted(found)
 
 

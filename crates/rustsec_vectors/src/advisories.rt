@@ -1,8 +1,7 @@
 // Advisory files: which texts are advisories, and what is read of them.
 
-use crate::advisory_texts::{VALID, changed};
-use crate::fixtures::kind_of;
 use rustsec_advisory::{Address, Advisory, Affected, Metadata};
+use rustsec_fixtures::{VALID, changed, kind_of};
 use rustsec_lock::platforms::{Arch, OS};
 use rustsec_lock::{Cvss, Severity};
 use rustsec_texts::{FunctionPath, Id, License};
@@ -509,7 +508,7 @@ fn advisories_with_ample_memory(rt: HostRuntime) -> Result<(), Fail> {
 /// Whether a text is read as an address that prints so, and is copied.
 fn is_address(alloc: Global, text: &str, printed: &str) -> Result<bool, Fail> {
     let address = Address::from_str(alloc, text)?;
-    let copy = address.clone()?;
+    let copy = address.clone(alloc)?;
     Ok(copy == address && address.as_str() == printed)
 }
 

@@ -1,6 +1,6 @@
 // The parts of advisory files.
 
-use crate::fixtures::kind_of;
+use rustsec_fixtures::kind_of;
 use rustsec_texts::Parts;
 use rustsec_versions::ErrorKind;
 use std::alloc::Global;

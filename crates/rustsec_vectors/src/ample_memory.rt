@@ -1,8 +1,8 @@
-// Each public call that can answer that it is out of memory, once with ample memory and an input that
-// it takes.
+// Calls of values, errors, versions and commands that can answer that they are out of memory, once with ample
+// memory and an input that they take. Those of other crates stand in the modules of their subjects.
 
-use crate::fixtures::{interval, lists, requirements, version};
 use rustsec_commands::{answer, answer_ranges};
+use rustsec_fixtures::{interval, lists, requirements, version};
 use rustsec_values::{Items, SortedMap, Text};
 use rustsec_versions::{
     Bound, Error, ErrorKind, Requirements, Versions, ranges_for_advisory, requirement_text,

@@ -1,8 +1,8 @@
 // The commands `audit` and `report`, over files that a test writes, and what an audit writes.
 
-use crate::fakes::ByteWriter;
-use crate::fixtures::{CommandRow, expect_outputs};
+use crate::outputs::{CommandRow, expect_outputs};
 use rustsec_commands::{Fault, write_audit};
+use rustsec_fixtures::{ADVISORIES, ByteWriter, FOUR_PACKAGES, make_root};
 use rustsec_lock::Lockfile;
 use rustsec_query::Vulnerability;
 use rustsec_report::{LockfileInfo, Report, Settings, VulnerabilityInfo, Warning, WarningInfo};
@@ -14,75 +14,8 @@ use std::rt::Files;
 use std::test::Fail;
 use std::{fs, io};
 
-/// Advisories for `base`, by their paths under a root: one of a vulnerability, one that was withdrawn,
-/// and one of a package that nobody maintains.
-pub const ADVISORIES: &[(&str, &str)] = &[
-    (
-        "crates/base/RUSTSEC-2001-0001.md",
-        "```toml\n[advisory]\nid = \"RUSTSEC-2001-0001\"\npackage = \"base\"\ndate = \"2001-02-03\"\n\n[versions]\npatched = [\">= 2.0.0\"]\n```\n\n# T\n\nD\n",
-    ),
-    (
-        "crates/base/RUSTSEC-2001-0002.md",
-        "```toml\n[advisory]\nid = \"RUSTSEC-2001-0002\"\npackage = \"base\"\ndate = \"2001-02-03\"\nwithdrawn = \"2001-02-04\"\n\n[versions]\npatched = [\">= 2.0.0\"]\n```\n\n# T\n\nD\n",
-    ),
-    (
-        "crates/base/RUSTSEC-2001-0003.md",
-        "```toml\n[advisory]\nid = \"RUSTSEC-2001-0003\"\npackage = \"base\"\ndate = \"2001-02-03\"\ninformational = \"unmaintained\"\n\n[versions]\npatched = [\">= 2.0.0\"]\n```\n\n# T\n\nD\n",
-    ),
-];
-
-/// A lockfile of four packages, of which one is of the default registry.
-pub const FOUR_PACKAGES: &str = "version = 3
-
-[[package]]
-name = \"base\"
-version = \"1.0.0\"
-source = \"registry+https://github.com/rust-lang/crates.io-index\"
-
-[[package]]
-name = \"base\"
-version = \"1.0.0\"
-
-[[package]]
-name = \"base\"
-version = \"1.0.0\"
-source = \"git+https://example.com/base?branch=x#abc\"
-
-[[package]]
-name = \"base\"
-version = \"1.0.0\"
-source = \"sparse+https://index.crates.io/\"
-";
-
-/// Writes a file below a root.
-fn put_file<T: Files + AllocGlobal>(
-    rt: &T,
-    root: &str,
-    path: &str,
-    text: &str,
-) -> Result<(), Fail> {
-    let path = format!(in rt.alloc(); "{root}/{path}")?;
-    fs::write(rt, path.as_str(), text)?;
-    Ok(())
-}
-
-/// Makes a root with these advisories and this lockfile.
-pub fn make_root<T: Files + AllocGlobal>(
-    rt: &T,
-    root: &str,
-    advisories: &[(&str, &str)],
-    lockfile: &str,
-) -> Result<(), Fail> {
-    let folder = format!(in rt.alloc(); "{root}/crates/base")?;
-    fs::create_dir_all(rt, folder.as_str())?;
-    for (path, text) in advisories {
-        put_file(rt, root, path, text)?;
-    }
-    put_file(rt, root, "Cargo.lock", lockfile)
-}
-
 /// Checks what words write over a root that is made for them and removed behind them.
-fn expect_over_root<T: Files + AllocGlobal + Abort>(
+pub fn expect_over_root<T: Files + AllocGlobal + Abort>(
     rt: &T,
     root: &str,
     advisories: &[(&str, &str)],

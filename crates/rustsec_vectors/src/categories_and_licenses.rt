@@ -1,6 +1,6 @@
 // Categories, kinds, licenses, collections and keywords by their texts.
 
-use crate::fixtures::kind_of;
+use rustsec_fixtures::kind_of;
 use rustsec_texts::{Category, Collection, Informational, Keyword, License, WarningKind};
 use rustsec_versions::ErrorKind;
 use std::alloc::Global;

@@ -1,6 +1,7 @@
 // The commands `affected` and `ranges`, as programs run them.
 
-use crate::fixtures::{expect_outputs, writes};
+use crate::outputs::expect_outputs;
+use rustsec_fixtures::writes;
 use std::test::Fail;
 
 #[test]

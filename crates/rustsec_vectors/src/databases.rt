@@ -1,9 +1,9 @@
 // Databases: what is loaded from files, where it refuses, and what is found in it.
 
-use crate::advisory_texts::{VALID, changed};
-use crate::fixtures::kind_of;
 use crate::folders_in_memory::{Failing, Holds, MemoryFolders, Paths};
-use rustsec_database::{Database, Entries, SourceFile};
+use rustsec_advisory::Advisory;
+use rustsec_database::{Database, Entries, Index, SourceFile};
+use rustsec_fixtures::{VALID, changed, kind_of};
 use rustsec_lock::Lockfile;
 use rustsec_lock::package::Name;
 use rustsec_query::Query;
@@ -11,7 +11,9 @@ use rustsec_texts::{Collection, Id};
 use rustsec_values::Text;
 use rustsec_versions::ErrorKind;
 use std::alloc::Global;
+use std::fs;
 use std::process::Abort;
+use std::rt::Files;
 use std::test::Fail;
 
 /// Where the valid advisory stands.
@@ -184,9 +186,21 @@ const FIRST_FAULTS: &[Row<'static>] = &[
     (&[GOOD], None, 1),
 ];
 
+/// How many advisories of `base` in a collection the good file alone gives.
+fn good_of(alloc: Global, collection: Collection) -> Result<usize, Fail> {
+    let files = source_files(alloc, &[GOOD])?;
+    let database = Database::load(alloc, files.as_slice())?;
+    let name = Name::from_str(alloc, "base")?;
+    let query = Query::new(alloc).collection(collection).package_name(name);
+    Ok(database.query(alloc, &query)?.len())
+}
+
 #[test]
 fn load_first_fault(rt: HostRuntime) -> Result<(), Fail> {
-    expect_databases(&rt, FIRST_FAULTS)
+    expect_databases(&rt, FIRST_FAULTS)?;
+    assert!(rt; good_of(rt.alloc(), Collection::Crates)? == 1);
+    assert!(rt; good_of(rt.alloc(), Collection::Rust)? == 0);
+    Ok(())
 }
 
 /// The database of the valid advisory in `crates` and another one in `rust`.
@@ -230,6 +244,62 @@ fn queries(rt: HostRuntime) -> Result<(), Fail> {
         let found = found(rt.alloc(), collection, name, year)?;
         assert!(rt; found == expected, "{name:?}, {year}");
     }
+    Ok(())
+}
+
+/// Whether advisories have these IDs, in order.
+fn have_ids(advisories: &[&Advisory], ids: &[&str]) -> bool {
+    for (i, advisory) in advisories.iter().enumerate() {
+        match ids.get(i) {
+            Some(id) if advisory.id().as_str() == *id => {}
+            _ => return false,
+        }
+    }
+    advisories.len() == ids.len()
+}
+
+/// The database of three files, whose IDs stand in another order than those of the files.
+fn three(alloc: Global) -> Result<Database, Fail> {
+    let third = ("crates/base/RUSTSEC-2001-2103.md", "2101\"\np", "2103\"\np");
+    let second = ("rust/base/RUSTSEC-2001-2102.md", "2101\"\np", "2102\"\np");
+    let files = source_files(alloc, &[third, second, GOOD])?;
+    Ok(Database::load(alloc, files.as_slice())?)
+}
+
+/// Whether a query gives advisories of these IDs, in order.
+fn gives(alloc: Global, query: &Query, ids: &[&str]) -> Result<bool, Fail> {
+    let database = three(alloc)?;
+    let found = database.query(alloc, query)?;
+    Ok(have_ids(found.as_slice(), ids))
+}
+
+/// Whether the database gives its advisories by these IDs, in order.
+fn iterates(alloc: Global, ids: &[&str]) -> Result<bool, Fail> {
+    let database = three(alloc)?;
+    let mut advisories = Vec::new(alloc);
+    for advisory in database.iter() {
+        advisories.push(advisory)?;
+    }
+    Ok(have_ids(advisories.as_slice(), ids))
+}
+
+/// Whether the query for crates of a name gives advisories of these IDs, in order.
+fn gives_of_crates(alloc: Global, name: &str, ids: &[&str]) -> Result<bool, Fail> {
+    let query = Query::new(alloc).collection(Collection::Crates);
+    let query = query.package_name(Name::from_str(alloc, name)?);
+    gives(alloc, &query, ids)
+}
+
+#[test]
+fn load_order(rt: HostRuntime) -> Result<(), Fail> {
+    let (first, second, third) = (
+        "RUSTSEC-2001-2103",
+        "RUSTSEC-2001-2102",
+        "RUSTSEC-2001-2101",
+    );
+    assert!(rt; iterates(rt.alloc(), &[first, second, third])?);
+    assert!(rt; gives(rt.alloc(), &Query::new(rt.alloc()), &[first, second, third])?);
+    assert!(rt; gives_of_crates(rt.alloc(), "base", &[first, third])?);
     Ok(())
 }
 
@@ -322,15 +392,16 @@ fn opened(
     }
 }
 
-// The calls list `crates`, list `base`, read the advisory, and list `rust`, which may fail.
+// The calls, in an order of this port, list `crates`, `base` and `rust`, which may fail, and read the advisory.
 #[test]
 fn open_folders(rt: HostRuntime) -> Result<(), Fail> {
     for (root, at, expected) in [
         ("db", 0, Ok(1)),
         ("db", 1, Err(ErrorKind::Io)),
         ("db", 2, Err(ErrorKind::Io)),
-        ("db", 3, Err(ErrorKind::Io)),
-        ("db", 4, Ok(1)),
+        ("db", 3, Ok(1)),
+        ("db", 4, Err(ErrorKind::Io)),
+        ("db", 5, Ok(1)),
         ("absent", 0, Err(ErrorKind::Io)),
     ] {
         let kind = ErrorKind::Io;
@@ -362,8 +433,8 @@ const BOTH: Paths<'_> = &[
     ),
 ];
 
-// The calls list `crates`, list `base`, read its advisory, and then the same of `rust` and `std`. Where the
-// listing of `rust` fails, it is skipped; where memory is refused, nothing is.
+// The calls, in an order of this port, list `crates`, `base`, `rust` and `std`, and read their advisories. Where
+// the listing of `rust` fails, it is skipped; where memory is refused, nothing is.
 #[test]
 fn failing_steps(rt: HostRuntime) -> Result<(), Fail> {
     let (io, memory) = (ErrorKind::Io, ErrorKind::OutOfMemory);
@@ -371,8 +442,8 @@ fn failing_steps(rt: HostRuntime) -> Result<(), Fail> {
         (0, io, Ok(2)),
         (1, io, Err(io)),
         (2, io, Err(io)),
-        (3, io, Err(io)),
-        (4, io, Ok(1)),
+        (3, io, Ok(1)),
+        (4, io, Err(io)),
         (5, io, Err(io)),
         (6, io, Err(io)),
         (7, io, Ok(2)),
@@ -386,5 +457,171 @@ fn failing_steps(rt: HostRuntime) -> Result<(), Fail> {
         let found = opened(rt.alloc(), BOTH, "db", Failing { at, kind });
         assert!(rt; found == expected, "{at}, {kind:?}");
     }
+    Ok(())
+}
+
+/// A root with a file that is no advisory, and another behind it that is one.
+const NO_ADVISORY: Paths<'_> = &[
+    ("db/crates", Holds::Entries(&[("base", true), ("a", true)])),
+    (
+        "db/crates/a",
+        Holds::Entries(&[("RUSTSEC-2001-0002.md", false)]),
+    ),
+    (
+        "db/crates/a/RUSTSEC-2001-0002.md",
+        Holds::Text("no advisory"),
+    ),
+    (
+        "db/crates/base",
+        Holds::Entries(&[("RUSTSEC-2001-2101.md", false)]),
+    ),
+    ("db/crates/base/RUSTSEC-2001-2101.md", Holds::Text(VALID)),
+];
+
+/// A root with an advisory in the folder of another package, and a file behind it that is no advisory.
+const TWO_FAULTS: Paths<'_> = &[
+    ("db/crates", Holds::Entries(&[("other", true), ("a", true)])),
+    (
+        "db/crates/a",
+        Holds::Entries(&[("RUSTSEC-2001-2101.md", false)]),
+    ),
+    ("db/crates/a/RUSTSEC-2001-2101.md", Holds::Text(VALID)),
+    (
+        "db/crates/other",
+        Holds::Entries(&[("RUSTSEC-2001-0002.md", false)]),
+    ),
+    (
+        "db/crates/other/RUSTSEC-2001-0002.md",
+        Holds::Text("no advisory"),
+    ),
+];
+
+// The calls list `crates`, its two folders and `rust`, and read the two files. The first file at fault is the
+// answer, but for a file behind it that cannot be read.
+#[test]
+fn all_files_are_read(rt: HostRuntime) -> Result<(), Fail> {
+    let (io, memory) = (ErrorKind::Io, ErrorKind::OutOfMemory);
+    for (paths, at, kind, expected) in [
+        (NO_ADVISORY, 0, io, ErrorKind::Parse),
+        (NO_ADVISORY, 5, io, io),
+        (NO_ADVISORY, 6, io, io),
+        (NO_ADVISORY, 6, memory, memory),
+        (TWO_FAULTS, 0, io, ErrorKind::Repo),
+        (TWO_FAULTS, 6, io, io),
+    ] {
+        let found = opened(rt.alloc(), paths, "db", Failing { at, kind });
+        assert!(rt; found == Err(expected), "{at}, {kind:?}, {expected:?}");
+    }
+    Ok(())
+}
+
+/// The kind of the refusal of a root of the disk, with a file that is no advisory and these bytes in one behind
+/// it; the folder is removed again.
+fn refused_on_disk<T: Files + AllocGlobal>(
+    rt: &T,
+    root: &str,
+    bytes: &[u8],
+) -> Result<Option<ErrorKind>, Fail> {
+    let alloc = rt.alloc();
+    fs::create_dir_all(rt, &format!(in alloc; "{root}/crates/base")?)?;
+    fs::write(
+        rt,
+        &format!(in alloc; "{root}/crates/base/a.md")?,
+        "no advisory",
+    )?;
+    fs::write(rt, &format!(in alloc; "{root}/crates/base/b.md")?, bytes)?;
+    let kind = match Database::open(rt, alloc, root) {
+        Ok(_) => None,
+        Err(e) => Some(e.kind()),
+    };
+    fs::remove_dir_all(rt, root)?;
+    Ok(kind)
+}
+
+#[test]
+fn roots_of_the_disk(rt: HostRuntime) -> Result<(), Fail> {
+    for (root, bytes, expected) in &[
+        ("faulty-db", b"T\n".as_slice(), ErrorKind::Parse),
+        ("unreadable-db", b"\xff", ErrorKind::Io),
+    ] {
+        let kind = refused_on_disk(&rt, root, bytes)?;
+        assert!(rt; kind == Some(*expected), "of {root}");
+    }
+    Ok(())
+}
+
+/// Whether an index that is given a slot twice has it once.
+fn index_gives(alloc: Global, name: &str) -> Result<bool, Fail> {
+    let mut entries = Entries::new(alloc);
+    let slot = entries.load_text(alloc, PLACE, VALID)?.ok_or("no slot")?;
+    let name = Name::from_str(alloc, name)?;
+    let mut index = Index::new(alloc);
+    let fresh = index.insert(alloc, &name, slot)?;
+    let again = index.insert(alloc, &name, slot)?;
+    let found = index.get(&name).ok_or("no slots")?;
+    Ok(fresh && !again && found.len() == 1 && found[0] == slot)
+}
+
+/// Whether a file of the disk with the valid advisory is loaded; the folder is removed again.
+fn loads_file<T: Files + AllocGlobal>(rt: &T, root: &str) -> Result<bool, Fail> {
+    let alloc = rt.alloc();
+    let path = format!(in alloc; "{root}/{PLACE}")?;
+    fs::create_dir_all(rt, &format!(in alloc; "{root}/crates/base")?)?;
+    fs::write(rt, &path, VALID)?;
+    let mut entries = Entries::new(alloc);
+    let slot = entries.load_file(rt, alloc, &path)?;
+    fs::remove_dir_all(rt, root)?;
+    Ok(slot.is_some() && entries.iter().count() == 1)
+}
+
+#[test]
+fn entries_with_ample_memory(rt: HostRuntime) -> Result<(), Fail> {
+    assert!(rt; index_gives(rt.alloc(), "base")?);
+    assert!(rt; loads_file(&rt, "loads-file")?);
+    Ok(())
+}
+
+/// How many advisories a root of the disk gives, if all are of crates, or the kind of the refusal. It has an advisory,
+/// a file that begins with a dot, a file beside the package's folder and, if it is asked for, a folder in it.
+fn found_on_disk<T: Files + AllocGlobal>(
+    rt: &T,
+    root: &str,
+    with_folder: bool,
+) -> Result<std::result::Result<usize, ErrorKind>, Fail> {
+    let alloc = rt.alloc();
+    let base = format!(in alloc; "{root}/crates/base")?;
+    fs::create_dir_all(rt, &base)?;
+    fs::write(
+        rt,
+        &format!(in alloc; "{base}/RUSTSEC-2001-2101.md")?,
+        VALID,
+    )?;
+    fs::write(rt, &format!(in alloc; "{base}/.DS_Store")?, "no")?;
+    fs::write(rt, &format!(in alloc; "{root}/crates/README")?, "no")?;
+    if with_folder {
+        fs::create_dir_all(rt, &format!(in alloc; "{base}/sub")?)?;
+    }
+    let found = match Database::open(rt, alloc, root) {
+        Ok(database) => Ok(count_of_crates(&database)),
+        Err(e) => Err(e.kind()),
+    };
+    fs::remove_dir_all(rt, root)?;
+    Ok(found)
+}
+
+/// How many advisories there are, if all are of crates.
+fn count_of_crates(database: &Database) -> usize {
+    for advisory in database.iter() {
+        if advisory.metadata.collection != Some(Collection::Crates) {
+            return 0;
+        }
+    }
+    database.iter().count()
+}
+
+#[test]
+fn open_folders_of_the_disk(rt: HostRuntime) -> Result<(), Fail> {
+    assert!(rt; found_on_disk(&rt, "open-folders", false)? == Ok(1));
+    assert!(rt; found_on_disk(&rt, "open-folders-sub", true)? == Err(ErrorKind::Io));
     Ok(())
 }

@@ -1,6 +1,6 @@
 // Dates of advisories.
 
-use crate::fixtures::kind_of;
+use rustsec_fixtures::kind_of;
 use rustsec_texts::Date;
 use rustsec_versions::ErrorKind;
 use std::alloc::Global;

@@ -1,8 +1,8 @@
 // Commands that update vulnerable packages.
 
-use crate::advisory_texts::{VALID, changed};
 use rustsec_advisory::Advisory;
 use rustsec_fixer::{FixCommand, Fixer};
+use rustsec_fixtures::{VALID, changed};
 use rustsec_lock::Lockfile;
 use rustsec_query::Vulnerability;
 use rustsec_values::Text;

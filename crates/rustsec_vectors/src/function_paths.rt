@@ -1,6 +1,6 @@
 // Paths of functions.
 
-use crate::fixtures::kind_of;
+use rustsec_fixtures::kind_of;
 use rustsec_texts::{FunctionPath, Identifier};
 use rustsec_versions::ErrorKind;
 use std::alloc::Global;

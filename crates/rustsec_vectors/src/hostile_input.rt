@@ -1,9 +1,8 @@
 // Inputs that try to leave something behind, or to be taken for what they are not.
 
-use crate::advisory_texts::{VALID, changed};
-use crate::fixtures::kind_of;
 use rustsec_advisory::{Advisory, Linter};
 use rustsec_database::Entries;
+use rustsec_fixtures::{VALID, changed, kind_of};
 use rustsec_osv::OsvAdvisory;
 use rustsec_texts::{Collection, Id};
 use rustsec_versions::{Error, ErrorKind};

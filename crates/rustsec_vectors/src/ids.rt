@@ -1,6 +1,6 @@
 // IDs of advisories.
 
-use crate::fixtures::kind_of;
+use rustsec_fixtures::kind_of;
 use rustsec_texts::{Id, IdKind};
 use rustsec_versions::ErrorKind;
 use std::alloc::Global;

@@ -1,6 +1,6 @@
 // The intervals of requirements: their bounds, how they print, and which overlap.
 
-use crate::fixtures::{interval, kind_of, version};
+use rustsec_fixtures::{interval, kind_of, version};
 use rustsec_versions::{Bound, ErrorKind, UnaffectedRange, requirement_text};
 use semver::{Comparator, Op, Prerelease, VersionReq};
 use std::alloc::Global;

@@ -8,8 +8,6 @@ mod advisories;
 #[cfg(test)]
 mod advisory_parts;
 #[cfg(test)]
-mod advisory_texts;
-#[cfg(test)]
 mod ample_memory;
 #[cfg(test)]
 mod audit_command;
@@ -24,13 +22,7 @@ mod databases;
 #[cfg(test)]
 mod dates;
 #[cfg(test)]
-mod fakes;
-#[cfg(test)]
-mod file_contents;
-#[cfg(test)]
 mod fixes;
-#[cfg(test)]
-mod fixtures;
 #[cfg(test)]
 mod folders;
 #[cfg(test)]
@@ -50,33 +42,25 @@ mod lockfiles;
 #[cfg(test)]
 mod lookups;
 #[cfg(test)]
-mod notes;
-#[cfg(test)]
 mod osv_command;
 #[cfg(test)]
 mod osv_documents;
 #[cfg(test)]
 mod osv_export;
 #[cfg(test)]
-mod packages;
+mod outputs;
 #[cfg(test)]
-mod platforms;
+mod packages;
 #[cfg(test)]
 mod query_builders;
 #[cfg(test)]
 mod readers_and_writers;
 #[cfg(test)]
-mod readings;
-#[cfg(test)]
 mod readme;
-#[cfg(test)]
-mod refusal_messages;
-#[cfg(test)]
-mod refused_requirements;
 #[cfg(test)]
 mod reports;
 #[cfg(test)]
-mod sampled_commands;
+mod roots;
 #[cfg(test)]
 mod sources;
 #[cfg(test)]

@@ -1,8 +1,8 @@
 // The errors that a linter finds in advisory files, and the command `lint`.
 
-use crate::advisory_texts::{INVALID, INVALID_ERRORS, VALID, changed};
-use crate::fixtures::{expect_outputs, writes};
+use crate::outputs::expect_outputs;
 use rustsec_advisory::linter::{self, ErrorKind, Linter};
+use rustsec_fixtures::{INVALID, INVALID_ERRORS, VALID, changed, writes};
 use std::alloc::Global;
 use std::fs;
 use std::process::Abort;

@@ -1,7 +1,7 @@
 // Lockfiles: which texts are one, and their packages.
 
-use crate::fixtures::kind_of;
 use crate::packages::{self, Row};
+use rustsec_fixtures::{changed, kind_of};
 use rustsec_lock::Lockfile;
 use rustsec_lock::package::Package;
 use rustsec_versions::ErrorKind;
@@ -12,7 +12,7 @@ use std::rt::Files;
 use std::test::Fail;
 
 /// A lockfile of two packages, the second without a source and a checksum.
-pub const TWO_PACKAGES: &str = r#"version = 4
+const TWO_PACKAGES: &str = r#"version = 4
 
 [[package]]
 name = "base"
@@ -27,7 +27,7 @@ version = "0.1.0"
 "#;
 
 /// Its packages.
-pub const PACKAGES: &[Row] = &[
+const PACKAGES: &[Row] = &[
     (
         "base",
         "1.0.0",
@@ -119,7 +119,7 @@ fn lockfile_tables(rt: HostRuntime) -> Result<(), Fail> {
 }
 
 /// Whether the lockfile in a file of these bytes has these packages. The file is removed again.
-pub fn file_has<T: Files + AllocGlobal>(
+fn file_has<T: Files + AllocGlobal>(
     rt: &T,
     path: &str,
     bytes: &[u8],
@@ -151,5 +151,24 @@ fn lockfile_files(rt: HostRuntime) -> Result<(), Fail> {
     assert!(rt; absent == Some(ErrorKind::Io));
     assert!(rt; refusal(&rt, "no-text.lock", b"# \xff\n")? == Some(ErrorKind::Io));
     assert!(rt; refusal(&rt, "no-array.lock", b"package = 1\n")? == Some(ErrorKind::Parse));
+    Ok(())
+}
+
+// A mark before a TOML document is no part of it, as the crate `toml` reads it.
+#[test]
+fn lockfiles_behind_a_mark_and_with_line_ends(rt: HostRuntime) -> Result<(), Fail> {
+    let marked = changed(rt.alloc(), TWO_PACKAGES, "", "\u{feff}")?;
+    assert!(rt; file_has(&rt, "marked.lock", marked.as_bytes(), PACKAGES)?);
+    let returns = TWO_PACKAGES.replace(rt.alloc(), "\n", "\r\n")?;
+    assert!(rt; file_has(&rt, "line-ends.lock", returns.as_bytes(), PACKAGES)?);
+    Ok(())
+}
+
+/// A lockfile above a megabyte, whose packages stand behind a comment of that length.
+#[test]
+fn a_lockfile_above_a_megabyte(rt: HostRuntime) -> Result<(), Fail> {
+    let comment = "#\n".repeat(rt.alloc(), 600000)?;
+    let text = changed(rt.alloc(), TWO_PACKAGES, "", &comment)?;
+    assert!(rt; file_has(&rt, "long.lock", text.as_bytes(), PACKAGES)?);
     Ok(())
 }

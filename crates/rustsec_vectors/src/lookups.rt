@@ -1,6 +1,6 @@
 // Yanked packages by look-ups of the tests, and signatures.
 
-use crate::fixtures::version;
+use rustsec_fixtures::version;
 use rustsec_lock::package::{Name, Package};
 use rustsec_registry::{CachedIndex, IndexVersion, Lookup, Signature};
 use rustsec_values::{Items, Text};

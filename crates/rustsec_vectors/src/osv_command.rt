@@ -1,8 +1,8 @@
 // The command `osv`, over files that a test writes.
 
-use crate::advisory_texts::changed;
-use crate::fixtures::{expect_outputs, writes};
 use crate::osv_export::{SHORT, SHORT_DOCUMENT};
+use crate::outputs::expect_outputs;
+use rustsec_fixtures::{changed, writes};
 use std::fs;
 use std::rt::Files;
 use std::test::Fail;

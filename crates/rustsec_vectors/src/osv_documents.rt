@@ -1,6 +1,6 @@
 // Trees of OSV documents, read and printed again.
 
-use crate::fixtures::kind_of;
+use rustsec_fixtures::kind_of;
 use rustsec_osv::{OsvAdvisory, OsvAffected, OsvEcosystemSpecific, OsvJsonRange};
 use rustsec_versions::ErrorKind;
 use serde_json::Value;

@@ -1,8 +1,7 @@
 // Documents of advisories, and what is read out of a document.
 
-use crate::advisory_texts::{VALID, changed};
-use crate::fixtures::kind_of;
 use rustsec_advisory::Advisory;
+use rustsec_fixtures::{VALID, changed, kind_of};
 use rustsec_osv::{OsvAdvisory, OsvReferenceKind};
 use rustsec_versions::ErrorKind;
 use serde_json::Value;

@@ -1,6 +1,6 @@
 // Names and packages of lockfiles.
 
-use crate::fixtures::{kind_of, version};
+use rustsec_fixtures::{kind_of, version};
 use rustsec_lock::SourceId;
 use rustsec_lock::package::{Name, Package};
 use rustsec_values::Text;

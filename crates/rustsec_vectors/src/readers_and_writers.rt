@@ -1,8 +1,7 @@
 // The commands over readers and writers that take one byte a call, that fail, and that hold much.
 
-use crate::fakes::{ByteReader, ByteWriter};
-use crate::fixtures::writes;
 use rustsec_commands::{Fault, answer, answer_ranges, run};
+use rustsec_fixtures::{ByteReader, ByteWriter, writes};
 use std::alloc::Global;
 use std::process::Abort;
 use std::rt::Files;

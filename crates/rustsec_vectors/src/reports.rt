@@ -8,7 +8,7 @@ use rustsec_lock::{Lockfile, Severity};
 use rustsec_query::Vulnerability;
 use rustsec_report::{
     BinaryFormat, LockfileInfo, Report, Settings, VulnerabilityInfo, Warning, WarningInfo,
-    filter_report_by_binary_type,
+    filter_report_by_binary_type, find_warnings,
 };
 use rustsec_texts::{Id, Informational, WarningKind};
 use rustsec_values::{Items, Text};
@@ -267,6 +267,51 @@ fn expect_reports<T: AllocGlobal + Abort>(rt: &T, rows: &[Row<'_>]) -> Result<()
         let found = is_as_wanted(rt.alloc(), row)?;
         assert!(rt; found, "row {i}");
     }
+    Ok(())
+}
+
+/// Whether a copy of the report of a row has the same tree.
+fn report_is_copied(alloc: Global, row: &Row<'_>) -> Result<bool, Fail> {
+    let report = report(alloc, row)?;
+    let copy = report.clone(alloc)?;
+    let value = report.to_value(alloc)?;
+    let text = value.to_string(alloc)?;
+    is_written(alloc, &copy, text.as_str())
+}
+
+/// Whether a copy of a report's vulnerabilities is equal to them.
+fn vulnerabilities_are_copied(alloc: Global, row: &Row<'_>) -> Result<bool, Fail> {
+    let report = report(alloc, row)?;
+    let copy = report.vulnerabilities.clone(alloc)?;
+    Ok(copy.count == report.vulnerabilities.count && copy.list == report.vulnerabilities.list)
+}
+
+/// How many warnings `find_warnings` finds for a row by copied settings.
+fn warnings_found(alloc: Global, row: &Row<'_>) -> Result<Option<usize>, Fail> {
+    let settings = settings(alloc, row)?;
+    let copy = settings.clone(alloc)?;
+    let (database, lockfile) = (database(alloc, row.kind)?, lockfile(alloc, row.twice)?);
+    let warnings = find_warnings(alloc, &database, &lockfile, &copy)?;
+    Ok(
+        warnings
+            .get(&WarningKind::Unmaintained)
+            .map(|list| list.len()),
+    )
+}
+
+#[test]
+fn reports_with_ample_memory(rt: HostRuntime) -> Result<(), Fail> {
+    let row = Row {
+        twice: true,
+        ignored: "RUSTSEC-2001-0009",
+        kind: "unmaintained",
+        vulnerabilities: 2,
+        warnings: Some(2),
+        packages: 5,
+    };
+    assert!(rt; report_is_copied(rt.alloc(), &row)?);
+    assert!(rt; vulnerabilities_are_copied(rt.alloc(), &row)?);
+    assert!(rt; warnings_found(rt.alloc(), &row)? == row.warnings);
     Ok(())
 }
 

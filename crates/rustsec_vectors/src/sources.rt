@@ -1,6 +1,6 @@
 // The sources of packages.
 
-use crate::fixtures::kind_of;
+use rustsec_fixtures::kind_of;
 use rustsec_lock::{SourceId, SourceKind};
 use rustsec_versions::ErrorKind;
 use std::alloc::Global;

@@ -1,6 +1,6 @@
 // The ranges that lists keep, and how many comparisons a search among them makes.
 
-use crate::fixtures::{lists, version};
+use rustsec_fixtures::{lists, version};
 use rustsec_versions::{Steps, Versions, ranges_for_advisory};
 use semver::Version;
 use std::alloc::Global;

@@ -1,6 +1,6 @@
 // The successor of a version: the least one above it.
 
-use crate::fixtures::version;
+use rustsec_fixtures::version;
 use rustsec_versions::successor;
 use std::alloc::Global;
 use std::cmp::Ordering;

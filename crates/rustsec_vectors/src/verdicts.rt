@@ -1,9 +1,8 @@
 // Lists of requirements by the library's calls: which are accepted, which versions they leave affected,
 // and their ranges.
 
-use crate::advisory_texts::{VALID, changed};
-use crate::fixtures::{interval, kind_of, lists, some_affects, version};
 use rustsec_advisory::Advisory;
+use rustsec_fixtures::{VALID, changed, interval, kind_of, lists, some_affects, version};
 use rustsec_versions::{
     Bound, ErrorKind, OsvRange, UnaffectedRange, Versions, ranges_for_advisory,
 };

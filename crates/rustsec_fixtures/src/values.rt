@@ -1,11 +1,8 @@
-// What the tests are made of: texts read, lists made, commands run over memory.
+// Versions, requirements and lists of texts.
 
-use rustsec_commands::run;
 use rustsec_versions::{Error, ErrorKind, OsvRange, UnaffectedRange, Versions};
 use semver::{Version, VersionReq};
 use std::alloc::Global;
-use std::process::Abort;
-use std::rt::Files;
 use std::test::Fail;
 
 /// A version of a text.
@@ -55,36 +52,4 @@ pub fn some_affects(ranges: &[OsvRange], version: &Version) -> bool {
         }
     }
     false
-}
-
-/// Words, an input, the status that they give, and what is written.
-pub type CommandRow<'a> = (&'a [&'a str], &'a str, u8, &'a str);
-
-/// Whether words write a text for an input, with this status.
-pub fn writes<T: Files + AllocGlobal>(
-    rt: &T,
-    words: &[&str],
-    input: &[u8],
-    status: u8,
-    text: &[u8],
-) -> Result<bool, Fail> {
-    let mut reader = input;
-    let mut written = Vec::new(rt.alloc());
-    let found = run(rt, words, &mut reader, &mut written)?;
-    Ok(found == status && written.as_slice() == text)
-}
-
-/// Checks what words write for inputs, and their status.
-pub fn expect_outputs<T: Files + AllocGlobal + Abort>(
-    rt: &T,
-    rows: &[CommandRow<'_>],
-) -> Result<(), Fail> {
-    for (words, input, status, text) in rows {
-        let holds = writes(rt, words, input.as_bytes(), *status, text.as_bytes())?;
-        assert!(rt;
-            holds,
-            "of {words:?} for {input:?}: not {text:?}, status {status}"
-        );
-    }
-    Ok(())
 }

@@ -1,9 +1,7 @@
 // What files hold is kept as it stands: byte order marks, line ends, and files of more than a megabyte.
 
-use crate::advisory_texts::{VALID, changed};
-use crate::fixtures::{kind_of, writes};
-use crate::lockfiles::{PACKAGES, TWO_PACKAGES, file_has};
 use rustsec_advisory::Advisory;
+use rustsec_fixtures::{VALID, changed, kind_of, writes};
 use rustsec_versions::ErrorKind;
 use std::alloc::Global;
 use std::fmt::Write as _;
@@ -89,25 +87,6 @@ fn line_ends_of_advisory_files(rt: HostRuntime) -> Result<(), Fail> {
             description
         )?
     );
-    Ok(())
-}
-
-// A mark before a TOML document is no part of it, as the crate `toml` reads it.
-#[test]
-fn lockfiles_behind_a_mark_and_with_line_ends(rt: HostRuntime) -> Result<(), Fail> {
-    let marked = changed(rt.alloc(), TWO_PACKAGES, "", "\u{feff}")?;
-    assert!(rt; file_has(&rt, "marked.lock", marked.as_bytes(), PACKAGES)?);
-    let returns = TWO_PACKAGES.replace(rt.alloc(), "\n", "\r\n")?;
-    assert!(rt; file_has(&rt, "line-ends.lock", returns.as_bytes(), PACKAGES)?);
-    Ok(())
-}
-
-/// A lockfile above a megabyte, whose packages stand behind a comment of that length.
-#[test]
-fn a_lockfile_above_a_megabyte(rt: HostRuntime) -> Result<(), Fail> {
-    let comment = "#\n".repeat(rt.alloc(), 600000)?;
-    let text = changed(rt.alloc(), TWO_PACKAGES, "", &comment)?;
-    assert!(rt; file_has(&rt, "long.lock", text.as_bytes(), PACKAGES)?);
     Ok(())
 }
 

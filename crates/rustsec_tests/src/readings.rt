@@ -2,6 +2,7 @@
 
 use rustsec_advisory::Advisory;
 use rustsec_files::{path, reading};
+use rustsec_fixtures::ByteReader;
 use rustsec_versions::{Error, ErrorKind};
 use std::alloc::Global;
 use std::test::Fail;
@@ -36,6 +37,56 @@ fn readers_to_their_end(rt: HostRuntime) -> Result<(), Fail> {
         assert!(rt; many_are_read(rt.alloc(), *count)?, "of {count}");
     }
     Ok(())
+}
+
+/// So many letters.
+fn letters(alloc: Global, count: usize) -> Result<Vec<u8>, Fail> {
+    let mut bytes = Vec::new(alloc);
+    for _ in 0..count {
+        bytes.push(b'a')?;
+    }
+    Ok(bytes)
+}
+
+/// Whether the text of a reader of one byte a call is so long, or refused if a call fails.
+fn slow_text(alloc: Global, count: usize, fails_at: u64) -> Result<bool, Fail> {
+    let bytes = letters(alloc, count)?;
+    let mut reader = ByteReader::new(&bytes, fails_at);
+    Ok(match reading::text_of(alloc, &mut reader, "x.md") {
+        Ok(text) => fails_at == 0 && text.len() == count,
+        Err(error) => fails_at != 0 && error.kind() == ErrorKind::Io,
+    })
+}
+
+// The last call finds the end, and may fail too.
+#[test]
+fn slow_and_failing_readers(rt: HostRuntime) -> Result<(), Fail> {
+    for (count, fails_at) in &[(70000, 0), (3, 1), (3, 2), (3, 3), (3, 4)] {
+        assert!(rt;
+            slow_text(rt.alloc(), *count, *fails_at)?,
+            "{count} at {fails_at}"
+        );
+    }
+    Ok(())
+}
+
+/// Whether all bytes of a reader are read although a call was interrupted.
+fn is_read_again(alloc: Global, bytes: &[u8], interrupted_at: u64) -> bool {
+    let mut reader = ByteReader::interrupted(bytes, interrupted_at);
+    match reading::bytes_of(alloc, &mut reader) {
+        Ok(all) => all.as_slice() == bytes,
+        Err(_) => false,
+    }
+}
+
+#[test]
+fn interrupted_readers(rt: HostRuntime) {
+    for interrupted_at in &[1, 2, 3, 4] {
+        assert!(rt;
+            is_read_again(rt.alloc(), b"abc", *interrupted_at),
+            "at {interrupted_at}"
+        );
+    }
 }
 
 /// Whether the text of a reader is this one, or refused if there is none.
@@ -137,6 +188,10 @@ fn messages_name_key_and_table(rt: HostRuntime) -> Result<(), Fail> {
         (
             "id = \"X-1\"\npackage = \"a\"\ndate = \"2001-02-03\"\n[versions]\npatched = 1",
             "key `patched` in [versions]: found integer `1`, expected an array of strings",
+        ),
+        (
+            "id = \"X-1\"\npackage = \"a\"\ndate = \"2001-02-03\"\n[versions]\npatched = [\">> 1\"]",
+            "key `patched` in [versions]: not a requirement `>> 1`, expected comparators such as `>=1.2.3, <2`",
         ),
     ] {
         assert!(rt; is_refused(rt.alloc(), front, want)?, "of {want}");

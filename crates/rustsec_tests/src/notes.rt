@@ -1,9 +1,9 @@
 // What the program says beside its output: why something is refused, and what helps.
 
-use crate::advisory_texts::{VALID, changed};
-use crate::audit_command::{ADVISORIES, FOUR_PACKAGES, make_root};
-use crate::fakes::ByteWriter;
-use rustsec_commands::run_with_notes;
+use rustsec_commands::{Fault, run_with_notes};
+use rustsec_fixtures::{
+    ADVISORIES, ByteReader, ByteWriter, FOUR_PACKAGES, VALID, changed, make_root,
+};
 use std::process::Abort;
 use std::rt::Files;
 use std::test::Fail;
@@ -90,7 +90,16 @@ const REFUSALS: &[NoteRow<'static>] = &[
         &["affected"],
         "\nverson 1.0.0\n",
         2,
-        &["rustsec_audit: line 2: ", "version V"],
+        &[
+            "rustsec_audit: line 2: malformed `verson 1.0.0`, expected ",
+            "version V",
+        ],
+    ),
+    (
+        &["ranges"],
+        "patched >=\u{1b}x\n",
+        2,
+        &["line 1: malformed `patched >=\\u{1b}x`, expected "],
     ),
 ];
 
@@ -100,6 +109,79 @@ fn notes_of_refusals(rt: HostRuntime) -> Result<(), Fail> {
     fs::write(&rt, REFUSED, &text)?;
     expect_notes(&rt, REFUSALS)?;
     fs::remove_file(&rt, REFUSED)?;
+    Ok(())
+}
+
+/// A file whose name is not that of its ID.
+const MISNAMED: &[(&str, &str)] = &[("crates/base/RUSTSEC-2001-0001.md", VALID)];
+
+/// A draft with an ID, and a file of the same ID.
+const DOUBLE: &[(&str, &str)] = &[
+    ("crates/base/RUSTSEC-0000-0000.md", VALID),
+    ("crates/base/RUSTSEC-2001-2101.md", VALID),
+];
+
+/// Roots with a file at fault, and what is said of it.
+const ROOTS: &[NoteRow<'static>] = &[
+    (
+        &["audit", "notes-misnamed", "notes-misnamed/Cargo.lock"],
+        "",
+        2,
+        &[
+            "git operation failed: ",
+            "notes-misnamed/crates/base/RUSTSEC-2001-0001.md",
+            "RUSTSEC-2001-2101.md",
+        ],
+    ),
+    (
+        &["report", "notes-double", "notes-double/Cargo.lock"],
+        "",
+        2,
+        &[
+            "parse error: ",
+            "notes-double/crates/base/RUSTSEC-2001-2101.md",
+            "`RUSTSEC-2001-2101` stands in an earlier file",
+        ],
+    ),
+    (
+        &["audit", "notes-double", "notes-absent"],
+        "",
+        2,
+        &["notes-double/crates/base/RUSTSEC-2001-2101.md"],
+    ),
+];
+
+#[test]
+fn notes_of_roots(rt: HostRuntime) -> Result<(), Fail> {
+    make_root(&rt, "notes-misnamed", MISNAMED, "")?;
+    make_root(&rt, "notes-double", DOUBLE, "")?;
+    expect_notes(&rt, ROOTS)?;
+    fs::remove_dir_all(&rt, "notes-misnamed")?;
+    fs::remove_dir_all(&rt, "notes-double")?;
+    Ok(())
+}
+
+/// Whether `affected` fails so and says this, where a read or a write fails at a call.
+fn fails_with<T: Files + AllocGlobal>(
+    rt: &T,
+    read_at: u64,
+    write_at: u64,
+    fault: Fault,
+    text: &[u8],
+) -> Result<bool, Fail> {
+    let mut reader = ByteReader::new(b"version 1.0.0\n", read_at);
+    let mut written = ByteWriter::new(Vec::new(rt.alloc()), write_at);
+    let mut note = Vec::new(rt.alloc());
+    let found = run_with_notes(rt, &["affected"], &mut reader, &mut written, &mut note);
+    Ok(found == Err(fault) && note.as_slice() == text)
+}
+
+#[test]
+fn notes_of_failures(rt: HostRuntime) -> Result<(), Fail> {
+    let read = b"rustsec_audit: the input cannot be read\n";
+    assert!(rt; fails_with(&rt, 3, 0, Fault::Read, read)?);
+    let write = b"rustsec_audit: the output cannot be written\n";
+    assert!(rt; fails_with(&rt, 0, 3, Fault::Write, write)?);
     Ok(())
 }
 

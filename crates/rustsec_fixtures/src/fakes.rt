@@ -12,6 +12,7 @@ pub struct ByteReader<'a> {
     rest: &'a [u8],
     calls: u64,
     fails_at: u64,
+    failure: ErrorKind,
 }
 
 impl<'a> ByteReader<'a> {
@@ -23,6 +24,19 @@ impl<'a> ByteReader<'a> {
             rest: bytes,
             calls: 0,
             fails_at,
+            failure: ErrorKind::Other,
+        }
+    }
+
+    /// A reader of bytes whose failure is that the call was interrupted.
+    pub fn interrupted(bytes: &'a [u8], fails_at: u64) -> ByteReader<'a>
+        ensures { result.rest.now ≡ bytes.now }
+    {
+        ByteReader {
+            rest: bytes,
+            calls: 0,
+            fails_at,
+            failure: ErrorKind::Interrupted,
         }
     }
 }
@@ -33,7 +47,7 @@ impl<'a> Read for ByteReader<'a> {
     fn read(&mut self, buf: &mut [u8]) -> io::Result<usize> {
         self.calls = self.calls.saturating_add(1);
         if self.calls == self.fails_at {
-            return Err(io::Error::from(ErrorKind::Other));
+            return Err(io::Error::from(self.failure));
         }
         let count = self.rest.len().min(buf.len()).min(1);
         let (front, back) = self.rest.split_at(count);

@@ -1,6 +1,6 @@
 // The names of architectures and of operating systems.
 
-use crate::fixtures::kind_of;
+use rustsec_fixtures::kind_of;
 use rustsec_lock::platforms::{Arch, OS};
 use rustsec_versions::ErrorKind;
 use std::alloc::Global;

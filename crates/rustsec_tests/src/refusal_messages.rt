@@ -1,12 +1,15 @@
-// What refusals of texts and lockfiles say: what was found, what was expected, and where.
+// What refusals of texts, lockfiles and OSV documents say: what was found, what was expected, and where.
 
 use rustsec_lock::package::Name;
 use rustsec_lock::platforms::{Arch, OS};
 use rustsec_lock::{Cvss, Lockfile, SourceId};
+use rustsec_osv::OsvAdvisory;
 use rustsec_texts::{Collection, Date, FunctionPath, Id, WarningKind};
 use rustsec_versions::{Error, ErrorKind, Result};
+use serde_json::Value;
 use std::alloc::Global;
 use std::process::Abort;
+use std::test::Fail;
 
 /// Whether this is a refusal of a text with this message, with a cause or without one.
 fn says(error: &Error, message: &str, caused: bool) -> bool {
@@ -87,6 +90,61 @@ fn expect_lockfiles<T: AllocGlobal + Abort>(rt: &T) {
 #[test]
 fn messages_of_lockfiles(rt: HostRuntime) {
     expect_lockfiles(&rt);
+}
+
+/// Trees of no OSV document, the messages of their refusals, and whether these have a cause.
+const DOCUMENTS: &[(&str, &str, bool)] = &[
+    ("[]", "found the list `[]`, expected an object", false),
+    ("null", "found `null`, expected an object", false),
+    ("{}", "key `id` is missing", false),
+    (
+        "{\"id\":3}",
+        "key `id`: found the number `3`, expected a string",
+        false,
+    ),
+    (
+        "{\"schema_version\":\"1.0\"}",
+        "key `schema_version`: malformed version `1.0`, expected one such as `1.2.3`",
+        true,
+    ),
+    (
+        "{\"id\":\"X-1\",\"modified\":\"\",\"published\":\"\",\"summary\":\"\",\"details\":\"\",\"aliases\":{\"a\":true}}",
+        "key `aliases`: found the object `{\"a\":true}`, expected a list",
+        false,
+    ),
+    (
+        "{\"id\":\"X-1\",\"modified\":\"\",\"published\":\"\",\"summary\":\"\",\"details\":\"\",\"affected\":[{\"package\":{\"name\":\"a\",\"ecosystem\":\"b\",\"purl\":\"c\"},\"database_specific\":{},\"ranges\":[{\"type\":\"SEMVER\",\"events\":[{\"fixed\":\"1.x\"}]}]}]}",
+        "key `affected`: key `ranges`: key `events`: key `fixed`: malformed version `1.x`, expected one such as `1.2.3`",
+        true,
+    ),
+];
+
+/// Whether a text is the JSON of a tree that is refused with this message.
+fn tree_refused(
+    alloc: Global,
+    text: &str,
+    message: &str,
+    caused: bool,
+) -> std::result::Result<bool, Fail> {
+    let tree = Value::from_str(alloc, text)?;
+    Ok(refuses(OsvAdvisory::from_value(alloc, &tree), message, caused))
+}
+
+/// Goes through the trees.
+fn expect_documents<T: AllocGlobal + Abort>(rt: &T) -> std::result::Result<(), Fail> {
+    for (text, message, caused) in DOCUMENTS {
+        assert!(rt;
+            tree_refused(rt.alloc(), text, message, *caused)?,
+            "of {text}"
+        );
+    }
+    Ok(())
+}
+
+// A refusal of a tree names the keys that lead to what is refused, and keeps the reason of `semver`.
+#[test]
+fn messages_of_documents(rt: HostRuntime) -> std::result::Result<(), Fail> {
+    expect_documents(&rt)
 }
 
 /// Whether the reader of this name refuses a text with this message.

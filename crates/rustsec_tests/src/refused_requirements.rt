@@ -1,6 +1,6 @@
 // What the refusals of requirements say.
 
-use crate::fixtures::{interval, lists};
+use rustsec_fixtures::{interval, lists};
 use rustsec_versions::{Error, ErrorKind};
 use std::alloc::Global;
 use std::process::Abort;
@@ -80,7 +80,7 @@ fn refused_requirements(rt: HostRuntime) -> Result<(), Fail> {
             ),
             (
                 "> 2, < 1",
-                "the requirement `>2, <1`: the lower bound is not below the upper one",
+                "the requirement `>2, <1`: the lower bound `>2.0.0` is not below the upper bound `<1.0.0`",
             ),
             (
                 "^18446744073709551615",

@@ -1,0 +1,15 @@
+//! What tests are made of: versions and requirements of texts, advisory files, vectors of CVSS, commands over
+//! memory, readers and writers that fail.
+#![tactic(auto)]
+
+mod advisory_texts;
+mod commands;
+mod cvss;
+mod fakes;
+mod values;
+
+pub use crate::advisory_texts::{INVALID, INVALID_ERRORS, VALID, changed};
+pub use crate::commands::{ADVISORIES, FOUR_PACKAGES, make_root, writes};
+pub use crate::cvss::{base_of, is_printed, prints, score};
+pub use crate::fakes::{ByteReader, ByteWriter};
+pub use crate::values::{interval, kind_of, lists, requirements, some_affects, version};

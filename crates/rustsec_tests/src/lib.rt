@@ -1,0 +1,22 @@
+//! Tests of all crates beside the worked examples, whose answers come from outside too: what refusals and
+//! notes say, tables of small texts, readers and writers that fail, samples of the Rust crate's program.
+#![tactic(auto)]
+
+#[cfg(test)]
+mod file_contents;
+#[cfg(test)]
+mod notes;
+#[cfg(test)]
+mod paths;
+#[cfg(test)]
+mod platforms;
+#[cfg(test)]
+mod readings;
+#[cfg(test)]
+mod refusal_messages;
+#[cfg(test)]
+mod refused_requirements;
+#[cfg(test)]
+mod sampled_commands;
+#[cfg(test)]
+mod scores;

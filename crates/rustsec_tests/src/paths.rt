@@ -1,0 +1,48 @@
+// The crate `rustsec`: its version, and an audit by the paths where a user of the Rust crate looks.
+
+use rustsec::advisory::affected::{FunctionPath, Identifier};
+use rustsec::advisory::linter::ErrorKind as LintErrorKind;
+use rustsec::advisory::metadata::Metadata;
+use rustsec::advisory::{Affected, Category, Date, Id, IdKind, Linter, Parts, Versions};
+use rustsec::binary_scanning::{BinaryFormat, filter_report_by_binary_type};
+use rustsec::database::{Database, Query};
+use rustsec::osv::{OsvAdvisory, OsvRange, ranges_for_advisory};
+use rustsec::package::{Name, Package};
+use rustsec::platforms::{Arch, OS};
+use rustsec::registry::CachedIndex;
+use rustsec::report::{Settings, find_warnings};
+use rustsec::repository::signature::Signature;
+use rustsec::{
+    Collection, FixCommand, Fixer, Folders, Lockfile, Lookup, Report, SourceFile, SourceId, Text,
+    UnaffectedRange, Vulnerability, Warning, WarningKind, requirement_text, successor,
+};
+use rustsec_fixtures::{ADVISORIES, FOUR_PACKAGES};
+use std::alloc::Global;
+use std::test::Fail;
+
+/// The database of one advisory.
+fn database(alloc: Global) -> Result<Database, Fail> {
+    let (path, text) = ADVISORIES[0];
+    let file = SourceFile {
+        path: Text::from_str(alloc, path)?,
+        text: Text::from_str(alloc, text)?,
+    };
+    Ok(Database::load(alloc, &[file])?)
+}
+
+/// The report of that database and four packages, less what only programs of other systems meet.
+fn report(alloc: Global) -> Result<Report, Fail> {
+    let database = database(alloc)?;
+    let lockfile = Lockfile::from_str(alloc, FOUR_PACKAGES)?;
+    let settings = Settings::new(alloc);
+    let mut report = Report::generate(alloc, &database, &lockfile, &settings)?;
+    filter_report_by_binary_type(&BinaryFormat::Elf64, &mut report);
+    Ok(report)
+}
+
+#[test]
+fn an_audit_by_the_paths_of_the_rust_crate(rt: HostRuntime) -> Result<(), Fail> {
+    assert!(rt; rustsec::VERSION == "0.33.0");
+    assert!(rt; report(rt.alloc())?.vulnerabilities.count == 1);
+    Ok(())
+}
