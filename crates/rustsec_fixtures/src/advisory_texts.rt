@@ -1,5 +1,8 @@
 // Advisory files that tests share.
 
+use crate::values::kind_of;
+use rustsec_advisory::Advisory;
+use rustsec_versions::ErrorKind;
 use std::alloc::Global;
 use std::test::Fail;
 
@@ -74,4 +77,19 @@ pub const INVALID_ERRORS: &[&str] = &[
 pub fn changed(alloc: Global, text: &str, old: &str, new: &str) -> Result<String, Fail> {
     let (before, after) = text.split_once(old).ok_or("there is nothing to change")?;
     Ok(format!(in alloc; "{before}{new}{after}")?)
+}
+
+/// Whether a text is an advisory; nothing if it is refused for another reason than its form.
+pub fn acceptance(alloc: Global, text: &str) -> Option<bool> {
+    match kind_of(Advisory::from_str(alloc, text)) {
+        None => Some(true),
+        Some(ErrorKind::Parse) => Some(false),
+        Some(_) => None,
+    }
+}
+
+/// Whether the valid advisory is one still with its first place of a text changed.
+pub fn acceptance_with(alloc: Global, old: &str, new: &str) -> Result<Option<bool>, Fail> {
+    let text = changed(alloc, VALID, old, new)?;
+    Ok(acceptance(alloc, &text))
 }

@@ -8,7 +8,9 @@ mod cvss;
 mod fakes;
 mod values;
 
-pub use crate::advisory_texts::{INVALID, INVALID_ERRORS, VALID, changed};
+pub use crate::advisory_texts::{
+    INVALID, INVALID_ERRORS, VALID, acceptance, acceptance_with, changed,
+};
 pub use crate::commands::{ADVISORIES, FOUR_PACKAGES, make_root, writes};
 pub use crate::cvss::{base_of, is_printed, prints, score};
 pub use crate::fakes::{ByteReader, ByteWriter};

@@ -3,7 +3,19 @@
 #![tactic(auto)]
 
 #[cfg(test)]
+mod advisories;
+#[cfg(test)]
+mod advisory_keys;
+#[cfg(test)]
+mod categories_and_licenses;
+#[cfg(test)]
+mod cvss;
+#[cfg(test)]
 mod file_contents;
+#[cfg(test)]
+mod function_paths;
+#[cfg(test)]
+mod ids;
 #[cfg(test)]
 mod notes;
 #[cfg(test)]

@@ -1,7 +1,7 @@
 // Advisory files: which texts are advisories, and what is read of them.
 
 use rustsec_advisory::{Address, Advisory, Affected, Metadata};
-use rustsec_fixtures::{VALID, changed, kind_of};
+use rustsec_fixtures::{VALID, acceptance, acceptance_with, changed, kind_of};
 use rustsec_lock::platforms::{Arch, OS};
 use rustsec_lock::{Cvss, Severity};
 use rustsec_texts::{FunctionPath, Id, License};
@@ -12,15 +12,6 @@ use std::process::Abort;
 use std::rt::Files;
 use std::test::Fail;
 use std::{fs, str};
-
-/// Whether a text is an advisory; nothing if it is refused for another reason than its form.
-fn acceptance(alloc: Global, text: &str) -> Option<bool> {
-    match kind_of(Advisory::from_str(alloc, text)) {
-        None => Some(true),
-        Some(ErrorKind::Parse) => Some(false),
-        Some(_) => None,
-    }
-}
 
 /// Whether a text is the same advisory as the valid one.
 fn is_valid_advisory(alloc: Global, text: &str) -> Result<bool, Fail> {
@@ -40,12 +31,6 @@ fn advisory_table_line(rt: HostRuntime) -> Result<(), Fail> {
     assert!(rt; stays(rt.alloc(), "[advisory]\n", "")?);
     assert!(rt; !stays(rt.alloc(), "2001-02-03", "2001-02-04")?);
     Ok(())
-}
-
-/// Whether the valid advisory is one still with its first place of a text changed.
-fn acceptance_with(alloc: Global, old: &str, new: &str) -> Result<Option<bool>, Fail> {
-    let text = changed(alloc, VALID, old, new)?;
-    Ok(acceptance(alloc, &text))
 }
 
 /// Checks whether the valid advisory is one still with its first place of a text changed.
@@ -80,68 +65,6 @@ fn advisory_changes(rt: HostRuntime) -> Result<(), Fail> {
             ),
         ],
     )
-}
-
-/// Whether the valid advisory is one still with a line put before its date.
-fn acceptance_with_line(alloc: Global, line: &str) -> Result<Option<bool>, Fail> {
-    let new = format!(in alloc; "{line}\ndate = ")?;
-    acceptance_with(alloc, "date = ", &new)
-}
-
-/// Checks whether the valid advisory is one still with each of these lines put before its date.
-fn expect_lines<T: AllocGlobal + Abort>(
-    rt: &T,
-    lines: &[&str],
-    accepted: bool,
-) -> Result<(), Fail> {
-    for line in lines {
-        let found = acceptance_with_line(rt.alloc(), line)?;
-        assert!(rt; found == Some(accepted), "with {line}");
-    }
-    Ok(())
-}
-
-/// Lines of keys that the valid advisory lacks, which are accepted.
-const ACCEPTED_LINES: &[&str] = &[
-    "description = \"\"",
-    "related = [\"RUSTSEC-2001-0001\", \"\"]",
-    "collection = \"rust\"",
-    "informational = \"other\"",
-    "references = [\"https://a.b/\", \"mailto:a@a.b\"]",
-    "source = \"registry+https://a/\"",
-    "withdrawn = \"2001-02-04\"",
-    "license = \"\"",
-    "expect-deleted = true",
-    "\"\" = []",
-];
-
-/// Lines of such keys with a value of another kind, or one that its reader refuses.
-const REFUSED_LINES: &[&str] = &[
-    "title = 1",
-    "description = \"x\"",
-    "description = []",
-    "related = \"RUSTSEC-2001-0001\"",
-    "related = [1]",
-    "related = [\"RUSTSEC-2001\"]",
-    "collection = \"Rust\"",
-    "collection = [\"rust\"]",
-    "informational = true",
-    "references = \"https://a.b/\"",
-    "references = [\"a.b\"]",
-    "source = \"registry\"",
-    "source = {}",
-    "withdrawn = \"2001-02-29\"",
-    "withdrawn = 2001-02-04",
-    "license = 1",
-    "expect-deleted = 1",
-    "expect-deleted = \"true\"",
-    "id = \"RUSTSEC-2001-2101\"",
-];
-
-#[test]
-fn advisory_keys_that_may_be_missing(rt: HostRuntime) -> Result<(), Fail> {
-    expect_lines(&rt, ACCEPTED_LINES, true)?;
-    expect_lines(&rt, REFUSED_LINES, false)
 }
 
 #[test]
@@ -376,99 +299,6 @@ fn advisory_fields(rt: HostRuntime) -> Result<(), Fail> {
     Ok(())
 }
 
-/// Whether an advisory's license prints so, and whether it is the one that is known beside the default.
-fn text_has_license(alloc: Global, text: &str, spdx: &str, known: bool) -> Result<bool, Fail> {
-    let advisory = Advisory::from_str(alloc, text)?;
-    let license = &advisory.metadata.license;
-    Ok(license.spdx() == spdx && (*license == License::CcBy40) == known)
-}
-
-/// Whether the valid advisory with this license has it.
-fn has_license(alloc: Global, spdx: &str, known: bool) -> Result<bool, Fail> {
-    let line = format!(in alloc; "license = \"{spdx}\"\ndate = ")?;
-    let text = changed(alloc, VALID, "date = ", &line)?;
-    text_has_license(alloc, &text, spdx, known)
-}
-
-#[test]
-fn advisory_licenses(rt: HostRuntime) -> Result<(), Fail> {
-    assert!(rt; has_license(rt.alloc(), "CC-BY-4.0", true)?);
-    assert!(rt; has_license(rt.alloc(), "MPL-2.0", false)?);
-    Ok(())
-}
-
-/// Whether a text is an advisory that is withdrawn and has no severity.
-fn is_withdrawn(alloc: Global, text: &str) -> Result<bool, Fail> {
-    let advisory = Advisory::from_str(alloc, text)?;
-    Ok(advisory.withdrawn() && advisory.severity().is_none())
-}
-
-#[test]
-fn advisory_withdrawn(rt: HostRuntime) -> Result<(), Fail> {
-    let line = "withdrawn = \"2001-02-04\"\ndate = ";
-    let text = changed(rt.alloc(), VALID, "date = ", line)?;
-    let text = changed(rt.alloc(), &text, "CVSS:3.1/", "CVSS:4.0/")?;
-    assert!(rt; is_withdrawn(rt.alloc(), &text)?);
-    Ok(())
-}
-
-/// Whether a file is refused with this kind and this message, and with a cause or none.
-fn is_refused<T: Files + AllocGlobal>(
-    rt: &T,
-    path: &str,
-    kind: ErrorKind,
-    message: &str,
-    caused: bool,
-) -> bool {
-    match Advisory::load_file(rt, rt.alloc(), path) {
-        Ok(_) => false,
-        Err(error) => {
-            error.kind() == kind && error.message() == message && error.cause().is_some() == caused
-        }
-    }
-}
-
-#[test]
-fn files_that_cannot_be_read(rt: HostRuntime) -> Result<(), Fail> {
-    fs::write(&rt, "no-text.md", b"```toml\n\xff\n```\n# T\n".as_slice())?;
-    fs::write(&rt, "no-advisory.md", "# T\n")?;
-    for (path, kind, message, caused) in &[
-        ("absent.md", ErrorKind::Io, "couldn't open absent.md", true),
-        (
-            "no-text.md",
-            ErrorKind::Io,
-            "couldn't open no-text.md",
-            true,
-        ),
-        (
-            "no-advisory.md",
-            ErrorKind::Parse,
-            "error parsing no-advisory.md",
-            true,
-        ),
-    ] {
-        assert!(rt; is_refused(&rt, path, *kind, message, *caused), "of {path}");
-    }
-    fs::remove_file(&rt, "no-text.md")?;
-    fs::remove_file(&rt, "no-advisory.md")?;
-    Ok(())
-}
-
-#[test]
-fn drafts_by_their_paths(rt: HostRuntime) {
-    for (path, draft) in &[
-        ("RUSTSEC-0000-0000.md", true),
-        ("crates/base/RUSTSEC-0000-0000.x.md", true),
-        ("crates/base/RUSTSEC-0000-0000.md/.", true),
-        ("RUSTSEC-0000-0000.md/x", false),
-        ("RUSTSEC-0000-0000", false),
-        ("RUSTSEC-2001-2101.md", false),
-        ("", false),
-    ] {
-        assert!(rt; Advisory::is_draft(path) == *draft, "of {path}");
-    }
-}
-
 /// Whether a copy of what an advisory affects is equal to it, and it is not equal to nothing.
 fn affected_is_copied(alloc: Global, affected: &Affected) -> Result<bool, Fail> {
     let copy = affected.clone(alloc)?;
@@ -535,30 +365,5 @@ fn advisory_prefixes(rt: HostRuntime) -> Result<(), Fail> {
         let found = acceptance_of_prefix(rt.alloc(), end)?;
         assert!(rt; found == Some(end >= title), "at {end}");
     }
-    Ok(())
-}
-
-/// Whether the valid advisory is one still with so many arrays in one another.
-fn acceptance_of_nested(alloc: Global, depth: usize) -> Result<Option<bool>, Fail> {
-    let open = "[".repeat(alloc, depth)?;
-    let close = "]".repeat(alloc, depth)?;
-    let line = format!(in alloc; "deep = {open}{close}")?;
-    acceptance_with_line(alloc, &line)
-}
-
-// The crate `toml` reads 80 arrays in one another.
-#[test]
-fn advisory_front_matter_nested_to_the_limit(rt: HostRuntime) -> Result<(), Fail> {
-    for (depth, accepted) in &[(80, true), (81, false), (100000, false)] {
-        let found = acceptance_of_nested(rt.alloc(), *depth)?;
-        assert!(rt; found == Some(*accepted), "at {depth}");
-    }
-    Ok(())
-}
-
-#[test]
-fn backquotes_alone(rt: HostRuntime) -> Result<(), Fail> {
-    let text = "`".repeat(rt.alloc(), 10000000)?;
-    assert!(rt; acceptance(rt.alloc(), &text) == Some(false));
     Ok(())
 }

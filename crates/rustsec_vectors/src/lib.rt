@@ -12,8 +12,6 @@ mod ample_memory;
 #[cfg(test)]
 mod audit_command;
 #[cfg(test)]
-mod categories_and_licenses;
-#[cfg(test)]
 mod commands;
 #[cfg(test)]
 mod cvss;
@@ -33,6 +31,8 @@ mod function_paths;
 mod hostile_input;
 #[cfg(test)]
 mod ids;
+#[cfg(test)]
+mod informational;
 #[cfg(test)]
 mod intervals;
 #[cfg(test)]
