@@ -18,7 +18,7 @@ use url::{ParseError, ParseResult, Url};
 
 /// An address by the URL Standard, which was read from a text. Every contract sees it as the text that
 /// it prints; that text is read as the same address.
-#[derive(Drop)]
+#[derive(Debug, Drop)]
 pub struct Address {
     url: Url,
 }

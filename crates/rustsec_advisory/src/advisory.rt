@@ -25,7 +25,7 @@ use toml::Table;
 
 /// A security advisory: what it says of itself, what is affected, and the requirements that tell
 /// which versions are.
-#[derive(PartialEq, Eq)]
+#[derive(Debug, PartialEq, Eq)]
 pub struct Advisory {
     /// The table `advisory` of its document, with its title and its description.
     pub metadata: Metadata,

@@ -10,7 +10,7 @@ use rustsec_versions::{Requirements, Result};
 use std::alloc::{AllocError, Global};
 
 /// Which platforms and functions are affected.
-#[derive(PartialEq, Eq)]
+#[derive(Debug, PartialEq, Eq)]
 pub struct Affected {
     /// The architectures; all of them where there is none.
     pub arch: Items<Arch>,

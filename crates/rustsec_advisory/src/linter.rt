@@ -276,6 +276,7 @@ impl fmt::Display for Error {
 }
 
 /// An advisory and its lint errors.
+#[derive(Debug)]
 pub struct Linter {
     advisory: Advisory,
     errors: Items<Error>,

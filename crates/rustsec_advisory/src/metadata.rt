@@ -14,7 +14,7 @@ use std::alloc::{AllocError, Global};
 
 /// What an advisory says of itself: the table `advisory` of its document, and its title and its
 /// description.
-#[derive(PartialEq, Eq)]
+#[derive(Debug, PartialEq, Eq)]
 pub struct Metadata {
     /// The ID.
     pub id: Id,

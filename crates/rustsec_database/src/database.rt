@@ -32,7 +32,7 @@ use std::{slice, vec};
 pub type Iter<'a> = slice::Iter<'a, Advisory>;
 
 /// The advisories of a database, with what finds them by ID and by package.
-#[derive(Drop)]
+#[derive(Debug, Drop)]
 pub struct Database {
     entries: Entries,
     crates: Index,

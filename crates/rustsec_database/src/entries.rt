@@ -23,7 +23,7 @@ use std::rt::Files;
 use std::{slice, vec};
 
 /// The stored advisories, in the order in which they were loaded. No ID stands twice.
-#[derive(Drop)]
+#[derive(Debug, Drop)]
 pub struct Entries {
     advisories: Vec<Advisory>,
     slots: BTreeMap<Id, Slot>,

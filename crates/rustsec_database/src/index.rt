@@ -15,7 +15,7 @@ use std::collections::BTreeMap;
 use std::marker::Model;
 
 /// Which slots stand under which name. Contracts see it as the list of the names with their slots.
-#[derive(Drop)]
+#[derive(Debug, Drop)]
 pub struct Index {
     slots: BTreeMap<Name, Vec<Slot>>,
 }

@@ -12,6 +12,7 @@ use rustsec_versions::Result;
 use std::alloc::{AllocError, Global};
 
 /// A package.
+#[derive(Debug)]
 pub struct OsvPackage {
     /// Where the package comes from, as `crates.io`.
     pub ecosystem: Text,
@@ -67,6 +68,7 @@ impl ExactClone for OsvPackage {
 }
 
 /// The platforms and functions that are affected.
+#[derive(Debug)]
 pub struct OsvEcosystemSpecificAffected {
     /// The architectures; none means all.
     pub arch: Items<Arch>,
@@ -122,6 +124,7 @@ impl ExactClone for OsvEcosystemSpecificAffected {
 }
 
 /// What the ecosystem of Rust adds of an affected package.
+#[derive(Debug)]
 pub struct OsvEcosystemSpecific {
     /// The platforms and functions that are affected.
     pub affects: Option<OsvEcosystemSpecificAffected>,
@@ -172,6 +175,7 @@ impl ExactClone for OsvEcosystemSpecific {
 }
 
 /// What the advisory database adds of an affected package.
+#[derive(Debug)]
 pub struct OsvDatabaseSpecific {
     /// The categories of the advisory.
     pub categories: Items<Category>,
@@ -227,6 +231,7 @@ impl ExactClone for OsvDatabaseSpecific {
 }
 
 /// A package, and which versions of it are affected.
+#[derive(Debug)]
 pub struct OsvAffected {
     /// The package.
     pub package: OsvPackage,

@@ -14,6 +14,7 @@ use std::alloc::{AllocError, Global};
 use std::marker::Model;
 
 /// What the advisory database adds of a document.
+#[derive(Debug)]
 pub struct MainOsvDatabaseSpecific {
     /// The license of the advisory, as SPDX names it.
     pub license: Option<Text>,
@@ -64,6 +65,7 @@ impl MainOsvDatabaseSpecific {
 }
 
 /// An OSV document.
+#[derive(Debug)]
 pub struct OsvAdvisory {
     /// The version of the schema, if the document names one.
     pub schema_version: Option<Version>,

@@ -10,6 +10,7 @@ use std::alloc::{AllocError, Global};
 use std::marker::Model;
 
 /// A range of affected versions, by its events.
+#[derive(Debug)]
 pub struct OsvJsonRange {
     /// How its versions are ordered, as `SEMVER`; the key is `type`.
     pub kind: Text,

@@ -93,6 +93,7 @@ impl ExactClone for OsvReferenceKind {
 }
 
 /// A reference.
+#[derive(Debug)]
 pub struct OsvReference {
     /// What it leads to; the key is `type`.
     pub kind: OsvReferenceKind,

@@ -23,6 +23,7 @@ use std::marker::Model;
 
 /// What is asked of advisories. An advisory matches a query where it passes the test of each field
 /// that is set.
+#[derive(Debug)]
 pub struct Query {
     collection: Option<Collection>,
     package_name: Option<Name>,

@@ -18,7 +18,7 @@ use std::alloc::Global;
 use std::marker::Model;
 
 /// A look-up with the answers that it gave, of which each name has one at most. The first is kept for good.
-#[derive(Drop)]
+#[derive(Debug, Drop)]
 pub struct CachedIndex<I: Lookup> {
     index: I,
     kept: SortedMap<Name, Kept>,

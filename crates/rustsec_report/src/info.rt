@@ -33,7 +33,7 @@ impl ExactClone for LockfileInfo {
 }
 
 /// The vulnerabilities of a report.
-#[derive(Drop)]
+#[derive(Debug, Drop)]
 pub struct VulnerabilityInfo {
     /// Whether there is any.
     pub found: bool,

@@ -11,7 +11,7 @@ use rustsec_versions::Result;
 use std::alloc::{AllocError, Global};
 
 /// What is found for a lockfile.
-#[derive(Drop)]
+#[derive(Debug, Drop)]
 pub struct Report {
     /// The lockfile.
     pub lockfile: LockfileInfo,

@@ -13,6 +13,7 @@ use rustsec_versions::Result;
 use std::alloc::{AllocError, Global};
 
 /// What a report is asked for.
+#[derive(Debug)]
 pub struct Settings {
     /// The architectures, of which an advisory must affect one; any where there is none.
     pub target_arch: Items<Arch>,

@@ -11,6 +11,7 @@ use rustsec_versions::{Result, Versions};
 use std::alloc::{AllocError, Global};
 
 /// A warning about a package, with the advisory that it comes from, where there is one.
+#[derive(Debug)]
 pub struct Warning {
     /// What it is about.
     pub kind: WarningKind,

@@ -30,7 +30,7 @@ fn database(alloc: Global) -> Result<Database, Fail> {
     Ok(Database::load(alloc, &[file])?)
 }
 
-/// The report of that database and four packages, less what only programs of other systems meet.
+/// The report of that database and four packages, less what applies to no program of ELF.
 fn report(alloc: Global) -> Result<Report, Fail> {
     let database = database(alloc)?;
     let lockfile = Lockfile::from_str(alloc, FOUR_PACKAGES)?;
@@ -40,9 +40,29 @@ fn report(alloc: Global) -> Result<Report, Fail> {
     Ok(report)
 }
 
+/// How many vulnerabilities the report lists.
+fn count(alloc: Global) -> Result<usize, Fail> {
+    let report = report(alloc)?;
+    Ok(report.vulnerabilities.count)
+}
+
 #[test]
 fn an_audit_by_the_paths_of_the_rust_crate(rt: HostRuntime) -> Result<(), Fail> {
     assert!(rt; rustsec::VERSION == "0.33.0");
-    assert!(rt; report(rt.alloc())?.vulnerabilities.count == 1);
+    assert!(rt; count(rt.alloc())? == 1);
+    Ok(())
+}
+
+/// Whether the report's text for a programmer begins so.
+fn debug_begins(alloc: Global, beginning: &str) -> Result<bool, Fail> {
+    let report = report(alloc)?;
+    let text = format!(in alloc; "{report:?}")?;
+    Ok(text.starts_with(beginning))
+}
+
+#[test]
+fn a_report_for_a_programmer(rt: HostRuntime) -> Result<(), Fail> {
+    let beginning = "Report { lockfile: LockfileInfo { dependency_count: 4 }, settings: Settings {";
+    assert!(rt; debug_begins(rt.alloc(), beginning)?);
     Ok(())
 }
