@@ -23,6 +23,7 @@ use Rattle.rustsec_advisory.specs.Metadata.{IsMetadata}
 use Rattle.rustsec_advisory.specs.declared.advisory.Advisory.{Advisory}
 use Rattle.rustsec_advisory.specs.declared.affected.Affected.{Affected}
 use Rattle.rustsec_advisory.specs.declared.metadata.Metadata.{Metadata}
+use Rattle.rustsec_advisory.specs.EqualityLaws.{same_metadata}
 
 -- ---- entries whose keys rise
 
@@ -154,26 +155,8 @@ metadata_unique t title description m n h k =
     let withdrawn = agree h.terms.withdrawn k.terms.withdrawn in
     let license = agree h.terms.license k.terms.license in
     let expect_deleted = agree h.terms.expect_deleted k.terms.expect_deleted in
-    λ i. record {
-      id = id i;
-      «package» = name i;
-      title = title_is i;
-      description = description_is i;
-      date = date i;
-      aliases = aliases i;
-      related = related i;
-      collection = collection i;
-      categories = categories i;
-      keywords = keywords i;
-      cvss = cvss i;
-      informational = informational i;
-      references = references i;
-      source = source i;
-      url = url i;
-      withdrawn = withdrawn i;
-      license = license i;
-      expect_deleted = expect_deleted i;
-    }
+    same_metadata m n (id, (name, (title_is, (description_is, (date, (aliases, (related, (collection, (categories,
+    (keywords, (cvss, (informational, (references, (source, (url, (withdrawn, (license, expect_deleted)))))))))))))))))
 
 -- ---- the advisory
 

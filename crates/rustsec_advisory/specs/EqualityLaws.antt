@@ -99,7 +99,7 @@ SameKinds x y =
 abbrev SameSubject : Metadata → Metadata → Type 0
 SameSubject x y = (x.date ≡ y.date) × ((x.aliases ≡ y.aliases) × ((x.related ≡ y.related) × SameKinds x y))
 
-abbrev SameFields : Metadata → Metadata → Type 0
+abbrev pub SameFields : Metadata → Metadata → Type 0
 SameFields x y =
     (x.id ≡ y.id) × ((x.«package» ≡ y.«package») × ((x.title ≡ y.title) × ((x.description ≡ y.description) × SameSubject x y)))
 
@@ -164,7 +164,8 @@ same_fields x =
     let subject : SameSubject x x = (refl, (refl, (refl, kinds))) in
     (refl, (refl, (refl, (refl, subject))))
 
-same_metadata : (x y : Metadata) → SameFields x y → x ≡ y
+-- metadata of the same fields are the same
+pub same_metadata : (x y : Metadata) → SameFields x y → x ≡ y
 same_metadata x y (id, (name, (title, (description, (date, (aliases, (related, kinds))))))) =
     let (collection, (categories, (keywords, (cvss, (informational, origin))))) = kinds in
     let (references, (source, (url, (withdrawn, (license, expect_deleted))))) = origin in
