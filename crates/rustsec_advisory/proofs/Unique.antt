@@ -155,8 +155,34 @@ metadata_unique t title description m n h k =
     let withdrawn = agree h.terms.withdrawn k.terms.withdrawn in
     let license = agree h.terms.license k.terms.license in
     let expect_deleted = agree h.terms.expect_deleted k.terms.expect_deleted in
-    same_metadata m n (id, (name, (title_is, (description_is, (date, (aliases, (related, (collection, (categories,
-    (keywords, (cvss, (informational, (references, (source, (url, (withdrawn, (license, expect_deleted)))))))))))))))))
+    same_metadata m n (
+      id,
+      (
+        name,
+        (
+          title_is,
+          (
+            description_is,
+            (
+              date,
+              (
+                aliases,
+                (
+                  related,
+                  (
+                    collection,
+                    (
+                      categories,
+                      (keywords, (cvss, (informational, (references, (source, (url, (withdrawn, (license, expect_deleted)))))))),
+                    ),
+                  ),
+                ),
+              ),
+            ),
+          ),
+        ),
+      ),
+    )
 
 -- ---- the advisory
 

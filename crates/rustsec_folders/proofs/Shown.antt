@@ -1,6 +1,6 @@
 -- The names that a package's folder shows, from the names of its entries alone.
-use Rattle.std.proofs.Common.{◌≡◌, ◌∙◌, Bool, true, false, cond, ℕ, List, [], ◌∷◌, filter, map, refl, sym, ap, subst}
-use Rattle.std.specs.Prelude.{Err, IfOk, Ok, Result, Some}
+use Rattle.std.proofs.Common.{◌≡◌, ◌∙◌, Bool, true, false, cond, ℕ, List, [], ◌∷◌, filter, map, refl, ap, subst}
+use Rattle.std.specs.Prelude.{Err, IfOk, Ok, Result}
 use Rattle.rustsec_folders.specs.Allowed.{Allowed, every_answer}
 use Rattle.rustsec_folders.specs.Listed.{ShowsFiles}
 use Rattle.rustsec_folders.specs.Names.{AreInOrder, AreNames, is_shown, is_shown_name, names_of, shown}

@@ -1,10 +1,10 @@
 -- What a list says of a version's text, entry by entry.
-use Rattle.std.proofs.Common.{◌≡◌, ◌∙◌, ◌++◌, ℕ, Bool, true, false, cond, List, [], ◌∷◌, Option, Some, None, nat_eq, refl, sym, ap}
-use Rattle.std.specs.Prelude.{find, option_map, reverse}
+use Rattle.std.proofs.Common.{◌≡◌, ◌∙◌, ◌++◌, ℕ, Bool, true, false, cond, List, [], ◌∷◌, Option, Some, nat_eq, refl, ap}
+use Rattle.std.specs.Prelude.{find, option_map}
 use Rattle.std.specs.Cmp.Lexicographic.{pointwise}
 use Rattle.std.proofs.lemmas.List.{reverse-append}
 use Rattle.rustsec_registry.specs.declared.lookup.IndexVersion.{IndexVersion}
-use Rattle.rustsec_registry.specs.Lookups.{at, listed}
+use Rattle.rustsec_registry.specs.Lookups.{listed}
 
 map-cond : {A B : Type 0} (f : A → B) (b : Bool) (x : A) (o : Option A) → option_map f (cond b (Some x) o) ≡ cond b (Some (f x)) (option_map f o)
 map-cond f true x o = refl

@@ -1,5 +1,5 @@
 -- Packages, and the names that they have.
-use Rattle.std.specs.Prelude.{◌≡◌, ◌↔◌, ℕ, Bool, Contains, List, nat_eq}
+use Rattle.std.specs.Prelude.{◌↔◌, ℕ, Bool, Contains, List, nat_eq}
 use Rattle.std.specs.Cmp.Lexicographic.{pointwise}
 use Rattle.std.specs.List.{list_any}
 use Rattle.std.specs.List.Sorted.{IsStrictlySortedBy}

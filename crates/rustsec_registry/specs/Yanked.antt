@@ -1,5 +1,5 @@
 -- Which packages are yanked, by the answers that are kept.
-use Rattle.std.specs.Prelude.{◌≡◌, ◌++◌, ℕ, Bool, false, true, List, Option, IsSome, Some, None, Result, Ok, Err, codes, filter_map, option_map}
+use Rattle.std.specs.Prelude.{◌≡◌, ◌++◌, ℕ, Bool, false, true, List, Option, IsSome, Some, None, Result, Ok, Err, codes, filter_map}
 use Rattle.std.specs.Borrow.{Bor}
 use Rattle.semver.specs.Identifiers.{parts_text}
 use Rattle.rustsec_versions.specs.Failure.{Failure}

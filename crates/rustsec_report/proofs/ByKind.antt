@@ -1,5 +1,5 @@
 -- Warnings that are gathered kind by kind are each kind with its warnings, in the order of kinds.
-use Rattle.std.proofs.Common.{◌≡◌, ◌≤◌, ◌∙◌, ℕ, List, [], ◌∷◌, map, ap, drop, length, refl, sym}
+use Rattle.std.proofs.Common.{◌≡◌, ◌≤◌, ◌∙◌, ℕ, List, [], ◌∷◌, ap, drop, length, refl, sym}
 use Rattle.std.proofs.lemmas.List.{drop_all}
 use Rattle.rustsec_texts.specs.WarningKinds.{warning_kinds}
 use Rattle.rustsec_texts.specs.declared.warning_kind.WarningKind.{WarningKind}

@@ -1,13 +1,11 @@
 -- The report of advisories and packages is that of the files and of the table that they come from.
 use Rattle.std.proofs.Common.{◌≡◌, ◌∙◌, ◌↔◌, ℕ, Bool, true, false, not, Contains, List, [], ◌∷◌, map, Some, Ok, inl, inr, refl, sym, ap, subst}
-use Rattle.std.specs.Cmp.{first_so, second_so}
 use Rattle.std.specs.List.{filter}
 use Rattle.toml.specs.Data.{Members}
 use Rattle.rustsec_folders.specs.declared.source_file.SourceFile.{SourceFile}
 use Rattle.rustsec_lock.specs.Lockfile.{packages_of}
 use Rattle.rustsec_lock.specs.Package.{PackageValue}
 use Rattle.rustsec_texts.specs.WarningKinds.{warning_kinds}
-use Rattle.rustsec_texts.specs.declared.collection.Collection.{Collection}
 use Rattle.rustsec_texts.specs.declared.warning_kind.WarningKind.{WarningKind}
 use Rattle.rustsec_texts.specs.declared.warning_kind.WarningKind.TheVariants as kind
 use Rattle.rustsec_advisory.proofs.Unique.{advisory_unique}
@@ -18,7 +16,7 @@ use Rattle.rustsec_query.specs.Pairs.{Pair, as_vulnerability, finds, pairs, pair
 use Rattle.rustsec_query.specs.Query.{Asked}
 use Rattle.rustsec_query.specs.declared.vulnerability.Vulnerability.{Vulnerability}
 use Rattle.rustsec_report.specs.Chain.{Holds, IsHeld, IsReportOf, IsSelected, IsWarned}
-use Rattle.rustsec_report.specs.Report.{as_warning, found, gives, has_some, informational_query, is_among, present, query_of, report_of, vulnerabilities, warnings, warnings_by_kind, warnings_of_kind, without}
+use Rattle.rustsec_report.specs.Report.{as_warning, found, gives, has_some, informational_query, is_among, query_of, report_of, vulnerabilities, warnings, warnings_by_kind, warnings_of_kind, without}
 use Rattle.rustsec_report.specs.declared.report.Report.{Report}
 use Rattle.rustsec_report.specs.declared.settings.Settings.{Settings}
 use Rattle.rustsec_report.specs.declared.warning.Warning.{Warning}

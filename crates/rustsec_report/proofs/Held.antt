@@ -18,8 +18,8 @@ use Rattle.rustsec_query.specs.Pairs.{Pair, as_vulnerability, finds, is_audited,
 use Rattle.rustsec_query.specs.Query.{Asked, of_package}
 use Rattle.rustsec_query.specs.Selects.{as_informational, as_withdrawn, selects}
 use Rattle.rustsec_query.specs.declared.vulnerability.Vulnerability.{Vulnerability}
-use Rattle.rustsec_report.specs.Held.{ListsWhatIsInForce, IsInForce, IsVulnerability, IsWarning}
-use Rattle.rustsec_report.specs.Report.{as_warning, found, gives, has_some, informational_query, is_among, is_wanted, present, query_of, report_of, vulnerabilities, wanted_kind, warnings, warnings_by_kind, warnings_of_kind, without}
+use Rattle.rustsec_report.specs.Held.{ListsWhatIsInForce, IsVulnerability, IsWarning}
+use Rattle.rustsec_report.specs.Report.{as_warning, found, gives, has_some, informational_query, is_among, is_wanted, query_of, report_of, vulnerabilities, wanted_kind, warnings, warnings_by_kind, warnings_of_kind, without}
 use Rattle.rustsec_report.specs.declared.report.Report.{Report}
 use Rattle.rustsec_report.specs.declared.settings.Settings.{Settings}
 use Rattle.rustsec_report.specs.declared.warning.Warning.{Warning}

@@ -1,5 +1,5 @@
 -- What the vulnerabilities and the warnings of a report come from.
-use Rattle.std.specs.Prelude.{◌≡◌, false, List, Option, Some, None}
+use Rattle.std.specs.Prelude.{◌≡◌, false, Some, None}
 use Rattle.std.specs.List.{All}
 use Rattle.rustsec_texts.specs.Informational.{kind_of_warnings}
 use Rattle.rustsec_texts.specs.declared.informational.Informational.{Informational}

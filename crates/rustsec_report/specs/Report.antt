@@ -1,5 +1,5 @@
 -- The report of a lockfile: which pairs of a package and an advisory it lists, and what it says of them.
-use Rattle.std.specs.Prelude.{◌==◌, ◌||◌, Bool, true, false, not, if◌then◌else◌, List, [], ◌∷◌, length, map, nat_eq, Option, Some, None, option_and_then}
+use Rattle.std.specs.Prelude.{◌==◌, Bool, true, false, not, if◌then◌else◌, List, [], ◌∷◌, length, map, nat_eq, Option, Some, None, option_and_then}
 use Rattle.std.specs.Cmp.Lexicographic.{pointwise}
 use Rattle.std.specs.List.{filter, list_any}
 use Rattle.std.specs.Option.{option_eq}

@@ -1,4 +1,4 @@
-use Rattle.std.proofs.Common.{List, ℕ, map, take}
+use Rattle.std.proofs.Common.{map, take}
 use Rattle.rustsec_registry.specs.Lookups.{AreAnswers}
 use Rattle.rustsec_registry.specs.Yanked.{AreKept, Grows}
 use Rattle.rustsec_registry.proofs.kept.ask_all.Given as goal

@@ -1,4 +1,4 @@
-use Rattle.std.proofs.Common.{rules, ◌≡◌}
+use Rattle.std.proofs.Common.{rules}
 use Rattle.rustsec_report.specs.Filter.{filtered}
 use Rattle.rustsec_report.proofs.Again.{again-from}
 use Rattle.rustsec_report.proofs.filter.filter_report_by_binary_type.Goals as goal
