@@ -1,5 +1,6 @@
 """Where the answers of the two programs are meant to differ, each with its reason. docs/DIFFERENCES.md
-says the same in words. A departure explains a difference only where ours is what the rules answer."""
+says the same in words. A departure of `affected` or `ranges` explains a difference only where ours is what the rules
+answer."""
 import re
 import tomllib
 
@@ -114,8 +115,8 @@ def files_of(data):
 
 
 def first_of_faults(command, data, ours, theirs):
-    """Ours reads all files before it loads the first, in the order of their names; the Rust crate goes file by file, in the
-    disk's order. So with two faults in a database each may meet another one first."""
+    """Ours goes file by file in the order of their names, and a file that cannot be read comes before any fault; the Rust
+    crate goes in the disk's order. So with two faults in a database each may meet another one first."""
     refused = ours[1] == 2 and ours[0].startswith(b"refused: ")
     return refused and theirs[1] in (2, 101) and sum(not path.endswith(b"Cargo.lock") for path in files_of(data)) > 1
 

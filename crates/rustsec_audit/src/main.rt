@@ -1,4 +1,4 @@
-//! The program `rustsec_audit`: `rustsec_commands` over its arguments, its input and its output.
+//! The program `rustsec_audit`: `rustsec_commands` over its arguments, its input, its output and its error output.
 #![tactic(auto)]
 
 use rustsec_commands::{Fault, run_with_notes};

@@ -8,8 +8,8 @@
 //!
 //! `document` reads the text as a TOML document and no more, and `parts` takes an advisory apart and
 //! reads its front matter as one. The calls over a database take its root,
-//! and the name of a package for `query`, else the path of a lockfile. It writes nothing. Its status is 0, 2 for other words, and 1 where the
-//! file or a call refuses.
+//! and the name of a package for `query`, else the path of a lockfile. These calls write nothing. The status is 0,
+//! 2 for other words, and 1 where the file or a call refuses.
 //!
 //! `copy` and `from_rustsec` copy an advisory, and `from_rustsec` exports the copy; `to_value` is the tree of
 //! its document and the tree's text; `from_value` reads a JSON tree as a document. The kind of what one of

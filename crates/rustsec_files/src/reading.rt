@@ -1,4 +1,4 @@
-//! The text of a file, and the bytes of any reader, to their end.
+//! The text of a file, and the bytes of any reader, to their end; the failure of a path that cannot be read or listed.
 
 ghost use Rattle.std.specs.Prelude.{◌≡◌, ◌↔◌, IfErr, IfOk, IfSome, IsUtf8, string_bytes, true};
 ghost use Rattle.std.specs.IoError.{error_kind};

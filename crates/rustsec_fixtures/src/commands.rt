@@ -36,7 +36,8 @@ pub const ADVISORIES: &[(&str, &str)] = &[
     ),
 ];
 
-/// A lockfile of four packages, of which one is of the default registry.
+/// A lockfile of four packages: one of the default source, one without a source, one of a repository, and one of
+/// the other default registry.
 pub const FOUR_PACKAGES: &str = "version = 3
 
 [[package]]

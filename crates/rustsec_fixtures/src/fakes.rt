@@ -1,4 +1,4 @@
-// Readers and writers over memory that take one byte a call, and fail at a call.
+// Readers and writers over memory that give or take one byte a call, and fail at a call.
 
 ghost use Rattle.std.specs.Prelude.{Some, drop, ◌≡◌, ◌≤◌, vec_len};
 
@@ -78,7 +78,7 @@ impl ByteWriter {
         }
     }
 
-    /// What was written.
+    /// What it holds: the bytes that it began with, and what was written.
     pub fn held(&self) -> &[u8]
         ensures { result.now ≡ self.now.held.items }
     {

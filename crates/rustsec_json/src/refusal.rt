@@ -1,4 +1,4 @@
-// Refusals of JSON trees, which say what was found, what was expected, and at which key.
+// Refusals of JSON trees: the keys that lead there; of another kind of tree also what was found and what was expected.
 
 ghost use Rattle.rustsec_versions.specs.Failure.{IsMemory, IsOfKind};
 

@@ -1,4 +1,4 @@
-// The crate `rustsec`: its version, and an audit by the paths where a user of the Rust crate looks.
+// The crate `rustsec`: its version, an audit by the paths where a user of the Rust crate looks, and how a report prints.
 
 use rustsec::advisory::affected::{FunctionPath, Identifier};
 use rustsec::advisory::linter::ErrorKind as LintErrorKind;

@@ -217,7 +217,8 @@ const RANGES_REFUSED: [&[u8]; 15] = [
     b"patched ^ 3.0.1-0\r\npatched <  3.0.0,>= 3.0.0",
 ];
 
-/// Inputs of `ranges` whose patched requirements overlap, with what is written.
+/// Inputs of `ranges` whose patched requirements overlap, which the Rust crate refuses, with what is written: worked by
+/// hand.
 const MERGED: [(&[u8], &[u8]); 9] = [
     (b"patched x\npatched <=0.1.2\n\r\n", b""),
     (b"patched  *\npatched >=  1.10.11", b""),

@@ -17,7 +17,7 @@ fn rating_of(tenths: u8) -> Severity {
     }
 }
 
-/// The losses, in the order of the scores below. Those are in tenths, by a program of its own: the equations of
+/// The losses, in the order of the scores below. Those are in tenths, by `bench/scores`: the equations of
 /// CVSS 3.1 in floats, written from the standard.
 const LOSSES: &[&str] = &[
     "C:N/I:N/A:N",

@@ -1,6 +1,5 @@
 //! Worked examples of all crates, each a test of its own name, whose answers come from outside: from
-//! the rules in `docs/DEFINITIONS.md`, worked by hand, from the Rust crate, or from a program of its own
-//! that the test names.
+//! the rules in `docs/DEFINITIONS.md`, worked by hand, or from the Rust crate.
 #![tactic(auto)]
 
 #[cfg(test)]

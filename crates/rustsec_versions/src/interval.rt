@@ -250,8 +250,8 @@ impl UnaffectedRange {
     ///
     /// # Errors
     ///
-    /// `BadParam` where the start is not at or below the end, in the order of `Version`; else
-    /// `OutOfMemory`.
+    /// `BadParam` where the start is not at or below the end, in the order of `Version`, with a message
+    /// that shows both; else `OutOfMemory`.
     pub fn new(alloc: Global, start: Bound, end: Bound) -> Result<UnaffectedRange>
         ensures ok { IfOk result (λ r. r ≡ interval_between start end) }
         ensures in_order { OnOk result (reaches version_order (endpoint_of start) (endpoint_of end) ≡ true) }

@@ -1,4 +1,4 @@
-//! The texts of requirements.
+//! The texts of requirements, and how messages show requirements and bounds.
 
 ghost use Rattle.std.specs.Prelude.{◌≡◌, ◌++◌, IfErr, IfOk, OnOk, string_bytes};
 ghost use Rattle.semver.specs.Identifiers.{comparator_view, marked, pre_text};

@@ -24,6 +24,9 @@ fn refused_for(
     ensures { IsOfKind ErrorKind.Parse result }
 {
     let refusal = refused_text(alloc, wrong, text, expected);
+    if refusal.kind() == ErrorKind::OutOfMemory {
+        return refusal;
+    }
     match format!(in alloc; "{reason}") {
         Ok(cause) => Error::with_source(alloc, ErrorKind::Parse, refusal.message(), &cause),
         Err(refused) => Error::from(refused),
