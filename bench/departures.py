@@ -158,13 +158,25 @@ def edition_of_toml(command, data, ours, theirs):
     return theirs == (b"refused: parse error\n", 2) and ours[1] < 2 and re.search(newer, data) is not None
 
 
+def key_that_stands_twice(command, data, ours, theirs):
+    """A key stands twice in a table, which TOML refuses. The faster of the readers that theirs is built with passes over it
+    where nothing asks for the key."""
+    try:
+        tomllib.loads(data.decode().partition("```toml")[2].partition("\n```")[0])
+    except tomllib.TOMLDecodeError as error:
+        return ours == (b"refused: parse error\n", 2) and theirs[1] < 2 and "overwrite" in str(error)
+    except UnicodeDecodeError:
+        pass
+    return False
+
+
 OF_LINT = [
     number_of_an_advisory, starts_of_an_advisory, fault_of_a_source, source_that_is_no_address,
     message_cut_inside_a_character, empty_name, edition_of_toml, nesting, merged_patched_of_an_advisory,
 ]
 OF_OSV = [
     number_of_an_advisory, starts_of_an_advisory, source_that_is_no_address, message_cut_inside_a_character, empty_name,
-    star_alone, edition_of_toml, nesting, merged_patched_of_an_advisory,
+    star_alone, edition_of_toml, nesting, merged_patched_of_an_advisory, key_that_stands_twice,
 ]
 OF_DATABASES = [
     number_of_an_advisory, starts_in_some_file, source_that_is_no_address, message_cut_inside_a_character, empty_name,
