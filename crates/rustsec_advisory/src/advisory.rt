@@ -4,8 +4,9 @@ ghost use Rattle.std.specs.Prelude.{◌≡◌, ◌⊎◌, ℕ, IfErr, IfOk, List
 ghost use Rattle.rustsec_lock.specs.Cvss.{cvss_severity};
 ghost use Rattle.toml.specs.Parse.{parse_document};
 ghost use Rattle.toml.specs.View.{table_view};
+ghost use Rattle.rustsec_folders.specs.Allowed.{AllowSame, every_answer};
 ghost use Rattle.rustsec_advisory.specs.Advisory.{IsAdvisory, IsAdvisoryWith, IsOfDocument, document_text};
-ghost use Rattle.rustsec_advisory.specs.FileRefusals.{NamesFile};
+ghost use Rattle.rustsec_advisory.specs.FileRefusals.{IsAdvisoryAt, IsAdvisoryRefusal, IsTextRefusal, NamesFile};
 ghost use Rattle.rustsec_files.specs.Paths.{is_draft};
 ghost use Rattle.rustsec_advisory.specs.declared.advisory.Advisory as given;
 ghost use Rattle.rustsec_versions.specs.Failure.{IsMemory, IsOfKind, IsRefusal, out_of_memory};
@@ -13,7 +14,8 @@ ghost use Rattle.rustsec_versions.specs.Failure.{IsMemory, IsOfKind, IsRefusal, 
 use crate::affected::Affected;
 use crate::front_matter;
 use crate::metadata::Metadata;
-use rustsec_files::{path, reading};
+use rustsec_files::path;
+use rustsec_folders::{Folders, RealFolders};
 use rustsec_lock::Severity;
 use rustsec_texts::{Date, Id, Parts};
 use rustsec_toml::Section;
@@ -154,23 +156,45 @@ impl Advisory {
         Ok(advisory)
     }
 
-    /// The advisory of a file's text.
-    ///
-    /// # Errors
-    ///
-    /// `Io` if the file cannot be read or is no UTF-8; then as `from_str`. The message names the path;
-    /// the cause is what `from_str` says, with its own cause behind it.
-    pub fn load_file<R: Files>(rt: &R, alloc: Global, path: &str) -> Result<Advisory>
-        ensures ok { IfOk result (λ a. (text : List ℕ) × IsAdvisory text a) }
-        ensures err { IfErr result (λ e. IsOfKind ErrorKind.Io e
-            ⊎ ((text : List ℕ) × IsRefusal ErrorKind.Parse ((a : given.Advisory) → ¬ IsAdvisory text a) e)) }
+    /// Reads the advisory of a file's text. `path` is for the message alone.
+    fn of_file(alloc: Global, path: &str, text: &str) -> Result<Advisory>
+        ensures ok { IfOk result (IsAdvisory text.now) }
+        ensures err { IfErr result (IsTextRefusal text.now) }
         ensures names { IfErr result (NamesFile path.now) }
     {
-        let text = reading::text_of_file(rt, alloc, path)?;
-        match Advisory::from_str(alloc, &text) {
+        match Advisory::from_str(alloc, text) {
             Ok(advisory) => Ok(advisory),
             Err(e) => Err(refused_file(alloc, path, &e)),
         }
+    }
+
+    /// Reads the advisory of the file at a path of any folders.
+    ///
+    /// # Errors
+    ///
+    /// `Io` if the file cannot be read or is not UTF-8; then as `from_str`. The message of a refused text
+    /// names the path; the cause is what `from_str` says, followed by its own cause.
+    pub fn load_file_with<F: Folders>(alloc: Global, folders: &mut F, path: &str) -> Result<Advisory>
+        ensures ok { IfOk result (IsAdvisoryAt (F.allowed folders.old) path.now) }
+        ensures err { IfErr result (IsAdvisoryRefusal (F.allowed folders.old) path.now) }
+        ensures same { AllowSame (F.allowed folders.old) (F.allowed folders.new) }
+    {
+        let text = folders.read(alloc, path)?;
+        Advisory::of_file(alloc, path, text.as_str())
+    }
+
+    /// Reads the advisory of the file at a path of the disk, as `load_file_with`.
+    ///
+    /// # Errors
+    ///
+    /// As `load_file_with`. Every message but that of out of memory names the path.
+    pub fn load_file<R: Files>(rt: &R, alloc: Global, path: &str) -> Result<Advisory>
+        ensures ok { IfOk result (IsAdvisoryAt every_answer path.now) }
+        ensures err { IfErr result (IsAdvisoryRefusal every_answer path.now) }
+        ensures names { IfErr result (NamesFile path.now) }
+    {
+        let text = RealFolders::new(rt).read(alloc, path)?;
+        Advisory::of_file(alloc, path, text.as_str())
     }
 
     /// The ID.

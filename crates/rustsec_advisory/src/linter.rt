@@ -4,9 +4,10 @@ ghost use Rattle.std.specs.Prelude.{◌≡◌, ◌⊎◌, ℕ, List, IfErr, IfOk
 ghost use Rattle.std.specs.Fmt.{DisplaysOnOk};
 ghost use Rattle.std.specs.Option.{option_copied};
 ghost use Rattle.rustsec_advisory.specs.Advisory.{IsAdvisory};
+ghost use Rattle.rustsec_advisory.specs.FileRefusals.{AreLintsAt, IsLintRefusal};
 ghost use Rattle.rustsec_advisory.specs.LintErrors.{LintError, lint_error_text, kind_text, message_text, section_text};
 ghost use Rattle.rustsec_advisory.specs.Lints.{Lints};
-ghost use Rattle.rustsec_files.specs.Paths.{is_draft, is_markdown};
+ghost use Rattle.rustsec_folders.specs.Allowed.{AllowSame, every_answer};
 ghost use Rattle.rustsec_advisory.specs.declared.advisory.Advisory as given;
 ghost use Rattle.rustsec_advisory.specs.declared.linter.ErrorKind.TheVariants as lint_kind;
 ghost use Rattle.rustsec_versions.specs.Failure.{IsMemory, IsOfKind, IsRefusal};
@@ -14,7 +15,8 @@ ghost use Rattle.rustsec_versions.specs.declared.error.ErrorKind.TheVariants as 
 
 use crate::advisory::{self, Advisory};
 use crate::lint_rules;
-use rustsec_files::{path, reading};
+use rustsec_files::path;
+use rustsec_folders::{Folders, RealFolders};
 use rustsec_values::{ExactClone, ExactEq, Items, Text};
 use rustsec_versions::{Result, refused_text};
 use std::alloc::{AllocError, Global};
@@ -310,24 +312,35 @@ impl Linter {
         Ok(Linter { advisory, errors })
     }
 
-    /// The same with the text of a file, which is a draft's where its path says so.
+    /// Lints the file at a path of any folders, as `lint_string` does its text. It is a draft's where its
+    /// path says so.
     ///
     /// # Errors
     ///
-    /// `Parse` where the path is no Markdown file's; then `Io` where the file cannot be read or is no
+    /// `Parse` where the path is not a Markdown file's; then `Io` where the file cannot be read or is not
     /// UTF-8; then as `lint_string`.
-    pub fn lint_file<R: Files>(rt: &R, alloc: Global, path: &str) -> Result<Linter>
-        ensures ok { IfOk result (λ l. (is_markdown path.now ≡ true)
-            × ((text : List ℕ) × Lints text (Some (is_draft path.now)) l.advisory l.errors)) }
-        ensures err { IfErr result (λ e. IsRefusal failure.Parse (is_markdown path.now ≡ false) e
-            ⊎ ((is_markdown path.now ≡ true) × (IsOfKind failure.Io e
-            ⊎ ((text : List ℕ) × IsRefusal failure.Parse ((a : given.Advisory) → ¬ IsAdvisory text a) e)))) }
+    pub fn lint_file_with<F: Folders>(alloc: Global, folders: &mut F, path: &str) -> Result<Linter>
+        ensures ok { IfOk result (λ l. AreLintsAt (F.allowed folders.old) path.now l.advisory l.errors) }
+        ensures err { IfErr result (IsLintRefusal (F.allowed folders.old) path.now) }
+        ensures same { AllowSame (F.allowed folders.old) (F.allowed folders.new) }
     {
         if !path::is_markdown(path) {
             return Err(refused_text(alloc, "not a Markdown file", path, "the extension `md`"));
         }
-        let text = reading::text_of_file(rt, alloc, path)?;
-        Linter::lint_string(alloc, &text, Some(path::is_draft(path)))
+        let text = folders.read(alloc, path)?;
+        Linter::lint_string(alloc, text.as_str(), Some(path::is_draft(path)))
+    }
+
+    /// Lints the file at a path of the disk, as `lint_file_with`.
+    ///
+    /// # Errors
+    ///
+    /// As `lint_file_with`.
+    pub fn lint_file<R: Files>(rt: &R, alloc: Global, path: &str) -> Result<Linter>
+        ensures ok { IfOk result (λ l. AreLintsAt every_answer path.now l.advisory l.errors) }
+        ensures err { IfErr result (IsLintRefusal every_answer path.now) }
+    {
+        Linter::lint_file_with(alloc, &mut RealFolders::new(rt), path)
     }
 
     /// The advisory.

@@ -1,12 +1,12 @@
 -- What opening a root gives, by the answers that its folders allow.
-use Rattle.std.specs.Prelude.{◌⊎◌, ℕ, IfErr, IfOk, List, None, Result, Some}
+use Rattle.std.specs.Prelude.{◌⊎◌, ℕ, IfErr, IfOk, List, None, Option, Result, Some}
 use Rattle.rustsec_folders.specs.Allowed.{Allowed}
 use Rattle.rustsec_folders.specs.Listed.{FailsAtFile, IsFile, Listed, Pairwise}
 use Rattle.rustsec_folders.specs.declared.source_file.SourceFile.{SourceFile}
 use Rattle.rustsec_versions.specs.Failure.{Failure, IsMemory, IsRefusal}
 use Rattle.rustsec_versions.specs.declared.error.ErrorKind.TheVariants as kind
 use Rattle.rustsec_advisory.specs.declared.advisory.Advisory.{Advisory}
-use Rattle.rustsec_database.specs.Loaded.{AreLoaded, IsFirstFault}
+use Rattle.rustsec_database.specs.Loaded.{AreLoaded, IsAdded, IsFault, IsFirstFault}
 
 -- what is loaded from files that stand under a root
 abbrev pub AreOpened : Allowed → List ℕ → List Advisory → Type 0
@@ -16,6 +16,17 @@ AreOpened allowed root loaded = (files : List SourceFile) × (Listed allowed roo
 abbrev pub IsOpenRefusal : Allowed → List ℕ → Failure → Type 0
 IsOpenRefusal allowed root e =
     IsRefusal kind.Io (Listed allowed root None) e ⊎ ((files : List SourceFile) × (Listed allowed root (Some files) × IsFirstFault files e))
+
+-- ---- the file at one path
+
+-- what is loaded with a text more that may be read at a path
+abbrev pub IsAddedAt : Allowed → List ℕ → List Advisory → Option ℕ → List Advisory → Type 0
+IsAddedAt allowed path loaded place more = (text : List ℕ) × (allowed.reads path (Some text) × IsAdded loaded path text place more)
+
+-- how a file is refused: it cannot be read at its path, a text that may be read there is at fault, or out of memory
+abbrev pub IsFaultAt : Allowed → List ℕ → List Advisory → Failure → Type 0
+IsFaultAt allowed path loaded e =
+    IsRefusal kind.Io (allowed.reads path None) e ⊎ ((text : List ℕ) × (allowed.reads path (Some text) × IsFault loaded path text e))
 
 -- ---- the same of the files at some paths, for what opening calls
 

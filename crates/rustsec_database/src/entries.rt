@@ -6,14 +6,16 @@ ghost use Rattle.std.specs.List.{find};
 ghost use Rattle.std.specs.Option.{option_copied};
 ghost use Rattle.std.specs.Slice.Iter.{iter_rest};
 ghost use Rattle.rustsec_files.specs.ReadFailures.{IsReadFailure};
+ghost use Rattle.rustsec_folders.specs.Allowed.{AllowSame, every_answer};
 ghost use Rattle.rustsec_versions.specs.Failure.{IsMemory, IsOfKind};
 ghost use Rattle.rustsec_database.specs.Filing.{IsFiled};
 ghost use Rattle.rustsec_database.specs.Loaded.{IsAdded, IsAtFault, IsFault, has_id, is_known};
+ghost use Rattle.rustsec_database.specs.Opened.{IsAddedAt, IsFaultAt};
 
 use crate::filing::filed;
 use crate::slot::Slot;
 use rustsec_advisory::Advisory;
-use rustsec_files::reading::text_of_file;
+use rustsec_folders::{Folders, RealFolders};
 use rustsec_texts::Id;
 use rustsec_versions::{Error, ErrorKind, Result, refused_file};
 use std::alloc::{AllocError, Global};
@@ -117,19 +119,39 @@ impl Entries {
         }
     }
 
-    /// Loads the advisory of a file.
+    /// Loads the advisory of the file at a path of any folders, as `load_text` does.
     ///
     /// # Errors
     ///
-    /// `Io` if the file cannot be read or is no UTF-8; then as `load_text`.
-    pub fn load_file<R: Files>(&mut self, rt: &R, alloc: Global, path: &str) -> Result<Option<Slot>>
-        ensures ok { IfOk result (λ slot. (text : List ℕ) × IsAdded self.old path.now text slot self.new) }
+    /// `Io` if the file cannot be read or is not UTF-8; then as `load_text`.
+    pub fn load_file_with<F: Folders>(
+        &mut self,
+        alloc: Global,
+        folders: &mut F,
+        path: &str,
+    ) -> Result<Option<Slot>>
+        ensures ok { IfOk result (λ slot. IsAddedAt (F.allowed folders.old) path.now self.old slot self.new) }
         ensures kept { OnErr result (self.new ≡ self.old) }
-        ensures err { IfErr result (λ e. (IsOfKind ErrorKind.Io e × IsReadFailure path.now e)
-            ⊎ ((text : List ℕ) × IsFault self.old path.now text e)) }
+        ensures err { IfErr result (IsFaultAt (F.allowed folders.old) path.now self.old) }
+        ensures same { AllowSame (F.allowed folders.old) (F.allowed folders.new) }
     {
-        let text = text_of_file(rt, alloc, path)?;
-        self.load_text(alloc, path, &text)
+        let text = folders.read(alloc, path)?;
+        self.load_text(alloc, path, text.as_str())
+    }
+
+    /// Loads the advisory of the file at a path of the disk, as `load_file_with`.
+    ///
+    /// # Errors
+    ///
+    /// As `load_file_with`. Every message but that of out of memory names the path.
+    pub fn load_file<R: Files>(&mut self, rt: &R, alloc: Global, path: &str) -> Result<Option<Slot>>
+        ensures ok { IfOk result (λ slot. IsAddedAt every_answer path.now self.old slot self.new) }
+        ensures kept { OnErr result (self.new ≡ self.old) }
+        ensures err { IfErr result (IsFaultAt every_answer path.now self.old) }
+        ensures names { IfErr result (λ e. IsReadFailure path.now e ⊎ ((text : List ℕ) × IsFault self.old path.now text e)) }
+    {
+        let text = RealFolders::new(rt).read(alloc, path)?;
+        self.load_text(alloc, path, text.as_str())
     }
 
     /// The stored advisory with an ID.

@@ -1,3 +1,5 @@
+pub mod InOrder
 pub mod Lists
+pub mod Once
 pub mod Same
 pub mod Shown

@@ -1,5 +1,5 @@
 -- Which answers some folders allow.
-use Rattle.std.specs.Prelude.{◌↔◌, ℕ, List, Option, ⊤}
+use Rattle.std.specs.Prelude.{◌≡◌, ◌↔◌, ℕ, List, Option, ⊤}
 use Rattle.rustsec_folders.specs.declared.entry.FolderEntry.{FolderEntry}
 
 -- of each path, the answers that are allowed: a folder's entries and a file's text, where None is an I/O error
@@ -15,3 +15,8 @@ every_answer = record { lists = λ path answer. ⊤; reads = λ path answer. ⊤
 pub record AllowSame (a b : Allowed) : Type 0 where
   pub lists : (path : List ℕ) (answer : Option (List FolderEntry)) → a.lists path answer ↔ b.lists path answer
   pub reads : (path : List ℕ) (answer : Option (List ℕ)) → a.reads path answer ↔ b.reads path answer
+
+-- each path has one answer at most, however often it is asked for
+pub record AnswersOnce (allowed : Allowed) : Type 0 where
+  pub lists : (path : List ℕ) (one other : Option (List FolderEntry)) → allowed.lists path one → allowed.lists path other → one ≡ other
+  pub reads : (path : List ℕ) (one other : Option (List ℕ)) → allowed.reads path one → allowed.reads path other → one ≡ other

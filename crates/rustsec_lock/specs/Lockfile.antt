@@ -1,13 +1,15 @@
 -- The packages of a lockfile's table.
-use Rattle.std.specs.Prelude.{◌≡◌, ◌⊎◌, ◌++◌, ℕ, List, [], Option, Some, codes}
+use Rattle.std.specs.Prelude.{◌≡◌, ◌⊎◌, ◌++◌, ℕ, List, [], Option, None, Some, codes}
 use Rattle.std.specs.List.{All}
 use Rattle.semver.specs.Parse.{Parts, version_parts}
 use Rattle.toml.specs.Data.{Data, Members, as_str, as_table}
 use Rattle.toml.specs.Parse.{parse_document}
 use Rattle.rustsec_values.specs.Reading.{◌>>=◌, read_optional, value_of}
 use Rattle.rustsec_toml.specs.Fields.{defaulted, every, optional, required}
-use Rattle.rustsec_files.specs.ReadFailures.{read_message}
-use Rattle.rustsec_versions.specs.Failure.{Failure, out_of_memory}
+use Rattle.rustsec_files.specs.ReadFailures.{IsReadFailure}
+use Rattle.rustsec_folders.specs.Allowed.{Allowed}
+use Rattle.rustsec_versions.specs.Failure.{Failure, IsMemory, IsRefusal}
+use Rattle.rustsec_versions.specs.declared.error.ErrorKind.TheVariants as kind
 use Rattle.rustsec_versions.specs.Precedence.{IsVersion}
 use Rattle.rustsec_lock.specs.Names.{name_of}
 use Rattle.rustsec_lock.specs.Package.{PackageValue}
@@ -42,6 +44,22 @@ lockfile_of text = parse_document text >>= packages_of
 abbrev pub AreValid : List PackageValue → Type 0
 AreValid ps = All (λ (p : PackageValue). IsVersion p.version) ps
 
--- the message of a failure to load a lockfile names its path; out of memory has no message
+-- ---- lockfiles at a path
+
+-- the packages of a text that folders allow to be read at a path
+abbrev pub IsLockfileAt : Allowed → List ℕ → List PackageValue → Type 0
+IsLockfileAt allowed path packages = (text : List ℕ) × (allowed.reads path (Some text) × (lockfile_of text ≡ Some packages))
+
+-- how a lockfile at a path is refused: it cannot be read there, a text that may be read there is not a lockfile, or out of memory
+abbrev pub IsLockfileRefusal : Allowed → List ℕ → Failure → Type 0
+IsLockfileRefusal allowed path e =
+    IsRefusal kind.Io (allowed.reads path None) e
+    ⊎ ((text : List ℕ) × (allowed.reads path (Some text) × IsRefusal kind.Parse (lockfile_of text ≡ None) e))
+
+-- a parse error whose message names the path of the lockfile, or out of memory
+abbrev pub IsParseFailure : List ℕ → Failure → Type 0
+IsParseFailure path e = ((e.kind ≡ kind.Parse) × (e.message ≡ codes "error parsing " ++ path)) ⊎ IsMemory e
+
+-- each kind of failure to load a lockfile has a message that names its path; out of memory has no message
 abbrev pub NamesLockfile : List ℕ → Failure → Type 0
-NamesLockfile path e = (e.message ≡ codes "error parsing " ++ path) ⊎ ((e.message ≡ read_message path) ⊎ (e ≡ out_of_memory))
+NamesLockfile path e = IsParseFailure path e ⊎ IsReadFailure path e

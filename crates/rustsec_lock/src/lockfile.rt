@@ -3,15 +3,16 @@
 ghost use Rattle.std.specs.Prelude.{◌≡◌, ◌++◌, ◌∷◌, ◌⊎◌, [], ℕ, IfErr, IfOk, List, None, OnOk, Some, option_map};
 ghost use Rattle.toml.specs.View.{array_view, table_view, view};
 ghost use Rattle.rustsec_values.specs.Reading.{read_all, read_optional};
+ghost use Rattle.rustsec_folders.specs.Allowed.{AllowSame, every_answer};
 ghost use Rattle.rustsec_versions.specs.Failure.{IsMemory, IsOfKind, IsRefusal};
 ghost use Rattle.rustsec_toml.specs.Fields.{list_of};
-ghost use Rattle.rustsec_lock.specs.Lockfile.{AreValid, NamesLockfile, lockfile_of, package_in, package_of, packages_of};
+ghost use Rattle.rustsec_lock.specs.Lockfile.{AreValid, IsLockfileAt, IsLockfileRefusal, IsParseFailure, NamesLockfile, lockfile_of, package_in, package_of, packages_of};
 ghost use Rattle.rustsec_lock.specs.Source.{source_id_of};
 
 use crate::names::Name;
 use crate::packages::Package;
 use crate::source::SourceId;
-use rustsec_files::reading::text_of_file;
+use rustsec_folders::{Folders, RealFolders};
 use rustsec_toml::Section;
 use rustsec_values::{ExactClone, Items, Text, beginning_of};
 use rustsec_versions::{
@@ -189,24 +190,48 @@ impl Lockfile {
         }
     }
 
-    /// The lockfile of a file's text.
-    ///
-    /// # Errors
-    ///
-    /// `Io` if the file cannot be read or is no UTF-8; else as `from_str`. The message names the path, and
-    /// the message of `from_str` is the cause.
-    pub fn load<R: Files>(rt: &R, alloc: Global, path: &str) -> Result<Lockfile>
-        ensures ok { IfOk result (λ l. (text : List ℕ) × (lockfile_of text ≡ Some l.packages)) }
+    /// Reads the lockfile of a file's text. `path` is for the message alone.
+    fn of_file(alloc: Global, path: &str, text: &str) -> Result<Lockfile>
+        ensures ok { IfOk result (λ l. lockfile_of text.now ≡ Some l.packages) }
         ensures valid { IfOk result (λ l. AreValid l.packages) }
-        ensures err { IfErr result (λ e. (IsOfKind ErrorKind.Io e)
-            ⊎ ((text : List ℕ) × IsRefusal ErrorKind.Parse (lockfile_of text ≡ None) e)) }
-        ensures names { IfErr result (NamesLockfile path.now) }
+        ensures err { IfErr result (IsRefusal ErrorKind.Parse (lockfile_of text.now ≡ None)) }
+        ensures names { IfErr result (IsParseFailure path.now) }
     {
-        let text = text_of_file(rt, alloc, path)?;
-        match Lockfile::from_str(alloc, text.as_str()) {
+        match Lockfile::from_str(alloc, text) {
             Ok(lockfile) => Ok(lockfile),
             Err(e) => Err(refused_file(alloc, path, &e)),
         }
+    }
+
+    /// Reads the lockfile at a path of any folders.
+    ///
+    /// # Errors
+    ///
+    /// `Io` if the file cannot be read or is not UTF-8; else as `from_str`. The message of a refused text
+    /// names the path, and the message of `from_str` is the cause.
+    pub fn load_with<F: Folders>(alloc: Global, folders: &mut F, path: &str) -> Result<Lockfile>
+        ensures ok { IfOk result (λ l. IsLockfileAt (F.allowed folders.old) path.now l.packages) }
+        ensures valid { IfOk result (λ l. AreValid l.packages) }
+        ensures err { IfErr result (IsLockfileRefusal (F.allowed folders.old) path.now) }
+        ensures same { AllowSame (F.allowed folders.old) (F.allowed folders.new) }
+    {
+        let text = folders.read(alloc, path)?;
+        Lockfile::of_file(alloc, path, text.as_str())
+    }
+
+    /// Reads the lockfile at a path of the disk, as `load_with`.
+    ///
+    /// # Errors
+    ///
+    /// As `load_with`. Every message but that of out of memory names the path.
+    pub fn load<R: Files>(rt: &R, alloc: Global, path: &str) -> Result<Lockfile>
+        ensures ok { IfOk result (λ l. IsLockfileAt every_answer path.now l.packages) }
+        ensures valid { IfOk result (λ l. AreValid l.packages) }
+        ensures err { IfErr result (IsLockfileRefusal every_answer path.now) }
+        ensures names { IfErr result (NamesLockfile path.now) }
+    {
+        let text = RealFolders::new(rt).read(alloc, path)?;
+        Lockfile::of_file(alloc, path, text.as_str())
     }
 
     /// An equal lockfile.
