@@ -4,7 +4,7 @@ ghost use Rattle.std.specs.Prelude.{◌≡◌, ◌⊎◌, ℕ, IfErr, IfOk, List
 ghost use Rattle.rustsec_lock.specs.Cvss.{cvss_severity};
 ghost use Rattle.toml.specs.Parse.{parse_document};
 ghost use Rattle.toml.specs.View.{table_view};
-ghost use Rattle.rustsec_folders.specs.Allowed.{AllowSame, every_answer};
+ghost use Rattle.rustsec_folders.specs.Allowed.{AllowSame, real_folders};
 ghost use Rattle.rustsec_advisory.specs.Advisory.{IsAdvisory, IsAdvisoryWith, IsOfDocument, document_text};
 ghost use Rattle.rustsec_advisory.specs.FileRefusals.{IsAdvisoryAt, IsAdvisoryRefusal, IsTextRefusal, NamesFile};
 ghost use Rattle.rustsec_files.specs.Paths.{is_draft};
@@ -189,8 +189,8 @@ impl Advisory {
     ///
     /// As `load_file_with`. Every message but that of out of memory names the path.
     pub fn load_file<R: Files>(rt: &R, alloc: Global, path: &str) -> Result<Advisory>
-        ensures ok { IfOk result (IsAdvisoryAt every_answer path.now) }
-        ensures err { IfErr result (IsAdvisoryRefusal every_answer path.now) }
+        ensures ok { IfOk result (IsAdvisoryAt real_folders path.now) }
+        ensures err { IfErr result (IsAdvisoryRefusal real_folders path.now) }
         ensures names { IfErr result (NamesFile path.now) }
     {
         let text = RealFolders::new(rt).read(alloc, path)?;

@@ -7,7 +7,7 @@ ghost use Rattle.rustsec_advisory.specs.Advisory.{IsAdvisory};
 ghost use Rattle.rustsec_advisory.specs.FileRefusals.{AreLintsAt, IsLintRefusal};
 ghost use Rattle.rustsec_advisory.specs.LintErrors.{LintError, lint_error_text, kind_text, message_text, section_text};
 ghost use Rattle.rustsec_advisory.specs.Lints.{Lints};
-ghost use Rattle.rustsec_folders.specs.Allowed.{AllowSame, every_answer};
+ghost use Rattle.rustsec_folders.specs.Allowed.{AllowSame, real_folders};
 ghost use Rattle.rustsec_advisory.specs.declared.advisory.Advisory as given;
 ghost use Rattle.rustsec_advisory.specs.declared.linter.ErrorKind.TheVariants as lint_kind;
 ghost use Rattle.rustsec_versions.specs.Failure.{IsMemory, IsOfKind, IsRefusal};
@@ -337,8 +337,8 @@ impl Linter {
     ///
     /// As `lint_file_with`.
     pub fn lint_file<R: Files>(rt: &R, alloc: Global, path: &str) -> Result<Linter>
-        ensures ok { IfOk result (λ l. AreLintsAt every_answer path.now l.advisory l.errors) }
-        ensures err { IfErr result (IsLintRefusal every_answer path.now) }
+        ensures ok { IfOk result (λ l. AreLintsAt real_folders path.now l.advisory l.errors) }
+        ensures err { IfErr result (IsLintRefusal real_folders path.now) }
     {
         Linter::lint_file_with(alloc, &mut RealFolders::new(rt), path)
     }

@@ -6,7 +6,7 @@ ghost use Rattle.std.specs.List.{find};
 ghost use Rattle.std.specs.Option.{option_copied};
 ghost use Rattle.std.specs.Slice.Iter.{iter_rest};
 ghost use Rattle.rustsec_files.specs.ReadFailures.{IsReadFailure};
-ghost use Rattle.rustsec_folders.specs.Allowed.{AllowSame, every_answer};
+ghost use Rattle.rustsec_folders.specs.Allowed.{AllowSame, real_folders};
 ghost use Rattle.rustsec_versions.specs.Failure.{IsMemory, IsOfKind};
 ghost use Rattle.rustsec_database.specs.Filing.{IsFiled};
 ghost use Rattle.rustsec_database.specs.Loaded.{IsAdded, IsAtFault, IsFault, has_id, is_known};
@@ -145,9 +145,9 @@ impl Entries {
     ///
     /// As `load_file_with`. Every message but that of out of memory names the path.
     pub fn load_file<R: Files>(&mut self, rt: &R, alloc: Global, path: &str) -> Result<Option<Slot>>
-        ensures ok { IfOk result (λ slot. IsAddedAt every_answer path.now self.old slot self.new) }
+        ensures ok { IfOk result (λ slot. IsAddedAt real_folders path.now self.old slot self.new) }
         ensures kept { OnErr result (self.new ≡ self.old) }
-        ensures err { IfErr result (IsFaultAt every_answer path.now self.old) }
+        ensures err { IfErr result (IsFaultAt real_folders path.now self.old) }
         ensures names { IfErr result (λ e. IsReadFailure path.now e ⊎ ((text : List ℕ) × IsFault self.old path.now text e)) }
     {
         let text = RealFolders::new(rt).read(alloc, path)?;

@@ -1,7 +1,7 @@
 // Databases of the files under a root.
 
 ghost use Rattle.std.specs.Prelude.{◌++◌, ◌∷◌, [], IfErr, IfOk, List};
-ghost use Rattle.rustsec_folders.specs.Allowed.{AllowSame, every_answer};
+ghost use Rattle.rustsec_folders.specs.Allowed.{AllowSame, real_folders};
 ghost use Rattle.rustsec_folders.specs.declared.source_file.SourceFile.{SourceFile};
 ghost use Rattle.rustsec_database.specs.Opened.{AreOpened, AreRead, IsLoadOf, IsOpenRefusal, IsReadRefusal};
 
@@ -63,8 +63,8 @@ impl Database {
     /// As `open_with`. The message of `Io` names the path that cannot be listed or read, and its cause
     /// says why.
     pub fn open<R: Files>(rt: &R, alloc: Global, root: &str) -> Result<Database>
-        ensures ok { IfOk result (AreOpened every_answer root.now) }
-        ensures err { IfErr result (IsOpenRefusal every_answer root.now) }
+        ensures ok { IfOk result (AreOpened real_folders root.now) }
+        ensures err { IfErr result (IsOpenRefusal real_folders root.now) }
     {
         let mut folders = RealFolders::new(rt);
         Database::open_with(alloc, &mut folders, root)

@@ -11,6 +11,10 @@ pub record Allowed : Type 1 where
 abbrev pub every_answer : Allowed
 every_answer = record { lists = λ path answer. ⊤; reads = λ path answer. ⊤ }
 
+-- what the folders of a disk allow: every answer, since no contract knows what a disk holds
+abbrev pub real_folders : Allowed
+real_folders = every_answer
+
 -- two that allow the same
 pub record AllowSame (a b : Allowed) : Type 0 where
   pub lists : (path : List ℕ) (answer : Option (List FolderEntry)) → a.lists path answer ↔ b.lists path answer

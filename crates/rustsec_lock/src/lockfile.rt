@@ -3,7 +3,7 @@
 ghost use Rattle.std.specs.Prelude.{◌≡◌, ◌++◌, ◌∷◌, ◌⊎◌, [], ℕ, IfErr, IfOk, List, None, OnOk, Some, option_map};
 ghost use Rattle.toml.specs.View.{array_view, table_view, view};
 ghost use Rattle.rustsec_values.specs.Reading.{read_all, read_optional};
-ghost use Rattle.rustsec_folders.specs.Allowed.{AllowSame, every_answer};
+ghost use Rattle.rustsec_folders.specs.Allowed.{AllowSame, real_folders};
 ghost use Rattle.rustsec_versions.specs.Failure.{IsMemory, IsOfKind, IsRefusal};
 ghost use Rattle.rustsec_toml.specs.Fields.{list_of};
 ghost use Rattle.rustsec_lock.specs.Lockfile.{AreValid, IsLockfileAt, IsLockfileRefusal, IsParseFailure, NamesLockfile, lockfile_of, package_in, package_of, packages_of};
@@ -225,9 +225,9 @@ impl Lockfile {
     ///
     /// As `load_with`. Every message but that of out of memory names the path.
     pub fn load<R: Files>(rt: &R, alloc: Global, path: &str) -> Result<Lockfile>
-        ensures ok { IfOk result (λ l. IsLockfileAt every_answer path.now l.packages) }
+        ensures ok { IfOk result (λ l. IsLockfileAt real_folders path.now l.packages) }
         ensures valid { IfOk result (λ l. AreValid l.packages) }
-        ensures err { IfErr result (IsLockfileRefusal every_answer path.now) }
+        ensures err { IfErr result (IsLockfileRefusal real_folders path.now) }
         ensures names { IfErr result (NamesLockfile path.now) }
     {
         let text = RealFolders::new(rt).read(alloc, path)?;
