@@ -174,7 +174,11 @@ impl Advisory {
     ///
     /// `Io` if the file cannot be read or is not UTF-8; then as `from_str`. The message of a refused text
     /// names the path; the cause is what `from_str` says, followed by its own cause.
-    pub fn load_file_with<F: Folders>(alloc: Global, folders: &mut F, path: &str) -> Result<Advisory>
+    pub fn load_file_with<F: Folders>(
+        alloc: Global,
+        folders: &mut F,
+        path: &str,
+    ) -> Result<Advisory>
         ensures ok { IfOk result (IsAdvisoryAt (F.allowed folders.old) path.now) }
         ensures err { IfErr result (IsAdvisoryRefusal (F.allowed folders.old) path.now) }
         ensures same { AllowSame (F.allowed folders.old) (F.allowed folders.new) }

@@ -1,6 +1,6 @@
 pub mod NoFloats
 pub mod NoFloatsOsv
-pub mod OfWords
+pub mod Once
 pub mod OneOutput
 pub mod OptionWords
 pub mod Refused

@@ -1,35 +1,49 @@
--- The output of `lint` for a file that is refused, and of `audit` for an ID that is.
-use Rattle.std.proofs.Common.{◌≡◌, ◌≢◌, ◌⊎◌, ◌∙◌, ℕ, List, None, Some, false, true, ap, inl, inr}
-use Rattle.rustsec_advisory.specs.Advisory.{IsAdvisory}
-use Rattle.rustsec_files.specs.Paths.{is_markdown}
-use Rattle.rustsec_advisory.specs.declared.advisory.Advisory.{Advisory}
-use Rattle.rustsec_commands.specs.Lint.{IsLintOutput, another, refused_as, unparsed, unread}
-use Rattle.rustsec_commands.specs.Output.{Output}
-use Rattle.rustsec_versions.specs.Failure.{Failure, IsOfKind, IsRefusal, out_of_memory}
-use Rattle.rustsec_commands.specs.Options.{Options, options_of}
-use Rattle.rustsec_commands.specs.Reports.{IsAuditOutput, misread}
-use Rattle.rustsec_texts.specs.Ids.{id_of}
-use Rattle.rustsec_values.specs.Reading.{read_all}
+-- The output of `audit` for an ID that is refused; the report of what was opened and of the lockfile that was read then.
+use Rattle.std.proofs.Common.{◌≡◌, ◌≢◌, ◌∙◌, ℕ, List, None, Option, Some, ap, inl, inr, refl}
+use Rattle.toml.specs.Data.{Members}
+use Rattle.toml.specs.Parse.{parse_document}
+use Rattle.rustsec_values.specs.Reading.{◌>>=◌, read_all}
+use Rattle.rustsec_versions.specs.Failure.{Failure, IsRefusal}
 use Rattle.rustsec_versions.specs.declared.error.ErrorKind.TheVariants as kind
+use Rattle.rustsec_versions.proofs.Refusals.{refused_by}
+use Rattle.rustsec_folders.specs.Allowed.{Allowed, AllowSame}
+use Rattle.rustsec_folders.specs.declared.source_file.SourceFile.{SourceFile}
+use Rattle.rustsec_lock.specs.Lockfile.{IsLockfileAt, IsLockfileRefusal, packages_of}
+use Rattle.rustsec_lock.specs.Package.{PackageValue}
+use Rattle.rustsec_texts.specs.Ids.{id_of}
+use Rattle.rustsec_advisory.specs.declared.advisory.Advisory.{Advisory}
+use Rattle.rustsec_database.specs.Loaded.{AreLoaded}
+use Rattle.rustsec_database.specs.Opened.{AreOpened}
+use Rattle.rustsec_report.specs.EndToEnd.{IsReportOf}
+use Rattle.rustsec_report.specs.declared.report.Report.{Report}
+use Rattle.rustsec_report.specs.declared.settings.Settings.{Settings}
+use Rattle.rustsec_commands.specs.Options.{Options, options_of}
+use Rattle.rustsec_commands.specs.Output.{Output, refused_as}
+use Rattle.rustsec_commands.specs.Reports.{IsAuditOutput, IsReportOfPaths, IsReportRefusal, misread}
 
--- how a path or a file is refused
-abbrev pub IsRefused : List ℕ → Failure → Type 0
-IsRefused path e = IsRefusal kind.Parse (is_markdown path ≡ false) e
-    ⊎ ((is_markdown path ≡ true) × (IsOfKind kind.Io e ⊎ ((text : List ℕ) × IsRefusal kind.Parse ((a : Advisory) → ¬ IsAdvisory text a) e)))
+pub misread-by : (allowed : Allowed) (root lock : List ℕ) (words : List (List ℕ)) (o : Output) (p : Options) (e : Failure) → options_of words ≡ Some p
+    → IsRefusal kind.Parse (read_all id_of p.ignored ≡ None) e → e.kind ≢ kind.OutOfMemory → o ≡ refused_as e.kind → IsAuditOutput allowed root lock words o
+misread-by allowed root lock words o p e known (inl (k, none)) other is = misread p known none (is ∙ ap refused_as k)
+misread-by allowed root lock words o p e known (inr memory) other is = absurd (other (ap (λ (f : Failure). f.kind) memory))
 
-of-memory : {P : Type 0} (e : Failure) → e.kind ≢ kind.OutOfMemory → e ≡ out_of_memory → P
-of-memory e other memory = absurd (other (ap (λ (f : Failure). f.kind) memory))
+-- the document whose table gives a lockfile's packages
+table-of : (document : Option Members) (packages : List PackageValue) → document >>= packages_of ≡ Some packages
+    → (table : Members) × ((document ≡ Some table) × (packages_of table ≡ Some packages))
+table-of None packages h = cc h
+table-of (Some table) packages h = (table, (refl, h))
 
-pub refused-output : (path : List ℕ) (e : Failure) (o : Output) → e.kind ≢ kind.OutOfMemory → o ≡ refused_as e.kind → IsRefused path e
-    → IsLintOutput path o
-refused-output path e o other is (inl (inl (k, m))) = another m (is ∙ ap refused_as k)
-refused-output path e o other is (inl (inr memory)) = of-memory e other memory
-refused-output path e o other is (inr (m, inl (inl k))) = unread m (is ∙ ap refused_as k)
-refused-output path e o other is (inr (m, inl (inr memory))) = of-memory e other memory
-refused-output path e o other is (inr (m, inr (text, inl (k, never)))) = unparsed text m never (is ∙ ap refused_as k)
-refused-output path e o other is (inr (m, inr (text, inr memory))) = of-memory e other memory
+-- folders allow after opening what they allow before
+pub report-of-paths : (a b : Allowed) (root lock : List ℕ) (s : Settings) (advisories : List Advisory) (packages : List PackageValue) (r : Report)
+    → AllowSame a b → AreOpened a root advisories → IsLockfileAt b lock packages
+    → ((files : List SourceFile) (table : Members) → AreLoaded files advisories → packages_of table ≡ Some packages → IsReportOf files table s r)
+    → IsReportOfPaths a root lock s r
+report-of-paths a b root lock s advisories packages r same (files, (listed, load)) (text, (read, locked)) chain =
+    let (table, (document, holds)) = table-of (parse_document text) packages locked in
+    (files, (listed, (text, ((same.reads lock (Some text)).1 read, (table, (document, chain files table load holds))))))
 
-pub misread-by : (root : List ℕ) (words : List (List ℕ)) (o : Output) (p : Options) (e : Failure) → options_of words ≡ Some p
-    → IsRefusal kind.Parse (read_all id_of p.ignored ≡ None) e → e.kind ≢ kind.OutOfMemory → o ≡ refused_as e.kind → IsAuditOutput root words o
-misread-by root words o p e known (inl (k, none)) other is = misread p known none (is ∙ ap refused_as k)
-misread-by root words o p e known (inr memory) other is = absurd (other (ap (λ (f : Failure). f.kind) memory))
+pub lockfile-refused : (a b : Allowed) (root lock : List ℕ) (advisories : List Advisory) (e : Failure) → AllowSame a b → AreOpened a root advisories
+    → IsLockfileRefusal b lock e → IsReportRefusal a root lock e
+lockfile-refused a b root lock advisories e same opened (inl h) =
+    inr ((advisories, opened), inl (refused_by kind.Io e (λ fails. (same.reads lock None).1 fails) h))
+lockfile-refused a b root lock advisories e same opened (inr (text, (read, h))) =
+    inr ((advisories, opened), inr (text, ((same.reads lock (Some text)).1 read, h)))

@@ -1,7 +1,6 @@
--- What a command leaves behind: its status, and what its writer holds.
+-- What the command `ranges` leaves behind: its status, and what its writer holds.
 use Rattle.std.specs.Prelude.{◌≡◌, ℕ, List, Option}
 use Rattle.std.specs.Io.KnownBytes.{Appends}
-use Rattle.rustsec_commands.specs.Lint.{IsLintOutput}
 use Rattle.rustsec_commands.specs.Output.{IsRangesOutput, Output}
 
 -- the status and the text of `ranges` for an input, and nothing else written
@@ -9,19 +8,5 @@ pub record AnswersRanges (input : List ℕ) (status : ℕ) (old new : Option (Li
   pub output : Output
   pub is_output : IsRangesOutput input output
   pub only : (other : Output) → IsRangesOutput input other → other ≡ output
-  pub status_is : status ≡ output.status
-  pub text : Appends old new output.text
-
--- the status and the text of `lint` for the file at a path, and nothing else written
-pub record AnswersLint (path : List ℕ) (status : ℕ) (old new : Option (List ℕ)) : Type 0 where
-  pub output : Output
-  pub is_output : IsLintOutput path output
-  pub status_is : status ≡ output.status
-  pub text : Appends old new output.text
-
--- the status and the text of some output that is such, and nothing else written
-pub record Answers (IsOutput : Output → Type 0) (status : ℕ) (old new : Option (List ℕ)) : Type 0 where
-  pub output : Output
-  pub is_output : IsOutput output
   pub status_is : status ≡ output.status
   pub text : Appends old new output.text

@@ -1,10 +1,12 @@
 -- What each command writes.
-use Rattle.std.specs.Prelude.{◌≡◌, ℕ, Bool, false, true, List, Option, IfSome, map}
+use Rattle.std.specs.Prelude.{◌≡◌, ◌≢◌, ℕ, Bool, false, true, List, Option, IfSome, None, map}
+use Rattle.std.specs.Io.KnownBytes.{Appends}
+use Rattle.rustsec_folders.specs.Allowed.{Allowed}
 use Rattle.rustsec_commands.specs.Lint.{IsLintOutput}
 use Rattle.rustsec_commands.specs.Osv.{IsOsvOutput}
 use Rattle.rustsec_commands.specs.Output.{IsRangesOutput, Output, affected_output, usage}
 use Rattle.rustsec_commands.specs.Reports.{IsAuditOutput, IsReportOutput}
-use Rattle.rustsec_commands.specs.Words.{Command, affected, audit, lint, none, osv, ranges, report}
+use Rattle.rustsec_commands.specs.Words.{Command, affected, audit, command_of, lint, none, osv, ranges, report}
 use Rattle.rustsec_commands.specs.declared.words.Command as given
 use Rattle.rustsec_commands.specs.declared.words.Command.TheVariants as command
 
@@ -22,15 +24,16 @@ command_view command.Unknown = none
 abbrev pub IsOnlyRangesOutput : List ℕ → Output → Type 0
 IsOnlyRangesOutput input o = IsRangesOutput input o × ((other : Output) → IsRangesOutput input other → other ≡ o)
 
--- an output of a command; of `affected` and `ranges` something is said if the bytes of the input are known
-abbrev pub IsOutputOf : Command → Option (List ℕ) → Output → Type 0
-IsOutputOf affected input o = IfSome input (λ bytes. o ≡ affected_output bytes)
-IsOutputOf ranges input o = IfSome input (λ bytes. IsOnlyRangesOutput bytes o)
-IsOutputOf (lint path) input o = IsLintOutput path o
-IsOutputOf (osv path modified) input o = IsOsvOutput modified o
-IsOutputOf (report root lock) input o = IsReportOutput root o
-IsOutputOf (audit root lock options) input o = IsAuditOutput root options o
-IsOutputOf none input o = o ≡ usage
+-- an output of a command, over folders that allow these answers; of `affected` and `ranges` something is said if the bytes of
+-- the input are known
+abbrev pub IsOutputOf : Allowed → Command → Option (List ℕ) → Output → Type 0
+IsOutputOf allowed affected input o = IfSome input (λ bytes. o ≡ affected_output bytes)
+IsOutputOf allowed ranges input o = IfSome input (λ bytes. IsOnlyRangesOutput bytes o)
+IsOutputOf allowed (lint path) input o = IsLintOutput allowed path o
+IsOutputOf allowed (osv path modified) input o = IsOsvOutput allowed path modified o
+IsOutputOf allowed (report root lock) input o = IsReportOutput allowed root lock o
+IsOutputOf allowed (audit root lock options) input o = IsAuditOutput allowed root lock options o
+IsOutputOf allowed none input o = o ≡ usage
 
 -- whether a command reads the input
 abbrev pub reads_input : Command → Bool
@@ -41,3 +44,20 @@ reads_input (osv path modified) = false
 reads_input (report root lock) = false
 reads_input (audit root lock options) = false
 reads_input none = false
+
+-- whether the words name a command that reads the input
+abbrev pub words_read_input : List (List ℕ) → Bool
+words_read_input words = reads_input (command_of words)
+
+-- what carrying out words leaves, over folders that allow these answers and an input of these bytes: the status and the text
+-- of an output of the command that the words name, and nothing else written
+pub record Carries (allowed : Allowed) (words : List (List ℕ)) (input : Option (List ℕ)) (status : ℕ) (old new : Option (List ℕ)) : Type 0 where
+  pub output : Output
+  pub is_output : IsOutputOf allowed (command_of words) input output
+  pub status_is : status ≡ output.status
+  pub text : Appends old new output.text
+
+-- words have one output at most, where the bytes of the input are known if their command reads it
+abbrev pub HaveOneOutput : Allowed → List (List ℕ) → Option (List ℕ) → Type 0
+HaveOneOutput allowed words input = (words_read_input words ≡ true → input ≢ None)
+    → (one other : Output) → IsOutputOf allowed (command_of words) input one → IsOutputOf allowed (command_of words) input other → one ≡ other

@@ -1,13 +1,11 @@
--- What the command `lint` writes for a file.
-use Rattle.std.specs.Prelude.{◌≡◌, ◌++◌, ◌==◌, ℕ, List, Some, codes, false, flat_map, length, true, if◌then◌else◌}
-use Rattle.rustsec_advisory.specs.Advisory.{IsAdvisory}
+-- What the command `lint` writes for the file at a path.
+use Rattle.std.specs.Prelude.{◌≡◌, ◌≢◌, ◌++◌, ◌==◌, ℕ, List, codes, flat_map, length, if◌then◌else◌}
+use Rattle.rustsec_folders.specs.Allowed.{Allowed}
+use Rattle.rustsec_advisory.specs.FileRefusals.{AreLintsAt, IsLintRefusal}
 use Rattle.rustsec_advisory.specs.LintErrors.{LintError, lint_error_text}
-use Rattle.rustsec_advisory.specs.Lints.{Lints}
-use Rattle.rustsec_files.specs.Paths.{is_draft, is_markdown}
 use Rattle.rustsec_advisory.specs.declared.advisory.Advisory.{Advisory}
-use Rattle.rustsec_commands.specs.Output.{Output}
-use Rattle.rustsec_versions.specs.Failure.{kind_text}
-use Rattle.rustsec_versions.specs.declared.error.ErrorKind.{ErrorKind}
+use Rattle.rustsec_commands.specs.Output.{Output, refused_as}
+use Rattle.rustsec_versions.specs.Failure.{Failure}
 use Rattle.rustsec_versions.specs.declared.error.ErrorKind.TheVariants as kind
 
 -- the line for a lint error
@@ -18,15 +16,8 @@ error_line f = lint_error_text f ++ codes "\n"
 abbrev pub errors_output : List LintError → Output
 errors_output fs = record { text = flat_map error_line fs; status = if length fs == 0 then 0 else 1 }
 
--- the answer to a refusal of this kind
-abbrev pub refused_as : ErrorKind → Output
-refused_as k = record { text = codes "refused: " ++ (kind_text k ++ codes "\n"); status = 2 }
-
--- an output for a file at a path: the lint errors of some text's advisory; or the refusal of a path that is no Markdown file's, of
--- a file that cannot be read, or of some text that is no advisory
-pub data IsLintOutput (path : List ℕ) (o : Output) : Type 0 where
-  linted : (text : List ℕ) (a : Advisory) (fs : List LintError) → is_markdown path ≡ true → Lints text (Some (is_draft path)) a fs
-      → o ≡ errors_output fs → IsLintOutput path o
-  another : is_markdown path ≡ false → o ≡ refused_as kind.Parse → IsLintOutput path o
-  unread : is_markdown path ≡ true → o ≡ refused_as kind.Io → IsLintOutput path o
-  unparsed : (text : List ℕ) → is_markdown path ≡ true → ((a : Advisory) → ¬ IsAdvisory text a) → o ≡ refused_as kind.Parse → IsLintOutput path o
+-- an output for the file at a path: the lint errors of the advisory that may be read there; or the kind of a refusal, which
+-- is not out of memory
+pub data IsLintOutput (allowed : Allowed) (path : List ℕ) (o : Output) : Type 0 where
+  linted : (a : Advisory) (fs : List LintError) → AreLintsAt allowed path a fs → o ≡ errors_output fs → IsLintOutput allowed path o
+  refused : (e : Failure) → IsLintRefusal allowed path e → e.kind ≢ kind.OutOfMemory → o ≡ refused_as e.kind → IsLintOutput allowed path o

@@ -5,6 +5,8 @@ use Rattle.serde_json.specs.Data.{Data}
 use Rattle.serde_json.specs.Written.{compact_text}
 use Rattle.semver.specs.Identifiers.{parts_text}
 use Rattle.semver.specs.Parse.{Parts}
+use Rattle.rustsec_versions.specs.Failure.{kind_text}
+use Rattle.rustsec_versions.specs.declared.error.ErrorKind.{ErrorKind}
 use Rattle.rustsec_versions.specs.Lists.{Lists, accepted, affected}
 use Rattle.rustsec_versions.specs.Ranges.{Range}
 use Rattle.rustsec_versions.specs.StoredRanges.{AreMergedRanges}
@@ -23,6 +25,10 @@ malformed place = record { text = codes "line " ++ (decimal (place + 1) ++ codes
 -- the answer to lists that are not accepted
 abbrev pub refused : Output
 refused = record { text = codes "refused: bad parameter\n"; status = 2 }
+
+-- the answer to a refusal of this kind
+abbrev pub refused_as : ErrorKind → Output
+refused_as k = record { text = codes "refused: " ++ (kind_text k ++ codes "\n"); status = 2 }
 
 -- ---- affected
 

@@ -2,7 +2,7 @@
 
 ghost use Rattle.rustsec_commands.specs.declared.fault.Fault.TheVariants as fault;
 ghost use Rattle.std.specs.Prelude.{◌≡◌, ◌≢◌, IfErr, IfOk, IfSome, OnOk};
-ghost use Rattle.std.specs.Io.KnownBytes.{Appends, Consumes, IsAtEnd, Keeps};
+ghost use Rattle.std.specs.Io.KnownBytes.{Appends, Keeps};
 ghost use Rattle.rustsec_commands.specs.Answer.{AnswersRanges};
 ghost use Rattle.rustsec_commands.specs.Commands.{IsOnlyRangesOutput};
 ghost use Rattle.rustsec_commands.specs.Output.{affected_output};
@@ -10,27 +10,30 @@ ghost use Rattle.rustsec_commands.specs.Output.{affected_output};
 use crate::fault::Fault;
 use crate::output::Output;
 use crate::{affected, ranges};
+use rustsec_files::reading::bytes_of;
 use std::alloc::Global;
-use std::io::{Read, Write};
+use std::io::{self, ErrorKind, Read, Write};
 
-/// The most reads of an input, 2^32.
-const MAX_READS: u64 = 4294967296;
+/// Returns the fault of an error that a reader gave.
+fn fault_of(error: &io::Error) -> Fault
+    ensures { result ≢ fault.Write }
+{
+    if error.kind() == ErrorKind::OutOfMemory {
+        Fault::Memory
+    } else {
+        Fault::Read
+    }
+}
 
-/// All that a reader has left, in at most `MAX_READS` reads.
+/// Reads all that a reader has left, in at most 2^32 reads. A read that was interrupted is tried again.
 fn read_all<R: Read>(alloc: Global, input: &mut R) -> Result<Vec<u8>, Fault>
     ensures all { IfOk result (λ v. IfSome (R.remaining input.old) (λ bytes. v.items ≡ bytes)) }
     ensures err { IfErr result (λ e. e ≢ fault.Write) }
 {
-    let mut all = Vec::new(alloc);
-    let mut buf = [0u8; 16384];
-    'reads: for _ in 0..MAX_READS {
-        match input.read(&mut buf) {
-            Ok(0) => return Ok(all),
-            Ok(count) => all.extend_from_slice(&buf[..count])?,
-            Err(_) => return Err(Fault::Read),
-        }
+    match bytes_of(alloc, input) {
+        Ok(bytes) => Ok(bytes),
+        Err(error) => Err(fault_of(&error)),
     }
-    Err(Fault::Read)
 }
 
 /// What `affected` writes for all that a reader has left.

@@ -1,55 +1,59 @@
-//! The command that the words name.
+//! Carries out the command that the words name.
 
 ghost use Rattle.rustsec_commands.specs.declared.fault.Fault.TheVariants as fault;
-ghost use Rattle.std.specs.Prelude.{◌≡◌, ◌≢◌, ℕ, [], ◌∷◌, IfErr, IfOk, IfSome, List, OnOk, codes, false, map};
+ghost use Rattle.std.specs.Prelude.{◌≡◌, ◌≢◌, IfErr, IfOk, false, map};
 ghost use Rattle.std.specs.Io.KnownBytes.{Appends, Keeps};
-ghost use Rattle.rustsec_commands.specs.Answer.{Answers, AnswersLint, AnswersRanges};
-ghost use Rattle.rustsec_commands.specs.Commands.{IsOutputOf, command_view, reads_input};
-ghost use Rattle.rustsec_commands.specs.Osv.{IsOsvOutput};
-ghost use Rattle.rustsec_commands.specs.Output.{affected_output, usage};
-ghost use Rattle.rustsec_commands.specs.Reports.{IsAuditOutput, IsReportOutput};
-ghost use Rattle.rustsec_commands.specs.Words.{names_command};
+ghost use Rattle.rustsec_folders.specs.Allowed.{AllowSame, AnswersOnce, real_folders};
+ghost use Rattle.rustsec_commands.specs.Commands.{Carries, HaveOneOutput, IsOutputOf, command_view, reads_input, words_read_input};
 
 use crate::fault::Fault;
 use crate::output::{self, Output};
 use crate::words::{Command, command_of};
 use crate::{answers, lint, osv, report};
+use rustsec_folders::{Folders, RealFolders};
+use std::alloc::Global;
 use std::io::{self, Read, Write};
 use std::rt::Files;
 
-/// What a command writes.
-fn output_of<T: Files + AllocGlobal, R: Read>(
-    rt: &T,
+/// Makes what a command writes.
+fn output_of<F: Folders, R: Read>(
+    alloc: Global,
+    folders: &mut F,
     command: Command<'_>,
     input: &mut R,
 ) -> Result<Output, Fault>
-    ensures ok { IfOk result (IsOutputOf (command_view command.entry) (R.remaining input.old)) }
+    ensures ok { IfOk result (IsOutputOf (F.allowed folders.old) (command_view command.entry) (R.remaining input.old)) }
     ensures unread { reads_input (command_view command.entry) ≡ false → R.remaining input.new ≡ R.remaining input.old }
+    ensures same { AllowSame (F.allowed folders.old) (F.allowed folders.new) }
 {
     match command {
-        Command::Affected => answers::affected_of(rt.alloc(), input),
-        Command::Ranges => answers::ranges_of(rt.alloc(), input),
-        Command::Lint(path) => Ok(lint::lint_output(rt, path)?),
-        Command::Osv(path, modified) => Ok(osv::osv_output(rt, path, modified)?),
-        Command::Report(root, lock) => Ok(report::report(rt, root, lock)?),
-        Command::Audit(root, lock, options) => Ok(report::audit(rt, root, lock, options)?),
-        Command::Unknown => Ok(output::usage(rt.alloc())?),
+        Command::Affected => answers::affected_of(alloc, input),
+        Command::Ranges => answers::ranges_of(alloc, input),
+        Command::Lint(path) => Ok(lint::lint_output(alloc, folders, path)?),
+        Command::Osv(path, modified) => Ok(osv::osv_output(alloc, folders, path, modified)?),
+        Command::Report(root, lock) => Ok(report::report(alloc, folders, root, lock)?),
+        Command::Audit(root, lock, options) => {
+            Ok(report::audit(alloc, folders, root, lock, options)?)
+        }
+        Command::Unknown => Ok(output::usage(alloc)?),
     }
 }
 
 /// Makes what a command writes, writes it, and hands it back.
-fn carry_out<T: Files + AllocGlobal, R: Read, W: Write>(
-    rt: &T,
+fn carry_out<F: Folders, R: Read, W: Write>(
+    alloc: Global,
+    folders: &mut F,
     command: Command<'_>,
     input: &mut R,
     output: &mut W,
 ) -> Result<Output, Fault>
-    ensures ok { IfOk result (IsOutputOf (command_view command.entry) (R.remaining input.old)) }
+    ensures ok { IfOk result (IsOutputOf (F.allowed folders.old) (command_view command.entry) (R.remaining input.old)) }
     ensures text { IfOk result (λ o. Appends (W.contents output.old) (W.contents output.new) o.text) }
     ensures unread { reads_input (command_view command.entry) ≡ false → R.remaining input.new ≡ R.remaining input.old }
     ensures kept { IfErr result (λ e. e ≢ fault.Write → Keeps (W.contents output.old) (W.contents output.new)) }
+    ensures same { AllowSame (F.allowed folders.old) (F.allowed folders.new) }
 {
-    let made = output_of(rt, command, input)?;
+    let made = output_of(alloc, folders, command, input)?;
     made.write(output)?;
     Ok(made)
 }
@@ -67,59 +71,37 @@ fn carry_out<T: Files + AllocGlobal, R: Read, W: Write>(
 ///   the root gives of the lockfile, on one line; status 1 where vulnerabilities were found, else 0. A
 ///   refusal of the database or of the lockfile is answered as under `lint`. The input is not read;
 /// - `audit`, a root, the path of a lockfile and options: writes the same report as `write_audit` does.
-///   The options are `--deny-warnings`, and `--ignore` with the ID behind it, in any order and repeated;
+///   The options are `--deny-warnings`, and `--ignore` with the ID after it, in any order and repeated;
 ///   other words give the usage line, status 2. An ID that is refused is answered before the database is
 ///   opened. The input is not read;
 /// - any other words: writes the usage line, status 2.
 ///
-/// Behind the output goes a note to `notes`, for a person: why something is refused, what helps against what
-/// `audit` found, how the program is used, or what failed. Of its text nothing is promised. It is lost
-/// if it cannot be written or memory for it is refused.
+/// All files are read through `folders`. After the output a note goes to `notes`, for a person: why something
+/// is refused, what helps against what `audit` found, how the program is used, or what failed. The note's
+/// wording is unspecified. It is lost if it cannot be written or memory for it is refused.
 ///
 /// # Errors
 ///
 /// `Memory` and `Read`, with nothing written; `Write`, after which nothing is said of how much went
 /// out.
-pub fn run_with_notes<T: Files + AllocGlobal, R: Read, W: Write, N: Write>(
-    rt: &T,
+pub fn run_over<F: Folders, R: Read, W: Write, N: Write>(
+    folders: &mut F,
+    alloc: Global,
     words: &[&str],
     input: &mut R,
     output: &mut W,
     notes: &mut N,
 ) -> Result<u8, Fault>
-    ensures affected_status { map (λ w. w.now) words.now ≡ codes "affected" ∷ []
-        → IfOk result (λ s. IfSome (R.remaining input.old) (λ bytes. s ≡ (affected_output bytes).status)) }
-    ensures affected_text { map (λ w. w.now) words.now ≡ codes "affected" ∷ []
-        → OnOk result (IfSome (R.remaining input.old) (λ bytes.
-        Appends (W.contents output.old) (W.contents output.new) (affected_output bytes).text)) }
-    ensures ranges { map (λ w. w.now) words.now ≡ codes "ranges" ∷ []
-        → IfOk result (λ s. IfSome (R.remaining input.old) (λ bytes.
-        AnswersRanges bytes s (W.contents output.old) (W.contents output.new))) }
-    ensures lint { (path : List ℕ) → map (λ w. w.now) words.now ≡ codes "lint" ∷ path ∷ []
-        → IfOk result (λ s. AnswersLint path s (W.contents output.old) (W.contents output.new)) }
-    ensures lint_unread { (path : List ℕ) → map (λ w. w.now) words.now ≡ codes "lint" ∷ path ∷ []
-        → R.remaining input.new ≡ R.remaining input.old }
-    ensures osv { (path modified : List ℕ) → map (λ w. w.now) words.now ≡ codes "osv" ∷ path ∷ modified ∷ []
-        → IfOk result (λ s. Answers (IsOsvOutput modified) s (W.contents output.old) (W.contents output.new)) }
-    ensures osv_unread { (path modified : List ℕ) → map (λ w. w.now) words.now ≡ codes "osv" ∷ path ∷ modified ∷ []
-        → R.remaining input.new ≡ R.remaining input.old }
-    ensures report { (root lock : List ℕ) → map (λ w. w.now) words.now ≡ codes "report" ∷ root ∷ lock ∷ []
-        → IfOk result (λ s. Answers (IsReportOutput root) s (W.contents output.old) (W.contents output.new)) }
-    ensures report_unread { (root lock : List ℕ) → map (λ w. w.now) words.now ≡ codes "report" ∷ root ∷ lock ∷ []
-        → R.remaining input.new ≡ R.remaining input.old }
-    ensures audit { (root lock : List ℕ) (options : List (List ℕ)) → map (λ w. w.now) words.now ≡ codes "audit" ∷ root ∷ lock ∷ options
-        → IfOk result (λ s. Answers (IsAuditOutput root options) s (W.contents output.old) (W.contents output.new)) }
-    ensures audit_unread { (root lock : List ℕ) (options : List (List ℕ)) → map (λ w. w.now) words.now ≡ codes "audit" ∷ root ∷ lock ∷ options
-        → R.remaining input.new ≡ R.remaining input.old }
-    ensures usage_unread { names_command (map (λ w. w.now) words.now) ≡ false
-        → R.remaining input.new ≡ R.remaining input.old }
-    ensures usage_status { names_command (map (λ w. w.now) words.now) ≡ false
-        → IfOk result (λ s. s ≡ usage.status) }
-    ensures usage_text { names_command (map (λ w. w.now) words.now) ≡ false
-        → OnOk result (Appends (W.contents output.old) (W.contents output.new) usage.text) }
+    ensures carries { IfOk result (λ s. Carries (F.allowed folders.old) (map (λ w. w.now) words.now) (R.remaining input.old) s
+        (W.contents output.old) (W.contents output.new)) }
+    ensures unread { words_read_input (map (λ w. w.now) words.now) ≡ false → R.remaining input.new ≡ R.remaining input.old }
     ensures kept { IfErr result (λ e. e ≢ fault.Write → Keeps (W.contents output.old) (W.contents output.new)) }
+
+    // Where each path has one answer, there is no other output and no other status.
+    ensures once { AnswersOnce (F.allowed folders.old) → HaveOneOutput (F.allowed folders.old) (map (λ w. w.now) words.now) (R.remaining input.old) }
+    ensures same { AllowSame (F.allowed folders.old) (F.allowed folders.new) }
 {
-    match carry_out(rt, command_of(words), input, output) {
+    match carry_out(alloc, folders, command_of(words), input, output) {
         Ok(made) => {
             made.write_note(notes);
             Ok(made.status())
@@ -131,47 +113,41 @@ pub fn run_with_notes<T: Files + AllocGlobal, R: Read, W: Write, N: Write>(
     }
 }
 
-/// As `run_with_notes`, without the note.
+/// Carries out the command that the words name, as `run_over` over the folders of the disk.
 ///
 /// # Errors
 ///
-/// The same.
+/// As `run_over`.
+pub fn run_with_notes<T: Files + AllocGlobal, R: Read, W: Write, N: Write>(
+    rt: &T,
+    words: &[&str],
+    input: &mut R,
+    output: &mut W,
+    notes: &mut N,
+) -> Result<u8, Fault>
+    ensures carries { IfOk result (λ s. Carries real_folders (map (λ w. w.now) words.now) (R.remaining input.old) s
+        (W.contents output.old) (W.contents output.new)) }
+    ensures unread { words_read_input (map (λ w. w.now) words.now) ≡ false → R.remaining input.new ≡ R.remaining input.old }
+    ensures kept { IfErr result (λ e. e ≢ fault.Write → Keeps (W.contents output.old) (W.contents output.new)) }
+{
+    let mut folders = RealFolders::new(rt);
+    run_over(&mut folders, rt.alloc(), words, input, output, notes)
+}
+
+/// Carries out the command that the words name, as `run_with_notes`, without the note.
+///
+/// # Errors
+///
+/// As `run_over`.
 pub fn run<T: Files + AllocGlobal, R: Read, W: Write>(
     rt: &T,
     words: &[&str],
     input: &mut R,
     output: &mut W,
 ) -> Result<u8, Fault>
-    ensures affected_status { map (λ w. w.now) words.now ≡ codes "affected" ∷ []
-        → IfOk result (λ s. IfSome (R.remaining input.old) (λ bytes. s ≡ (affected_output bytes).status)) }
-    ensures affected_text { map (λ w. w.now) words.now ≡ codes "affected" ∷ []
-        → OnOk result (IfSome (R.remaining input.old) (λ bytes.
-        Appends (W.contents output.old) (W.contents output.new) (affected_output bytes).text)) }
-    ensures ranges { map (λ w. w.now) words.now ≡ codes "ranges" ∷ []
-        → IfOk result (λ s. IfSome (R.remaining input.old) (λ bytes.
-        AnswersRanges bytes s (W.contents output.old) (W.contents output.new))) }
-    ensures lint { (path : List ℕ) → map (λ w. w.now) words.now ≡ codes "lint" ∷ path ∷ []
-        → IfOk result (λ s. AnswersLint path s (W.contents output.old) (W.contents output.new)) }
-    ensures lint_unread { (path : List ℕ) → map (λ w. w.now) words.now ≡ codes "lint" ∷ path ∷ []
-        → R.remaining input.new ≡ R.remaining input.old }
-    ensures osv { (path modified : List ℕ) → map (λ w. w.now) words.now ≡ codes "osv" ∷ path ∷ modified ∷ []
-        → IfOk result (λ s. Answers (IsOsvOutput modified) s (W.contents output.old) (W.contents output.new)) }
-    ensures osv_unread { (path modified : List ℕ) → map (λ w. w.now) words.now ≡ codes "osv" ∷ path ∷ modified ∷ []
-        → R.remaining input.new ≡ R.remaining input.old }
-    ensures report { (root lock : List ℕ) → map (λ w. w.now) words.now ≡ codes "report" ∷ root ∷ lock ∷ []
-        → IfOk result (λ s. Answers (IsReportOutput root) s (W.contents output.old) (W.contents output.new)) }
-    ensures report_unread { (root lock : List ℕ) → map (λ w. w.now) words.now ≡ codes "report" ∷ root ∷ lock ∷ []
-        → R.remaining input.new ≡ R.remaining input.old }
-    ensures audit { (root lock : List ℕ) (options : List (List ℕ)) → map (λ w. w.now) words.now ≡ codes "audit" ∷ root ∷ lock ∷ options
-        → IfOk result (λ s. Answers (IsAuditOutput root options) s (W.contents output.old) (W.contents output.new)) }
-    ensures audit_unread { (root lock : List ℕ) (options : List (List ℕ)) → map (λ w. w.now) words.now ≡ codes "audit" ∷ root ∷ lock ∷ options
-        → R.remaining input.new ≡ R.remaining input.old }
-    ensures usage_unread { names_command (map (λ w. w.now) words.now) ≡ false
-        → R.remaining input.new ≡ R.remaining input.old }
-    ensures usage_status { names_command (map (λ w. w.now) words.now) ≡ false
-        → IfOk result (λ s. s ≡ usage.status) }
-    ensures usage_text { names_command (map (λ w. w.now) words.now) ≡ false
-        → OnOk result (Appends (W.contents output.old) (W.contents output.new) usage.text) }
+    ensures carries { IfOk result (λ s. Carries real_folders (map (λ w. w.now) words.now) (R.remaining input.old) s
+        (W.contents output.old) (W.contents output.new)) }
+    ensures unread { words_read_input (map (λ w. w.now) words.now) ≡ false → R.remaining input.new ≡ R.remaining input.old }
     ensures kept { IfErr result (λ e. e ≢ fault.Write → Keeps (W.contents output.old) (W.contents output.new)) }
 {
     run_with_notes(rt, words, input, output, &mut io::sink())

@@ -22,5 +22,5 @@ mod words;
 
 pub use crate::answers::{answer, answer_ranges};
 pub use crate::audit::write_audit;
-pub use crate::commands::{run, run_with_notes};
+pub use crate::commands::{run, run_over, run_with_notes};
 pub use crate::fault::Fault;

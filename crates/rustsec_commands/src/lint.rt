@@ -1,14 +1,15 @@
 //! The command `lint`: the errors that a linter finds in an advisory's file.
 
 ghost use Rattle.std.specs.Prelude.{◌≡◌, IfOk, flat_map, string_bytes};
+ghost use Rattle.rustsec_folders.specs.Allowed.{AllowSame};
 ghost use Rattle.rustsec_commands.specs.Lint.{IsLintOutput, error_line, errors_output};
 
 use crate::output::Output;
 use crate::refusal::refusal_of_file;
 use rustsec_advisory::linter::{self, Linter};
+use rustsec_folders::Folders;
 use std::alloc::{AllocError, Global};
 use std::fmt::Write as _;
-use std::rt::Files;
 
 /// A line for each lint error.
 fn error_lines(alloc: Global, errors: &[linter::Error]) -> Result<String, AllocError>
@@ -31,12 +32,17 @@ fn errors_output(alloc: Global, linter: &Linter) -> Result<Output, AllocError>
     Ok(Output::new(text, status))
 }
 
-/// What `lint` writes for the file at a path.
-pub fn lint_output<T: Files + AllocGlobal>(rt: &T, path: &str) -> Result<Output, AllocError>
-    ensures { IfOk result (IsLintOutput path.now) }
+/// Makes what `lint` writes for the file at a path.
+pub fn lint_output<F: Folders>(
+    alloc: Global,
+    folders: &mut F,
+    path: &str,
+) -> Result<Output, AllocError>
+    ensures ok { IfOk result (IsLintOutput (F.allowed folders.old) path.now) }
+    ensures same { AllowSame (F.allowed folders.old) (F.allowed folders.new) }
 {
-    match Linter::lint_file(rt, rt.alloc(), path) {
-        Ok(linter) => errors_output(rt.alloc(), &linter),
-        Err(error) => refusal_of_file(rt.alloc(), path, &error),
+    match Linter::lint_file_with(alloc, folders, path) {
+        Ok(linter) => errors_output(alloc, &linter),
+        Err(error) => refusal_of_file(alloc, path, &error),
     }
 }

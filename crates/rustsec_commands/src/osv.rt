@@ -1,6 +1,7 @@
 //! The command `osv`: the document of an advisory, as one line of JSON.
 
 ghost use Rattle.std.specs.Prelude.{◌≡◌, IfErr, IfOk, string_bytes};
+ghost use Rattle.rustsec_folders.specs.Allowed.{AllowSame};
 ghost use Rattle.rustsec_osv.specs.TreeDocument.{document_tree};
 ghost use Rattle.rustsec_commands.specs.Osv.{IsDocumentOf, IsOsvOutput, IsOsvRefusal, document_output};
 ghost use Rattle.rustsec_commands.specs.Output.{tree_line};
@@ -8,9 +9,9 @@ ghost use Rattle.rustsec_commands.specs.Output.{tree_line};
 use crate::output::{Output, tree_line};
 use crate::refusal::refusal;
 use rustsec_advisory::Advisory;
+use rustsec_folders::Folders;
 use rustsec_osv::OsvAdvisory;
 use std::alloc::{AllocError, Global};
-use std::rt::Files;
 
 /// The text of a document's tree on one line.
 fn document_line(alloc: Global, document: &OsvAdvisory) -> Result<String, AllocError>
@@ -30,29 +31,33 @@ fn document_output(alloc: Global, document: &OsvAdvisory) -> Result<Output, Allo
     Ok(Output::new(text, 0))
 }
 
-/// The document of the advisory in the file at a path, which was last changed at a time.
-fn document_of<T: Files + AllocGlobal>(
-    rt: &T,
+/// Exports the advisory in the file at a path, which was last changed at a time.
+fn document_of<F: Folders>(
+    alloc: Global,
+    folders: &mut F,
     path: &str,
     modified: &str,
 ) -> rustsec_versions::Result<OsvAdvisory>
-    ensures ok { IfOk result (IsDocumentOf modified.now) }
-    ensures err { IfErr result IsOsvRefusal }
+    ensures ok { IfOk result (IsDocumentOf (F.allowed folders.old) path.now modified.now) }
+    ensures err { IfErr result (IsOsvRefusal (F.allowed folders.old) path.now) }
+    ensures same { AllowSame (F.allowed folders.old) (F.allowed folders.new) }
 {
-    let advisory = Advisory::load_file(rt, rt.alloc(), path)?;
-    OsvAdvisory::from_rustsec(rt.alloc(), advisory, modified)
+    let advisory = Advisory::load_file_with(alloc, folders, path)?;
+    OsvAdvisory::from_rustsec(alloc, advisory, modified)
 }
 
-/// What `osv` writes for the file at a path, which was last changed at a time.
-pub fn osv_output<T: Files + AllocGlobal>(
-    rt: &T,
+/// Makes what `osv` writes for the file at a path, which was last changed at a time.
+pub fn osv_output<F: Folders>(
+    alloc: Global,
+    folders: &mut F,
     path: &str,
     modified: &str,
 ) -> Result<Output, AllocError>
-    ensures { IfOk result (IsOsvOutput modified.now) }
+    ensures ok { IfOk result (IsOsvOutput (F.allowed folders.old) path.now modified.now) }
+    ensures same { AllowSame (F.allowed folders.old) (F.allowed folders.new) }
 {
-    match document_of(rt, path, modified) {
-        Ok(document) => document_output(rt.alloc(), &document),
-        Err(error) => refusal(rt.alloc(), &error),
+    match document_of(alloc, folders, path, modified) {
+        Ok(document) => document_output(alloc, &document),
+        Err(error) => refusal(alloc, &error),
     }
 }

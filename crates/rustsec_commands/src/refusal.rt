@@ -1,7 +1,7 @@
 //! The answers to what is refused, each with a note that says why.
 
 ghost use Rattle.std.specs.Prelude.{◌≡◌, ◌≢◌, IfOk};
-ghost use Rattle.rustsec_commands.specs.Lint.{refused_as};
+ghost use Rattle.rustsec_commands.specs.Output.{refused_as};
 ghost use Rattle.rustsec_versions.specs.declared.error.ErrorKind.TheVariants as failure;
 
 use crate::output::Output;

@@ -3,10 +3,11 @@
 ghost use Rattle.std.specs.Prelude.{◌≡◌, ◌⊎◌, [], IfErr, IfOk, None, Some, map, string_bytes};
 ghost use Rattle.rustsec_values.specs.Reading.{read_all};
 ghost use Rattle.rustsec_versions.specs.Failure.{IsRefusal};
+ghost use Rattle.rustsec_folders.specs.Allowed.{AllowSame};
 ghost use Rattle.rustsec_texts.specs.Ids.{id_of};
 ghost use Rattle.rustsec_report.specs.Trees.{report_tree};
 ghost use Rattle.rustsec_commands.specs.Audit.{audit_output};
-ghost use Rattle.rustsec_commands.specs.Reports.{IsAuditOutput, IsOutputOver, IsReportOf, IsReportOutput, IsReportRefusal, report_output, settings_with};
+ghost use Rattle.rustsec_commands.specs.Reports.{IsAuditOutput, IsOutputOver, IsReportOfPaths, IsReportOutput, IsReportRefusal, report_output, settings_with};
 ghost use Rattle.rustsec_commands.specs.Output.{tree_line};
 
 use crate::advice::advice;
@@ -15,13 +16,13 @@ use crate::options;
 use crate::output::{self, Output, tree_line};
 use crate::refusal::refusal;
 use rustsec_database::Database;
+use rustsec_folders::Folders;
 use rustsec_lock::Lockfile;
 use rustsec_report::{Report, Settings};
 use rustsec_texts::{Id, Informational};
 use rustsec_values::Items;
 use rustsec_versions::ErrorKind;
 use std::alloc::{AllocError, Global};
-use std::rt::Files;
 
 /// The text of a report's tree on one line.
 fn report_line(alloc: Global, report: &Report) -> Result<String, AllocError>
@@ -57,33 +58,41 @@ fn settings_with(alloc: Global, ignored: Items<Id>) -> Result<Settings, AllocErr
     Ok(settings)
 }
 
-/// A report of the lockfile at a path, by the database under a root.
-fn report_of<T: Files + AllocGlobal>(
-    rt: &T,
+/// Generates the report of the lockfile at a path, by the database under a root.
+fn report_of<F: Folders>(
+    alloc: Global,
+    folders: &mut F,
     root: &str,
     lock: &str,
     settings: &Settings,
 ) -> rustsec_versions::Result<Report>
-    ensures ok { IfOk result (IsReportOf root.now settings.now) }
-    ensures err { IfErr result (IsReportRefusal root.now) }
+    ensures ok { IfOk result (IsReportOfPaths (F.allowed folders.old) root.now lock.now settings.now) }
+    ensures err { IfErr result (IsReportRefusal (F.allowed folders.old) root.now lock.now) }
+    ensures same { AllowSame (F.allowed folders.old) (F.allowed folders.new) }
 {
-    let database = Database::open(rt, rt.alloc(), root)?;
-    let lockfile = Lockfile::load(rt, rt.alloc(), lock)?;
-    Report::generate(rt.alloc(), &database, &lockfile, settings)
+    let database = Database::open_with(alloc, folders, root)?;
+    let lockfile = Lockfile::load_with(alloc, folders, lock)?;
+    Report::generate(alloc, &database, &lockfile, settings)
 }
 
-/// What `report` writes for a root and the path of a lockfile.
-pub fn report<T: Files + AllocGlobal>(rt: &T, root: &str, lock: &str) -> Result<Output, AllocError>
-    ensures { IfOk result (IsReportOutput root.now) }
+/// Makes what `report` writes for a root and the path of a lockfile.
+pub fn report<F: Folders>(
+    alloc: Global,
+    folders: &mut F,
+    root: &str,
+    lock: &str,
+) -> Result<Output, AllocError>
+    ensures ok { IfOk result (IsReportOutput (F.allowed folders.old) root.now lock.now) }
+    ensures same { AllowSame (F.allowed folders.old) (F.allowed folders.new) }
 {
-    let settings = settings_with(rt.alloc(), Items::new(rt.alloc()))?;
-    match report_of(rt, root, lock, &settings) {
-        Ok(report) => report_output(rt.alloc(), &report),
-        Err(error) => refusal(rt.alloc(), &error),
+    let settings = settings_with(alloc, Items::new(alloc))?;
+    match report_of(alloc, folders, root, lock, &settings) {
+        Ok(report) => report_output(alloc, &report),
+        Err(error) => refusal(alloc, &error),
     }
 }
 
-/// What `audit` writes of a report, with a note of what helps.
+/// Makes what `audit` writes of a report, with a note of what helps.
 fn advised_output(alloc: Global, deny_warnings: bool, report: &Report) -> Result<Output, AllocError>
     ensures { IfOk result (λ o. o ≡ audit_output deny_warnings report.now) }
 {
@@ -91,37 +100,57 @@ fn advised_output(alloc: Global, deny_warnings: bool, report: &Report) -> Result
     Ok(output.with_note(advice(alloc, report).ok()))
 }
 
-/// What `audit` writes, with these IDs ignored.
-fn audit_with<T: Files + AllocGlobal>(
-    rt: &T,
-    root: &str,
-    lock: &str,
+/// What `audit` asks for: the IDs that are ignored, and whether a warning is as bad as a vulnerability.
+#[derive(Drop)]
+struct Wanted {
     ignored: Items<Id>,
     deny_warnings: bool,
+}
+
+/// Makes what `audit` writes for a root, the path of a lockfile and what is wanted of their report.
+fn audit_with<F: Folders>(
+    alloc: Global,
+    folders: &mut F,
+    root: &str,
+    lock: &str,
+    wanted: Wanted,
 ) -> Result<Output, AllocError>
-    ensures { IfOk result (IsOutputOver (audit_output deny_warnings) root.now (settings_with ignored)) }
+    ensures ok { IfOk result (IsOutputOver (audit_output wanted.deny_warnings) (F.allowed folders.old) root.now lock.now (settings_with wanted.ignored)) }
+    ensures same { AllowSame (F.allowed folders.old) (F.allowed folders.new) }
 {
-    let settings = settings_with(rt.alloc(), ignored)?;
-    match report_of(rt, root, lock, &settings) {
-        Ok(report) => advised_output(rt.alloc(), deny_warnings, &report),
-        Err(error) => refusal(rt.alloc(), &error),
+    let Wanted {
+        ignored,
+        deny_warnings,
+    } = wanted;
+    let settings = settings_with(alloc, ignored)?;
+    match report_of(alloc, folders, root, lock, &settings) {
+        Ok(report) => advised_output(alloc, deny_warnings, &report),
+        Err(error) => refusal(alloc, &error),
     }
 }
 
-/// What `audit` writes for a root, the path of a lockfile, and the words behind them.
-pub fn audit<T: Files + AllocGlobal>(
-    rt: &T,
+/// Makes what `audit` writes for a root, the path of a lockfile, and the words after them.
+pub fn audit<F: Folders>(
+    alloc: Global,
+    folders: &mut F,
     root: &str,
     lock: &str,
     words: &[&str],
 ) -> Result<Output, AllocError>
-    ensures { IfOk result (IsAuditOutput root.now (map (λ w. w.now) words.now)) }
+    ensures ok { IfOk result (IsAuditOutput (F.allowed folders.old) root.now lock.now (map (λ w. w.now) words.now)) }
+    ensures same { AllowSame (F.allowed folders.old) (F.allowed folders.new) }
 {
-    let Some(options) = options::options_of(rt.alloc(), words)? else {
-        return output::usage(rt.alloc());
+    let Some(options) = options::options_of(alloc, words)? else {
+        return output::usage(alloc);
     };
-    match options.ignored_ids(rt.alloc()) {
-        Ok(ignored) => audit_with(rt, root, lock, ignored, options.denies_warnings()),
-        Err(error) => refusal(rt.alloc(), &error),
+    match options.ignored_ids(alloc) {
+        Ok(ignored) => {
+            let wanted = Wanted {
+                ignored,
+                deny_warnings: options.denies_warnings(),
+            };
+            audit_with(alloc, folders, root, lock, wanted)
+        }
+        Err(error) => refusal(alloc, &error),
     }
 }

@@ -1,5 +1,5 @@
 pub mod Again
 pub mod ByKind
-pub mod Chain
+pub mod EndToEnd
 pub mod Held
 pub mod Members

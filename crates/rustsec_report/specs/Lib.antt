@@ -1,4 +1,4 @@
-pub mod Chain
+pub mod EndToEnd
 pub mod Filter
 pub mod Held
 pub mod Kinds

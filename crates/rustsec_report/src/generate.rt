@@ -6,7 +6,7 @@ ghost use Rattle.rustsec_folders.specs.declared.source_file.SourceFile.{SourceFi
 ghost use Rattle.rustsec_lock.specs.Lockfile.{packages_of};
 ghost use Rattle.rustsec_database.specs.Loaded.{AreLoaded};
 ghost use Rattle.rustsec_versions.specs.Failure.{IsMemory};
-ghost use Rattle.rustsec_report.specs.Chain.{IsReportOf};
+ghost use Rattle.rustsec_report.specs.EndToEnd.{IsReportOf};
 ghost use Rattle.rustsec_report.specs.Held.{ListsWhatIsInForce};
 ghost use Rattle.rustsec_report.specs.Report.{info_of, report_of, vulnerabilities, warnings};
 

@@ -1,5 +1,5 @@
 use Rattle.std.proofs.Common.{rules}
-use Rattle.rustsec_report.proofs.Chain.{report-chain}
+use Rattle.rustsec_report.proofs.EndToEnd.{report-chain}
 use Rattle.rustsec_report.proofs.Held.{held-of}
 use Rattle.rustsec_report.proofs.report.Report.generate.Goals as goal
 

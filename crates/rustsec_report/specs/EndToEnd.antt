@@ -1,13 +1,16 @@
 -- From the files of a database and the table of a lockfile to a report, by definitions alone.
-use Rattle.std.specs.Prelude.{◌≡◌, ◌↔◌, Contains, List, Some, false, true}
+use Rattle.std.specs.Prelude.{◌≡◌, ◌⊎◌, ◌↔◌, ℕ, Contains, List, None, Option, Some, false, true}
 use Rattle.toml.specs.Data.{Members}
+use Rattle.toml.specs.Parse.{parse_document}
 use Rattle.rustsec_folders.specs.declared.source_file.SourceFile.{SourceFile}
 use Rattle.rustsec_lock.specs.Lockfile.{packages_of}
 use Rattle.rustsec_lock.specs.Package.{PackageValue}
 use Rattle.rustsec_texts.specs.declared.warning_kind.WarningKind.{WarningKind}
+use Rattle.rustsec_versions.specs.Failure.{Failure, IsMemory}
+use Rattle.rustsec_versions.specs.declared.error.ErrorKind.TheVariants as kind
 use Rattle.rustsec_advisory.specs.declared.advisory.Advisory.{Advisory}
 use Rattle.rustsec_database.specs.Filing.{IsFiled}
-use Rattle.rustsec_database.specs.Loaded.{AreLoaded, is_stored}
+use Rattle.rustsec_database.specs.Loaded.{AreLoaded, IsFirstFault, is_stored}
 use Rattle.rustsec_query.specs.Pairs.{finds, vulnerability_of}
 use Rattle.rustsec_query.specs.Query.{Asked}
 use Rattle.rustsec_query.specs.declared.vulnerability.Vulnerability.{Vulnerability}
@@ -51,3 +54,15 @@ pub record IsReportOf (files : List SourceFile) (table : Members) (s : Settings)
   pub in_order : r ≡ report_of advisories packages s
   pub vulnerabilities : (v : Vulnerability) → Contains r.vulnerabilities.list v ↔ IsSelected files packages s (query_of s) v
   pub warnings : (k : WarningKind) (w : Warning) → Holds r.warnings k w ↔ IsWarned files packages s k w
+
+-- the report of files that load and of a lockfile's text, which is a document whose table holds packages
+abbrev pub IsReportOfText : List SourceFile → List ℕ → Settings → Report → Type 0
+IsReportOfText files text s r = (table : Members) × ((parse_document text ≡ Some table) × IsReportOf files table s r)
+
+-- files that load, beside a lockfile that holds no packages
+abbrev pub HaveNoPackages : List SourceFile → Option (List PackageValue) → Type 0
+HaveNoPackages files packages = ((advisories : List Advisory) × AreLoaded files advisories) × (packages ≡ None)
+
+-- why files and a lockfile have no report: the first file at fault; the lockfile, where no file is; or out of memory
+abbrev pub IsReportRefusal : List SourceFile → Option (List PackageValue) → Failure → Type 0
+IsReportRefusal files packages e = IsFirstFault files e ⊎ (((e.kind ≡ kind.Parse) × HaveNoPackages files packages) ⊎ IsMemory e)

@@ -8,14 +8,14 @@ use Rattle.rustsec_lock.specs.Package.{PackageValue}
 use Rattle.rustsec_texts.specs.WarningKinds.{warning_kinds}
 use Rattle.rustsec_texts.specs.declared.warning_kind.WarningKind.{WarningKind}
 use Rattle.rustsec_texts.specs.declared.warning_kind.WarningKind.TheVariants as kind
-use Rattle.rustsec_advisory.proofs.Unique.{advisory_unique}
 use Rattle.rustsec_advisory.specs.declared.advisory.Advisory.{Advisory}
-use Rattle.rustsec_database.specs.Filing.{IsFiled, in_collection, path_verdict}
+use Rattle.rustsec_database.proofs.Once.{filed-unique}
+use Rattle.rustsec_database.specs.Filing.{IsFiled}
 use Rattle.rustsec_database.specs.Loaded.{AreLoaded, is_stored}
 use Rattle.rustsec_query.specs.Pairs.{Pair, as_vulnerability, finds, pairs, pairs_of, vulnerability_of}
 use Rattle.rustsec_query.specs.Query.{Asked}
 use Rattle.rustsec_query.specs.declared.vulnerability.Vulnerability.{Vulnerability}
-use Rattle.rustsec_report.specs.Chain.{Holds, IsHeld, IsReportOf, IsSelected, IsWarned}
+use Rattle.rustsec_report.specs.EndToEnd.{Holds, IsHeld, IsReportOf, IsSelected, IsWarned}
 use Rattle.rustsec_report.specs.Report.{as_warning, found, gives, has_some, informational_query, is_among, query_of, report_of, vulnerabilities, warnings, warnings_by_kind, warnings_of_kind, without}
 use Rattle.rustsec_report.specs.declared.report.Report.{Report}
 use Rattle.rustsec_report.specs.declared.settings.Settings.{Settings}
@@ -23,15 +23,6 @@ use Rattle.rustsec_report.specs.declared.warning.Warning.{Warning}
 use Rattle.rustsec_report.proofs.Members.{Among, among, contained, joined, kept, left-of, made, maker, part, passed, right-of}
 
 -- ---- advisories and files
-
--- a file is filed as one advisory
-filed-unique : (path text : List ℕ) (a b : Advisory) → IsFiled path text a → IsFiled path text b → a ≡ b
-filed-unique path text a b h k =
-    let same = advisory_unique text h.written k.written h.is_advisory k.is_advisory in
-    let both : Ok h.collection ≡ Ok k.collection = sym h.verdict ∙ (ap (path_verdict path) same ∙ k.verdict) in
-    let there : h.collection ≡ k.collection = cc both in
-    let step : in_collection h.collection h.written ≡ in_collection k.collection k.written = λ i. in_collection (there i) (same i) in
-    h.is ∙ (step ∙ sym k.is)
 
 module _ (files : List SourceFile) (advisories : List Advisory) (loaded : AreLoaded files advisories) where
   pub held : (a : Advisory) → Among advisories a → IsHeld files a
