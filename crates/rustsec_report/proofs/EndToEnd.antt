@@ -1,9 +1,11 @@
 -- The report of advisories and packages is that of the files and of the table that they come from.
-use Rattle.std.proofs.Common.{◌≡◌, ◌∙◌, ◌↔◌, ℕ, Bool, true, false, not, Contains, List, [], ◌∷◌, map, Some, Ok, inl, inr, refl, sym, ap, subst}
+use Rattle.std.proofs.Common.{◌≡◌, ◌∙◌, ◌↔◌, ℕ, Bool, true, false, not, Contains, List, [], ◌∷◌, map, None, Option, Some, inl, inr, refl, sym, ap, subst}
 use Rattle.std.specs.List.{filter}
 use Rattle.toml.specs.Data.{Members}
+use Rattle.toml.specs.Parse.{parse_document}
+use Rattle.rustsec_values.specs.Reading.{◌>>=◌}
 use Rattle.rustsec_folders.specs.declared.source_file.SourceFile.{SourceFile}
-use Rattle.rustsec_lock.specs.Lockfile.{packages_of}
+use Rattle.rustsec_lock.specs.Lockfile.{lockfile_of, packages_of}
 use Rattle.rustsec_lock.specs.Package.{PackageValue}
 use Rattle.rustsec_texts.specs.WarningKinds.{warning_kinds}
 use Rattle.rustsec_texts.specs.declared.warning_kind.WarningKind.{WarningKind}
@@ -15,7 +17,7 @@ use Rattle.rustsec_database.specs.Loaded.{AreLoaded, is_stored}
 use Rattle.rustsec_query.specs.Pairs.{Pair, as_vulnerability, finds, pairs, pairs_of, vulnerability_of}
 use Rattle.rustsec_query.specs.Query.{Asked}
 use Rattle.rustsec_query.specs.declared.vulnerability.Vulnerability.{Vulnerability}
-use Rattle.rustsec_report.specs.EndToEnd.{Holds, IsHeld, IsReportOf, IsSelected, IsWarned}
+use Rattle.rustsec_report.specs.EndToEnd.{Holds, IsHeld, IsReportOf, IsReportOfText, IsSelected, IsWarned}
 use Rattle.rustsec_report.specs.Report.{as_warning, found, gives, has_some, informational_query, is_among, query_of, report_of, vulnerabilities, warnings, warnings_by_kind, warnings_of_kind, without}
 use Rattle.rustsec_report.specs.declared.report.Report.{Report}
 use Rattle.rustsec_report.specs.declared.settings.Settings.{Settings}
@@ -166,3 +168,19 @@ pub report-chain : (r : Report) (advisories : List Advisory) (packages : List Pa
     → (files : List SourceFile) (table : Members) → AreLoaded files advisories → packages_of table ≡ Some packages → IsReportOf files table s r
 report-chain r advisories packages s is files table loaded locked =
     subst (IsReportOf files table s) (sym is) (is-report files table advisories packages s loaded locked)
+
+-- ---- of a lockfile's text
+
+-- the document whose table gives a lockfile's packages
+table-of : (document : Option Members) (packages : List PackageValue) → document >>= packages_of ≡ Some packages
+    → (table : Members) × ((document ≡ Some table) × (packages_of table ≡ Some packages))
+table-of None packages h = cc h
+table-of (Some table) packages h = (table, (refl, h))
+
+pub report-of-text : (files : List SourceFile) (text : List ℕ) (s : Settings) (advisories : List Advisory) (packages : List PackageValue) (r : Report)
+    → AreLoaded files advisories → lockfile_of text ≡ Some packages
+    → ((fs : List SourceFile) (table : Members) → AreLoaded fs advisories → packages_of table ≡ Some packages → IsReportOf fs table s r)
+    → IsReportOfText files text s r
+report-of-text files text s advisories packages r loaded locked chain =
+    let (table, (document, holds)) = table-of (parse_document text) packages locked in
+    (table, (document, chain files table loaded holds))
