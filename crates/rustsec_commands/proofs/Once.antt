@@ -81,7 +81,7 @@ document-once a modified d e h k =
     let range = range-once a.versions h.range k.range h.is_range k.is_range in
     let references = one-value _ h.references k.references h.are_references k.are_references in
     let step : document_with a.metadata a.affected modified h.references h.range ≡ document_with a.metadata a.affected modified k.references k.range =
-        λ i. document_with a.metadata a.affected modified (references i) (range i) in
+    λ i. document_with a.metadata a.affected modified (references i) (range i) in
     h.is ∙ (step ∙ sym k.is)
 
 document-or-refused : {P : Type 0} (a : Advisory) (modified : List ℕ) (d : Document) (e : Failure) → e.kind ≢ kind.OutOfMemory
@@ -192,9 +192,9 @@ module _ (allowed : Allowed) (once : AnswersOnce allowed) where
 
   holds-packages : {P : Type 0} (document : Option Members) (table : Members) (packages : List PackageValue) → document ≡ Some table
       → packages_of table ≡ Some packages → document >>= packages_of ≡ None → P
-  holds-packages None table packages is h none = absurd (cc is)
-  holds-packages (Some other) table packages is h none =
-      none-or-some (packages_of table) packages (subst (λ (t : Members). packages_of t ≡ None) (some-same other table is) none) h
+  holds-packages None table packages is h missing = absurd (cc is)
+  holds-packages (Some other) table packages is h missing =
+      none-or-some (packages_of table) packages (subst (λ (t : Members). packages_of t ≡ None) (some-same other table is) missing) h
 
   lockfile-or-refused : {P : Type 0} (files : List SourceFile) (lock text : List ℕ) (s : Settings) (r : Report) (e : Failure) → e.kind ≢ kind.OutOfMemory
       → allowed.reads lock (Some text) → IsReportOfText files text s r → IsLockfileRefusal allowed lock e → P
@@ -248,15 +248,15 @@ module _ (allowed : Allowed) (once : AnswersOnce allowed) where
 
   audit-once : (root lock : List ℕ) (words : List (List ℕ)) (o q : Output) → IsAuditOutput allowed root lock words o → IsAuditOutput allowed root lock words q
       → o ≡ q
-  audit-once root lock words o q (misused none is) (misused again also) = is ∙ sym also
-  audit-once root lock words o q (misused none is) (misread p some h also) = none-or-some (options_of words) p none some
-  audit-once root lock words o q (misused none is) (audited p ids some h k) = none-or-some (options_of words) p none some
-  audit-once root lock words o q (misread p some h is) (misused none also) = none-or-some (options_of words) p none some
+  audit-once root lock words o q (misused missing is) (misused again also) = is ∙ sym also
+  audit-once root lock words o q (misused missing is) (misread p some h also) = none-or-some (options_of words) p missing some
+  audit-once root lock words o q (misused missing is) (audited p ids some h k) = none-or-some (options_of words) p missing some
+  audit-once root lock words o q (misread p some h is) (misused missing also) = none-or-some (options_of words) p missing some
   audit-once root lock words o q (misread p some h is) (misread r again k also) = is ∙ sym also
   audit-once root lock words o q (misread p some h is) (audited r ids again k over) =
       let same = one-value (options_of words) p r some again in
       none-or-some (read_all id_of r.ignored) ids (subst (λ (x : Options). read_all id_of x.ignored ≡ None) same h) k
-  audit-once root lock words o q (audited p ids some h over) (misused none also) = none-or-some (options_of words) p none some
+  audit-once root lock words o q (audited p ids some h over) (misused missing also) = none-or-some (options_of words) p missing some
   audit-once root lock words o q (audited p ids some h over) (misread r again k also) =
       let same = one-value (options_of words) r p again some in
       none-or-some (read_all id_of p.ignored) ids (subst (λ (x : Options). read_all id_of x.ignored ≡ None) same k) h
@@ -265,14 +265,14 @@ module _ (allowed : Allowed) (once : AnswersOnce allowed) where
 
   -- ---- all commands
 
-  known : {P : Type 0} → (true ≡ true → None {A = List ℕ} ≢ None) → P
-  known h = absurd (h refl refl)
+  unknown : {P : Type 0} (input : Option (List ℕ)) → input ≡ None → (true ≡ true → input ≢ None) → P
+  unknown input is h = absurd (h refl is)
 
   output-once : (c : Command) (input : Option (List ℕ)) → (reads_input c ≡ true → input ≢ None) → (o p : Output) → IsOutputOf allowed c input o
       → IsOutputOf allowed c input p → o ≡ p
-  output-once affected None is o p h k = known is
+  output-once affected None is o p h k = unknown None refl is
   output-once affected (Some bytes) is o p h k = h ∙ sym k
-  output-once ranges None is o p h k = known is
+  output-once ranges None is o p h k = unknown None refl is
   output-once ranges (Some bytes) is o p h k = k.1 o h.0
   output-once (lint path) input is o p h k = lint-once path o p h k
   output-once (osv path modified) input is o p h k = osv-once path modified o p h k

@@ -1,8 +1,7 @@
 -- The output of `audit` for an ID that is refused; the report of what was opened and of the lockfile that was read then.
-use Rattle.std.proofs.Common.{◌≡◌, ◌≢◌, ◌∙◌, ℕ, List, None, Option, Some, ap, inl, inr, refl}
+use Rattle.std.proofs.Common.{◌≡◌, ◌≢◌, ◌∙◌, ℕ, List, None, Some, ap, inl, inr}
 use Rattle.toml.specs.Data.{Members}
-use Rattle.toml.specs.Parse.{parse_document}
-use Rattle.rustsec_values.specs.Reading.{◌>>=◌, read_all}
+use Rattle.rustsec_values.specs.Reading.{read_all}
 use Rattle.rustsec_versions.specs.Failure.{Failure, IsRefusal}
 use Rattle.rustsec_versions.specs.declared.error.ErrorKind.TheVariants as kind
 use Rattle.rustsec_versions.proofs.Refusals.{refused_by}
@@ -14,6 +13,7 @@ use Rattle.rustsec_texts.specs.Ids.{id_of}
 use Rattle.rustsec_advisory.specs.declared.advisory.Advisory.{Advisory}
 use Rattle.rustsec_database.specs.Loaded.{AreLoaded}
 use Rattle.rustsec_database.specs.Opened.{AreOpened}
+use Rattle.rustsec_report.proofs.EndToEnd.{report-of-text}
 use Rattle.rustsec_report.specs.EndToEnd.{IsReportOf}
 use Rattle.rustsec_report.specs.declared.report.Report.{Report}
 use Rattle.rustsec_report.specs.declared.settings.Settings.{Settings}
@@ -26,20 +26,13 @@ pub misread-by : (allowed : Allowed) (root lock : List ℕ) (words : List (List 
 misread-by allowed root lock words o p e known (inl (k, none)) other is = misread p known none (is ∙ ap refused_as k)
 misread-by allowed root lock words o p e known (inr memory) other is = absurd (other (ap (λ (f : Failure). f.kind) memory))
 
--- the document whose table gives a lockfile's packages
-table-of : (document : Option Members) (packages : List PackageValue) → document >>= packages_of ≡ Some packages
-    → (table : Members) × ((document ≡ Some table) × (packages_of table ≡ Some packages))
-table-of None packages h = cc h
-table-of (Some table) packages h = (table, (refl, h))
-
 -- folders allow after opening what they allow before
 pub report-of-paths : (a b : Allowed) (root lock : List ℕ) (s : Settings) (advisories : List Advisory) (packages : List PackageValue) (r : Report)
     → AllowSame a b → AreOpened a root advisories → IsLockfileAt b lock packages
     → ((files : List SourceFile) (table : Members) → AreLoaded files advisories → packages_of table ≡ Some packages → IsReportOf files table s r)
     → IsReportOfPaths a root lock s r
 report-of-paths a b root lock s advisories packages r same (files, (listed, load)) (text, (read, locked)) chain =
-    let (table, (document, holds)) = table-of (parse_document text) packages locked in
-    (files, (listed, (text, ((same.reads lock (Some text)).1 read, (table, (document, chain files table load holds))))))
+    (files, (listed, (text, ((same.reads lock (Some text)).1 read, report-of-text files text s advisories packages r load locked chain))))
 
 pub lockfile-refused : (a b : Allowed) (root lock : List ℕ) (advisories : List Advisory) (e : Failure) → AllowSame a b → AreOpened a root advisories
     → IsLockfileRefusal b lock e → IsReportRefusal a root lock e

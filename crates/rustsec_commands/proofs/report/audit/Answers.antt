@@ -4,12 +4,13 @@ use Rattle.rustsec_commands.specs.Reports.{audited}
 use Rattle.rustsec_commands.proofs.Refused.{misread-by}
 use Rattle.rustsec_commands.proofs.report.audit.Goals as goal
 
-pub returns-in-Ok : goal.returns-in-Ok
-returns-in-Ok g c =
-    let is = rw c.denies_warnings.ensures at c.audit_with.ensures in
+pub returns-in-Ok-clause-ok : goal.returns-in-Ok-clause-ok
+returns-in-Ok-clause-ok g c =
+    let is = rw c.denies_warnings.ensures at c.audit_with.ensures.ok in
     IfOk-weaker c.audit_with.result _ _ (λ o h. audited c.in-Some.options c.in-Ok.ignored (sym c.in_ok-options.ensures ∙ c.in-Some.is) c.in-Ok.ensures.ok h) is
 
-pub returns : goal.returns
-returns g c =
+pub returns-clause-ok : goal.returns-clause-ok
+returns-clause-ok g c =
     IfOk-weaker c.refusal.result _ _
-    (λ o h. misread-by c.args.root.now _ o c.in-Some.options c.in-Err.error (sym c.in_ok-options.ensures ∙ c.in-Some.is) c.in-Err.ensures.err h.0 h.1) c.refusal.ensures
+    (λ o h. misread-by _ c.args.root.now c.args.lock.now _ o c.in-Some.options c.in-Err.error (sym c.in_ok-options.ensures ∙ c.in-Some.is)
+    c.in-Err.ensures.err h.0 h.1) c.refusal.ensures
