@@ -140,6 +140,12 @@ pub loaded-or-fault : {P : Type 0} (files : List SourceFile) (loaded : List Advi
 loaded-or-fault files loaded e h fault =
     loaded-or-at-fault files fault.good fault.bad fault.rest loaded fault.loaded e.kind fault.files_are h fault.are_loaded fault.fault
 
+-- a refusal for a first fault, so for files that do not load
+pub fault-excludes : (files : List SourceFile) (e : Failure) → IsFirstFault files e ⊎ IsMemory e
+    → ((other : List Advisory) → ¬ AreLoaded files other) ⊎ IsMemory e
+fault-excludes files e (inl fault) = inl (λ other h. loaded-or-fault files other e h fault)
+fault-excludes files e (inr memory) = inr memory
+
 -- ---- the first fault
 
 -- of two ways to part a list at an element: the same one, or one before the other

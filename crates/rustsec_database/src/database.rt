@@ -256,7 +256,11 @@ impl Database {
     /// `OutOfMemory`.
     pub fn load(alloc: Global, files: &[SourceFile]) -> Result<Database>
         ensures ok { IfOk result (AreLoaded files.now) }
+
+        // There is no other such list, and none at all if a file is at fault.
+        ensures only { IfOk result (λ d. (other : List given.Advisory) → AreLoaded files.now other → other ≡ d) }
         ensures err { IfErr result (λ e. IsFirstFault files.now e ⊎ IsMemory e) }
+        ensures none { IfErr result (λ e. ((other : List given.Advisory) → ¬ AreLoaded files.now other) ⊎ IsMemory e) }
     {
         let mut database = Database::empty(alloc);
         for file in files {

@@ -1,6 +1,10 @@
+use Rattle.std.proofs.Common.{List, subst}
+use Rattle.std.proofs.lemmas.List.{take_all}
 use Rattle.std.proofs.lemmas.Result.{err_from_is_err_and}
-use Rattle.rustsec_database.specs.Loaded.{IsAdded, IsFault}
+use Rattle.rustsec_folders.specs.declared.source_file.SourceFile.{SourceFile}
+use Rattle.rustsec_database.specs.Loaded.{AreLoaded, IsAdded, IsFault}
 use Rattle.rustsec_database.proofs.Files.{at-file, first-fault, loaded-step}
+use Rattle.rustsec_database.proofs.Once.{fault-excludes, loaded-once}
 use Rattle.rustsec_database.proofs.database.Database.load.Goals as goal
 
 pub returns-in_err-database-clause-err : goal.returns-in_err-database-clause-err
@@ -10,6 +14,21 @@ returns-in_err-database-clause-err c =
     c.loop-file-test.true c.file-item.is c.loop-file.invariant
     (at-file (λ path text. IsFault c.loop-file.database path text c.in_err-database.field-0.0) _ _ _ _ c.as_str.ensures c.as_str-in-loop-file.ensures
     c.in_err-database.ensures.err))
+
+pub returns-in_err-database-clause-none : goal.returns-in_err-database-clause-none
+returns-in_err-database-clause-none c =
+    let p = err_from_is_err_and c.from_residual.result c.from_residual.ensures.1 in
+    rw (p.1, p.2) (fault-excludes c.args.files.now c.in_err-database.field-0.0
+    (first-fault c.args.files.now c.loop-file.file-index c.file-item.result c.loop-file.database c.in_err-database.field-0.0
+    c.loop-file-test.true c.file-item.is c.loop-file.invariant
+    (at-file (λ path text. IsFault c.loop-file.database path text c.in_err-database.field-0.0) _ _ _ _ c.as_str.ensures c.as_str-in-loop-file.ensures
+    c.in_err-database.ensures.err)))
+
+pub returns-clause-only : goal.returns-clause-only
+returns-clause-only c other h =
+    let all = take_all c.loop-file.file-index c.args.files.now c.loop-file-test.false in
+    loaded-once c.args.files.now other c.loop-file.database h
+    (subst (λ (fs : List SourceFile). AreLoaded fs c.loop-file.database) all c.loop-file.invariant)
 
 pub loop-file-preserved : goal.loop-file-preserved
 loop-file-preserved c =
