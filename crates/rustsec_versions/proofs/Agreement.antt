@@ -148,7 +148,7 @@ module _ (ls : Lists) where
   own-admissible : AllAdmissible (intervals ls)
   own-admissible = intervals-admissible (ls.patched ++ ls.unaffected)
 
-  -- wherever the requirements stand, they have one list of ranges
+  -- pairs of lists with the same requirements have one list of ranges
   pub ranges-one : (ms : Lists) (rs us : List Range) → SameRequirements ls ms → AreMergedRanges ls rs → AreMergedRanges ms us → us ≡ rs
   ranges-one ms rs us p r u =
       merged-ranges-one (intervals ls) (intervals ms) r.merged u.merged rs us own-sound own-admissible (same-intervals ls ms p) r.are_merged u.are_merged
@@ -182,11 +182,11 @@ module _ (ls : Lists) where
     pub kept-order : (ms : Lists) (us : List Range) → SameRequirements ls ms → AreMergedRanges ms us → us ≡ rs
     kept-order ms us p r = ranges-one ms rs us p kept.ranges r
 
-    -- any ranges of the same lists are as many
+    -- any two lists of ranges of the same requirements have the same length
     pub kept-length : (us : List Range) → AreMergedRanges ls us → length us ≡ length rs
     kept-length us r = ap length (kept-order ls us (IsPermutation-refl (ls.patched ++ ls.unaffected)) r)
 
-    -- intervals of which no two overlap are their own merged ones
+    -- intervals that do not overlap are their own merged intervals
     pub kept-apart : accepted_apart ls ≡ true → (us : List Range) → AreRanges (intervals ls) us ↔ (us ≡ rs)
     kept-apart h us =
         let r = kept.ranges in

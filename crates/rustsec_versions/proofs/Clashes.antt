@@ -76,7 +76,7 @@ clash-sym p q =
 clash-self : (p : Placed) → clash p p ≡ false
 clash-self p = rw (is_same-self p.place) refl
 
--- one more place clashes with itself never, and with the others as they do with it
+-- a new place does not clash with itself, and clashes with another place exactly if that one clashes with it
 some_clash-cons : (p : Placed) (ps : List Placed) → some_clash (p ∷ ps) ≡ (list_any (clash p) ps || some_clash ps)
 some_clash-cons p ps =
     let turned : list_any (λ q. clash q p) ps ≡ list_any (clash p) ps = any-same (λ q. clash q p) (clash p) (λ q. clash-sym q p) ps in
@@ -260,7 +260,7 @@ or-second : (a b : Bool) → (a || b) ≡ false → b ≡ false
 or-second true b h = cc h
 or-second false b h = h
 
--- what overlaps none of some intervals clashes with none of them
+-- an interval that does not overlap any of a list does not clash with any of them
 pub none-clash : (c : Marked) (cs : List Marked) → list_any (overlap precedence c.interval) (spans cs) ≡ false → list_any (clashes c) cs ≡ false
 none-clash c [] h = refl
 none-clash c (d ∷ cs) h =
@@ -286,7 +286,8 @@ marked-apart (i ∷ is) = rw (any-marked i is, marked-apart is) refl
 as-unaffected : Lists → Lists
 as-unaffected ls = record { patched = []; unaffected = ls.patched ++ ls.unaffected }
 
--- what is accepted with each requirement as an unaffected one has admissible requirements, and their intervals are apart
+-- lists that are accepted with each requirement as an unaffected one have admissible requirements, and their
+-- intervals do not overlap
 pub apart-all : (ls : Lists) → accepted_apart ls ≡ true → all_admissible (ls.patched ++ ls.unaffected) ≡ true
 unfolding accepted
 apart-all ls h = and-first _ _ h

@@ -88,7 +88,7 @@ merged-fit is ms a b w =
       apart = w.apart;
     }
 
--- ---- intervals that stand alone
+-- ---- intervals that overlap no other
 
 -- no chain joins an interval that overlaps no other one with another one
 pub joined-alone : {is : List Interval} {i k : Interval} (a : Interval) → ((j : Interval) → Contains is j → overlap precedence a j ≡ true → j ≡ a)

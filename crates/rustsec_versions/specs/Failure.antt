@@ -1,5 +1,5 @@
--- What a contract sees of an error, and how it speaks of refusals.
--- It carries meaning: public contracts cite it.
+-- What a contract sees of an error, and how contracts describe refusals. It carries meaning: public contracts cite
+-- it.
 use Rattle.std.specs.Prelude.{◌≡◌, ◌⊎◌, ◌++◌, ℕ, List, [], Option, Some, None, codes}
 use Rattle.rustsec_versions.specs.declared.error.ErrorKind.{ErrorKind}
 use Rattle.rustsec_versions.specs.declared.error.ErrorKind.TheVariants as kind
