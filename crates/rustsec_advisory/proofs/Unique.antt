@@ -62,7 +62,7 @@ module _ {K X : Type 0} (R : K → K → Ordering) where
     not_below_itself : {P : Type 0} (e : K × X) (es : List (K × X)) → IsBelow e.0 es → Contains es e → P
     not_below_itself e es h there = cc (sym (below_one e.0 es e h there) ∙ tied_itself total e.0)
 
-    -- two first entries, each of which is in the other's list
+    -- two first entries such that each is in the other list
     first_same : (e f : K × X) (es fs : List (K × X)) → IsBelow e.0 es → IsBelow f.0 fs
         → (f ≡ e) ⊎ Contains fs e → (e ≡ f) ⊎ Contains es f → e ≡ f
     first_same e f es fs h k (inl same) back = sym same

@@ -69,8 +69,7 @@ fn package_of(alloc: Global, value: &Value) -> Result<Package>
     }
 }
 
-/// Returns the place of a package for a message: its position among the packages, from 1 on, and its name if it has
-/// one.
+/// Returns the place of a package for a message: its position among the packages, from 1 on, and its name, if any.
 fn place_of(alloc: Global, index: usize, value: &Value) -> std::result::Result<String, AllocError> {
     let place = index.saturating_add(1);
     match value.get("name").and_then(Value::as_str) {
