@@ -1,4 +1,4 @@
--- The references of an exported document: which addresses they are, and of which kind each is (OSV schema,
+-- The references of an exported document: their addresses, and the kind of each (OSV schema,
 -- `references[].type`).
 -- It carries meaning: public contracts cite it.
 use Rattle.std.specs.Prelude.{ℕ, Bool, ◌&&◌, ◌||◌, List, [], ◌∷◌, ◌++◌, Option, Some, codes, if◌then◌else◌, map, nat_eq, option_to_list}
