@@ -62,7 +62,7 @@ impl Fixer {
     /// name and a vulnerable version. Each is named by `SOURCE#NAME@VERSION`, or by `NAME@VERSION` if it has no
     /// source (Cargo's package ID specifications). With `dry_run` Cargo writes nothing.
     ///
-    /// If the command succeeds, the vulnerability may still be present: there may be no version that
+    /// If the command succeeds, the vulnerability may still be present: perhaps there is no version that
     /// Cargo can choose.
     ///
     /// # Errors

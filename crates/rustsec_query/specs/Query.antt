@@ -20,7 +20,7 @@ pub record Asked : Type 0 where
   pub package_source : Option Source
   -- the least severity
   pub severity : Option Severity
-  -- the architectures, one of which is enough; an empty list has no effect
+  -- the architectures, an advisory must affect one; an empty list has no effect
   pub target_arch : List Arch
   -- the systems, likewise
   pub target_os : List OS

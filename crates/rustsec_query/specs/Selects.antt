@@ -1,4 +1,4 @@
--- Which advisories a query selects: ten tests, all of which must hold.
+-- Which advisories a query selects: ten tests, it must pass all.
 use Rattle.std.specs.Prelude.{◌&&◌, ◌||◌, ◌==◌, not, ℕ, Bool, true, List, Option, Some, None, is_some, length, nat_eq, option_and_then, unwrap_or}
 use Rattle.std.specs.Bool.{beq}
 use Rattle.std.specs.Cmp.Lexicographic.{pointwise}

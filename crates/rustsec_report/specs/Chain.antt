@@ -37,7 +37,7 @@ pub record IsWarned (files : List SourceFile) (packages : List PackageValue) (s 
   pub is_given : gives s k pair ≡ true
   pub is : w ≡ as_warning k pair
 
--- warnings by kind, one of which is under a kind
+-- warnings by kind, with one of them under a kind
 abbrev pub Holds : List (WarningKind × List Warning) → WarningKind → Warning → Type 0
 Holds es k w = (ws : List Warning) × Contains es (k, ws) × Contains ws w
 
