@@ -1,4 +1,4 @@
-// The commands `affected` and `ranges`, as programs run them.
+//! The commands `affected` and `ranges`, as programs run them.
 
 use crate::outputs::expect_outputs;
 use rustsec_fixtures::writes;
