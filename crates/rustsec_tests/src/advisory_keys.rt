@@ -6,13 +6,13 @@ use std::process::Abort;
 use std::str;
 use std::test::Fail;
 
-/// Returns whether the valid advisory is one still with a line put before its date.
+/// Returns whether the valid advisory is still one with a line put before its date.
 fn acceptance_with_line(alloc: Global, line: &str) -> Result<Option<bool>, Fail> {
     let new = format!(in alloc; "{line}\ndate = ")?;
     acceptance_with(alloc, "date = ", &new)
 }
 
-/// Checks whether the valid advisory is one still with each of these lines put before its date.
+/// Checks whether the valid advisory is still one with each of these lines put before its date.
 fn expect_lines<T: AllocGlobal + Abort>(
     rt: &T,
     lines: &[&str],

@@ -106,7 +106,7 @@ fn an_advisory_above_a_megabyte(rt: HostRuntime) -> Result<(), Fail> {
     Ok(())
 }
 
-/// Lines of a number each between two texts, from 10000 up to another one.
+/// Returns lines of a number each, between two texts, from 10000 up to another one.
 fn keys(alloc: Global, end: u32, before: &str, after: &str) -> Result<String, Fail> {
     let mut lines = String::new(alloc);
     for number in 10000..end {

@@ -33,7 +33,7 @@ fn advisory_table_line(rt: HostRuntime) -> Result<(), Fail> {
     Ok(())
 }
 
-/// Checks whether the valid advisory is one still with its first place of a text changed.
+/// Checks whether the valid advisory is still one with its first place of a text changed.
 fn expect_changes<T: AllocGlobal + Abort>(rt: &T, rows: &[(&str, &str, bool)]) -> Result<(), Fail> {
     for (old, new, accepted) in rows {
         let found = acceptance_with(rt.alloc(), old, new)?;

@@ -176,7 +176,7 @@ fn gives(
     Ok(found == expected.0 && writer.held() == expected.1)
 }
 
-/// What is written of a warning that no advisory gives.
+/// The line for a warning without an advisory.
 const NOTICE: &[u8] = b"warning notice - base 1.0.0\n0 vulnerabilities, 1 warnings\n";
 
 #[test]

@@ -149,7 +149,7 @@ fn checks_in_order(rt: HostRuntime) -> Result<(), Fail> {
     expect_rows(&rt, CHECKS)
 }
 
-/// Files of a database.
+/// Returns the files of a database.
 fn source_files(alloc: Global, files: &[Change<'_>]) -> Result<Vec<SourceFile>, Fail> {
     let mut list = Vec::new(alloc);
     for (path, old, new) in files {

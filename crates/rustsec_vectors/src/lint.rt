@@ -352,7 +352,7 @@ fn lint_command_of_other_files(rt: HostRuntime) -> Result<(), Fail> {
     Ok(())
 }
 
-/// Texts, each on a line of its own.
+/// Joins texts, each on a line of its own.
 fn lines(alloc: Global, texts: &[&str]) -> Result<String, Fail> {
     let mut lines = String::new(alloc);
     for text in texts {

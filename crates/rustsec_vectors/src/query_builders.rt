@@ -51,14 +51,14 @@ enum Ask<'a> {
     Informational(bool),
 }
 
-/// Architectures as a vector.
+/// Returns architectures as a vector.
 fn arch_list(alloc: Global, all: &[Arch]) -> Result<Vec<Arch>, Fail> {
     let mut list = Vec::new(alloc);
     list.extend_from_slice(all)?;
     Ok(list)
 }
 
-/// Systems as a vector.
+/// Returns systems as a vector.
 fn system_list(alloc: Global, all: &[OS]) -> Result<Vec<OS>, Fail> {
     let mut list = Vec::new(alloc);
     list.extend_from_slice(all)?;
@@ -105,7 +105,7 @@ fn matches(alloc: Global, ask: &Ask<'_>, old: &str, new: &str) -> Result<bool, F
     Ok(query.matches(&advisory))
 }
 
-/// What is asked for, a change of the advisory, and whether it matches then.
+/// A field, a change of the advisory, and whether the query then matches.
 type Row<'a> = (Ask<'a>, &'a str, &'a str, bool);
 
 /// Checks which advisories match.

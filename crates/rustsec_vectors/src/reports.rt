@@ -19,7 +19,7 @@ use std::test::Fail;
 
 // ---- JSON trees
 
-/// Settings that ask for all warnings of informational advisories.
+/// Returns settings that ask for all warnings of informational advisories.
 fn all_warnings(alloc: Global) -> Result<Settings, Fail> {
     let mut settings = Settings::new(alloc);
     let wanted = &mut settings.informational_warnings;
@@ -201,7 +201,7 @@ fn lockfile(alloc: Global, twice: bool) -> Result<Lockfile, Fail> {
     Ok(Lockfile::from_str(alloc, &text)?)
 }
 
-/// What is asked for, and what is to be found.
+/// The settings of a report, and its expected contents.
 #[derive(Clone, Copy)]
 struct Row<'a> {
     twice: bool,
@@ -212,7 +212,7 @@ struct Row<'a> {
     packages: usize,
 }
 
-/// Settings of severity High, which ask for warnings of a kind and ignore an advisory.
+/// Returns settings of severity High, which ask for warnings of a kind and ignore an advisory.
 fn settings(alloc: Global, row: &Row<'_>) -> Result<Settings, Fail> {
     let mut settings = Settings::new(alloc);
     settings.severity = Some(Severity::High);
