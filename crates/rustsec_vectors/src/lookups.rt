@@ -137,7 +137,7 @@ fn package(alloc: Global, name: &str, text: &str) -> Result<Package, Fail> {
     })
 }
 
-/// Packages of names and versions.
+/// Returns packages with these names and versions.
 fn packages(alloc: Global, rows: &[(&str, &str)]) -> Result<Vec<Package>, Fail> {
     let mut packages = Vec::new(alloc);
     for (name, text) in rows {
