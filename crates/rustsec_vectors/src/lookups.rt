@@ -51,7 +51,7 @@ fn said_of<'a>(rows: Rows<'a>, name: &str) -> Option<&'a Said<'a>> {
     None
 }
 
-/// Returns an answer, made anew.
+/// Returns an answer, made again.
 fn answer(
     alloc: Global,
     said: Option<&Said<'_>>,

@@ -30,7 +30,7 @@ fn exports_at<T: Files + AllocGlobal>(rt: &T, path: &str, modified: &str) -> Res
     exports(rt, path, SHORT, modified, (0, line.as_str()))
 }
 
-/// Returns whether `osv` of the short advisory with one text in place of another is refused with this line.
+/// Returns whether `osv` of the short advisory with one text instead of another is refused with this line.
 fn is_refused<T: Files + AllocGlobal>(
     rt: &T,
     path: &str,

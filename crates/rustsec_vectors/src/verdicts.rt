@@ -485,7 +485,7 @@ fn expect_held<T: AllocGlobal + Abort>(
     Ok(())
 }
 
-// An interval holds versions by precedence, in which build metadata plays no part.
+// An interval holds versions by precedence, which ignores build metadata.
 #[test]
 fn holds_by_precedence(rt: HostRuntime) -> Result<(), Fail> {
     let till = interval(rt.alloc(), "<= 1.2.3")??;

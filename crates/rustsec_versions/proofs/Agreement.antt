@@ -45,7 +45,7 @@ pub intervals-admissible : (rs : List (List Held)) → AllAdmissible (filter_map
 intervals-admissible [] = tt
 intervals-admissible (r ∷ rs) = admissible_option (interval_of r) (filter_map interval_of rs) (interval_of-admissible r) (intervals-admissible rs)
 
--- ---- the order of the requirements plays no part
+-- ---- the order of the requirements does not matter
 
 pub same-intervals : (ls ms : Lists) → SameRequirements ls ms → IsPermutation (intervals ls) (intervals ms)
 same-intervals ls ms p = IsPermutation-filter_map interval_of (ls.patched ++ ls.unaffected) (ms.patched ++ ms.unaffected) p

@@ -331,7 +331,7 @@ pub accepted-none : accepted no_lists ≡ true
 unfolding accepted
 accepted-none = refl
 
--- ---- build metadata plays no part in what is affected
+-- ---- what is affected does not depend on build metadata
 
 after-build : (s : Endpoint) (v : Parts) (b : List ℕ) → is_after s (with_build b v) ≡ is_after s v
 after-build unbounded v b = refl

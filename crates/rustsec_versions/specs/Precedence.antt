@@ -18,7 +18,7 @@ pub record IsVersion (v : Parts) : Type 0 where
 abbrev pub by_numbers : Parts → Parts → Ordering → Ordering
 by_numbers a b rest = ordering_then (nat_cmp a.0 b.0) (ordering_then (nat_cmp a.1 b.1) (ordering_then (nat_cmp a.2 b.2) rest))
 
--- precedence: the numbers, then the pre-release; build metadata plays no part (section 11)
+-- precedence: the numbers, then the pre-release; build metadata is ignored (section 11)
 abbrev pub precedence : Parts → Parts → Ordering
 precedence a b = by_numbers a b (pre_cmp a.3 b.3)
 
