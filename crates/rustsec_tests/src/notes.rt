@@ -161,7 +161,7 @@ fn notes_of_roots(rt: HostRuntime) -> Result<(), Fail> {
     Ok(())
 }
 
-/// Returns whether `affected` fails so and says this, where a read or a write fails at a call.
+/// Returns whether `affected` fails with this answer and this note, if a read or a write fails at a call.
 fn fails_with<T: Files + AllocGlobal>(
     rt: &T,
     read_at: u64,

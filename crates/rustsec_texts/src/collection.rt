@@ -9,7 +9,7 @@ use rustsec_versions::{ErrorKind, FromText, Result, refused_text};
 use std::alloc::Global;
 use std::fmt;
 
-/// Where the packages of an advisory are published.
+/// A collection of the database: where the packages of an advisory are published.
 #[derive(Clone, Copy, PartialEq, Eq, PartialOrd, Ord, Hash, Debug)]
 pub enum Collection {
     /// Packages of crates.io.

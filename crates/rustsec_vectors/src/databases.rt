@@ -1,4 +1,4 @@
-//! Databases: what is loaded from files, where it refuses, and what is found in it.
+//! Databases: loading from files, errors, and queries.
 
 use crate::folders_in_memory::{Failing, Holds, MemoryFolders, Paths};
 use rustsec_advisory::Advisory;
@@ -210,7 +210,7 @@ fn two(alloc: Global) -> Result<Database, Fail> {
     Ok(Database::load(alloc, files.as_slice())?)
 }
 
-/// Returns how many advisories a query for a year finds in it, with a collection and a name where they are given.
+/// Returns how many advisories a query for a year finds in it, with a collection and a name if they are given.
 fn found(
     alloc: Global,
     collection: Option<Collection>,
@@ -433,8 +433,8 @@ const BOTH: Paths<'_> = &[
     ),
 ];
 
-// The calls, in an order of this port, list `crates`, `base`, `rust` and `std`, and read their advisories. Where
-// the listing of `rust` fails, it is skipped; where memory is refused, nothing is.
+// The calls, in an order of this port, list `crates`, `base`, `rust` and `std`, and read their advisories. If
+// the listing of `rust` fails, it is skipped; if memory is refused, nothing is skipped.
 #[test]
 fn failing_steps(rt: HostRuntime) -> Result<(), Fail> {
     let (io, memory) = (ErrorKind::Io, ErrorKind::OutOfMemory);

@@ -191,7 +191,7 @@ fn document(alloc: Global, event: &str, link: &str) -> Result<Result<OsvAdvisory
     Ok(OsvAdvisory::from_value(alloc, &tree))
 }
 
-/// Returns whether an event's text is read and printed as a version; or refused, where there is none.
+/// Returns whether an event's text is read and printed as a version; or refused, if there is no version.
 fn is_event(alloc: Global, event: &str, version: Option<&str>) -> Result<bool, Fail> {
     let read = document(alloc, event, "")?;
     let Some(version) = version else {

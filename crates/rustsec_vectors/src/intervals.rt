@@ -156,13 +156,13 @@ fn bounds_at_the_greatest_number(rt: HostRuntime) -> Result<(), Fail> {
     )
 }
 
-/// Returns the kind of the refusal of the interval up to a version; none where it is taken.
+/// Returns the kind of the error for the interval up to a version; none if it is accepted.
 fn refusal_up_to(alloc: Global, text: &str) -> Result<Option<ErrorKind>, Fail> {
     let end = Bound::Inclusive(version(alloc, text)?);
     Ok(kind_of(UnaffectedRange::new(alloc, Bound::Unbounded, end)))
 }
 
-/// Returns the kind of the refusal of the interval between two versions; none where it is taken.
+/// Returns the kind of the error for the interval between two versions; none if it is accepted.
 fn refusal_between(alloc: Global, start: &str, end: &str) -> Result<Option<ErrorKind>, Fail> {
     let start = Bound::Inclusive(version(alloc, start)?);
     let end = Bound::Inclusive(version(alloc, end)?);

@@ -131,7 +131,7 @@ fn file_has<T: Files + AllocGlobal>(
     has_packages(rt.alloc(), &lockfile, rows)
 }
 
-/// Returns the kind of the refusal of a file of these bytes; none where it is a lockfile. The file is removed again.
+/// Returns the kind of the error for a file of these bytes; none if it is a lockfile. The file is removed again.
 fn refusal<T: Files + AllocGlobal>(
     rt: &T,
     path: &str,

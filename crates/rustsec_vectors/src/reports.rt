@@ -94,7 +94,7 @@ fn notices(alloc: Global, system: OS) -> Result<WarningInfo, Fail> {
     Ok(warnings)
 }
 
-/// Returns how many notices a format leaves, none where the kind is gone, after one call or two.
+/// Returns how many notices a format leaves, none if the kind is gone, after one call or two.
 fn left(
     alloc: Global,
     system: OS,

@@ -19,7 +19,7 @@ struct Row<'a> {
     affected: &'a [(&'a str, bool)],
 }
 
-/// Returns whether a side of a range prints as a text, a dash where it is missing.
+/// Returns whether a side of a range prints as a text, or as a dash if it is missing.
 fn prints(alloc: Global, side: &Option<Version>, text: &str) -> Result<bool, Fail> {
     match side {
         Some(version) => {

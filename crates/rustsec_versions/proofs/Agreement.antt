@@ -88,7 +88,7 @@ module _ (ls : Lists) (all : all_admissible (ls.patched ++ ls.unaffected) ≡ tr
   same-clear : accepted ls ≡ are_clear (map (λ x. x.now) xs)
   same-clear = accepted-clear ls all ∙ clear_shuffled (shuffled _ _ same)
 
-  -- where the sweep finds two that clash
+  -- if the sweep finds two that clash
   pub sweep-refused : all_swept (map (λ x. x.now) xs) ≡ None → accepted ls ≡ false
   sweep-refused none = same-clear ∙ all_swept-none _ spans-sound spans-admissible (starts-rise xs sorted) none
 

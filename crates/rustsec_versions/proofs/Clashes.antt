@@ -1,4 +1,4 @@
--- No two places clash exactly where no interval clashes with a later one.
+-- No two places clash exactly if no interval clashes with a later one.
 use Rattle.std.proofs.Common.{◌≡◌, ◌==◌, ◌<◌, ◌+◌, ◌&&◌, ◌||◌, ℕ, Bool, true, false, List, [], ◌∷◌, ◌++◌, Option, Some, None, map, refl, sym, ap, ◌∙◌, arith}
 use Rattle.std.specs.Option.{option_map}
 use Rattle.std.specs.Prelude.{filter_map, is_some, not}
@@ -237,7 +237,7 @@ not-not : (b : Bool) → not (not b) ≡ b
 not-not true = refl
 not-not false = refl
 
--- lists of admissible requirements are accepted where no two of their intervals clash
+-- lists of admissible requirements are accepted if no two of their intervals clash
 pub accepted-clear : (ls : Lists) → all_admissible (ls.patched ++ ls.unaffected) ≡ true → accepted ls ≡ are_clear (marks ls)
 unfolding accepted
 accepted-clear ls all =
@@ -278,7 +278,7 @@ any-marked : (i : Interval) (is : List Interval) → list_any (clashes (mark fal
 any-marked i [] = refl
 any-marked i (j ∷ is) = ap (λ (b : Bool). overlap precedence i j || b) (any-marked i is)
 
--- unaffected intervals clash where they overlap
+-- unaffected intervals clash if they overlap
 marked-apart : (is : List Interval) → are_clear (map (mark false) is) ≡ are_apart precedence is
 marked-apart [] = refl
 marked-apart (i ∷ is) = rw (any-marked i is, marked-apart is) refl

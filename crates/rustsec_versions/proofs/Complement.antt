@@ -310,7 +310,7 @@ fit-valid [] a k d h = absurd (omega arith)
 fit-valid (g ∷ gs) a zero d h = a.0.0
 fit-valid (g ∷ gs) a (suc k) d h = fit-valid gs a.1 k d (omega arith)
 
--- a valid version is in a range where it is in its gap
+-- a valid version is in a range exactly if it is in its gap
 pub fit-held : (gs : List Interval) (v : Parts) → AllFit gs → IsVersion v → in_ranges (map cut gs) v ≡ list_any (λ g. holds g v) gs
 fit-held [] v a valid = refl
 fit-held (g ∷ gs) v a valid = rw (← holds-cut g v a.0.1 a.0.2 valid, fit-held gs v a.1 valid) refl

@@ -1,4 +1,4 @@
--- Merged intervals stay the same where two that overlap are taken as one, or one that overlaps no other comes before the rest.
+-- Merged intervals stay the same if two that overlap are replaced by one, or if one that overlaps no other is added.
 use Rattle.std.proofs.Common.{◌≡◌, ◌&&◌, ◌||◌, ◌⊎◌, Bool, true, false, List, [], ◌∷◌, refl, sym, ap, ◌∙◌, inl, inr, subst}
 use Rattle.std.specs.Prelude.{Contains, not}
 use Rattle.std.specs.List.{list_any}

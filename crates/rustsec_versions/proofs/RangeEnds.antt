@@ -49,7 +49,7 @@ unfolding LastIs
 last_none P r [] e = cc e
 last_none P r (f ∷ front) e = cc e
 
--- a gap is the last exactly where it has no fix
+-- a gap is the last exactly if it has no fix
 EndsAs : Bool → List Range → Type 0
 EndsAs all rs = LastIs (λ r. is_none r.fixed ≡ all) rs
 
@@ -135,7 +135,7 @@ map_none (i ∷ is) e = cc e
 interval_same : (i j : Interval) → i.start ≡ j.start → i.end ≡ j.end → i ≡ j
 interval_same i j h k = λ n. record { start = h n; end = k n }
 
--- there is no gap exactly where the one interval has no bounds
+-- there is no gap exactly if the one interval has no bounds
 pub gaps-none : (is : List Interval) → AllAdmissible is → IsChain (map cut is) → gaps_from None (map cut is) ≡ [] → is ≡ whole ∷ []
 unfolding gaps_from
 gaps-none [] a c e = cc e

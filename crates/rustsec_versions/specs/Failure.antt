@@ -10,7 +10,7 @@ pub record Failure : Type 0 where
   pub message : List ℕ
   pub cause : Option (List ℕ)
 
--- a text, empty where it is missing
+-- a text, empty if it is missing
 abbrev pub or_empty : Option (List ℕ) → List ℕ
 or_empty None = []
 or_empty (Some text) = text

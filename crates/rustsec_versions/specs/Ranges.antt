@@ -31,7 +31,7 @@ is_till (Some fixed) v = is_below v fixed
 abbrev pub in_range : Range → Parts → Bool
 in_range r v = is_from r.introduced v && is_till r.fixed v
 
--- a version is in a list of ranges where it is in some range of it
+-- a version is in a list of ranges if it is in one of the ranges
 abbrev pub in_ranges : List Range → Parts → Bool
 in_ranges rs v = list_any (λ r. in_range r v) rs
 
@@ -55,7 +55,7 @@ lower_cut unbounded = None
 lower_cut (inclusive v) = Some v
 lower_cut (exclusive v) = successor v
 
--- where an interval with an end is over: at its exclusive end, or at the version least above its inclusive one
+-- where an interval with an end ends: at its exclusive end, or at the version least above its inclusive one
 abbrev pub upper_cut : Endpoint → Option Parts
 upper_cut unbounded = None
 upper_cut (exclusive v) = Some v

@@ -28,7 +28,7 @@ names_version c = fits c.1 && (fits (unwrap_or c.2 0) && (fits (unwrap_or c.3 0)
 abbrev pub least_of : ℕ → ℕ → ℕ → Parts
 least_of major minor patch = (major, minor, patch, codes "0", [])
 
--- the least version of the next major number, of the next minor one and of the next patch, where that number fits
+-- the least version of the next major number, of the next minor one and of the next patch, if that number fits
 abbrev pub next_major : ℕ → Option Parts
 next_major a = only_if (fits (a + 1)) (Some (least_of (a + 1) 0 0))
 
@@ -48,7 +48,7 @@ caret_end zero None None = next_major 0
 caret_end zero (Some zero) (Some c) = next_patch 0 0 c
 caret_end zero (Some b) c = next_minor 0 b
 
--- where `~` ends: at the next minor number, or at the next major one where no minor is given
+-- where `~` ends: at the next minor number, or at the next major one if no minor is given
 abbrev pub tilde_end : ℕ → Option ℕ → Option ℕ → Option Parts
 tilde_end a None (Some c) = None
 tilde_end a None None = next_major a
@@ -106,7 +106,7 @@ of_comparators (c ∷ []) = of_one c.0 c
 of_comparators (c ∷ d ∷ []) = of_sides (side_of c.0 c) (side_of d.0 d)
 of_comparators (c ∷ d ∷ e ∷ rest) = None
 
--- the interval that a requirement states, where each comparator names a valid version
+-- the interval that a requirement states, if each comparator names a valid version
 abbrev pub stated : List Held → Option Interval
 stated cs = only_if (list_all names_version cs) (of_comparators cs)
 
