@@ -356,7 +356,7 @@ fn acceptance_of_prefix(alloc: Global, end: usize) -> Result<Option<bool>, Fail>
     Ok(acceptance(alloc, str::from_utf8(bytes)?))
 }
 
-/// Checks that each beginning of an advisory up to some byte is not an advisory, and each longer one is.
+// Each beginning of an advisory up to some byte is not an advisory, and each longer one is.
 #[test]
 fn advisory_prefixes(rt: HostRuntime) -> Result<(), Fail> {
     let (front, _) = VALID.split_once("to us\n").ok_or("no title")?;

@@ -33,7 +33,7 @@ pub struct MemoryFolders<'a> {
 }
 
 impl<'a> MemoryFolders<'a> {
-    /// Folders of some paths.
+    /// Returns folders with these contents.
     pub fn new(paths: Paths<'a>, failing: Failing) -> MemoryFolders<'a> {
         MemoryFolders {
             paths,
@@ -69,7 +69,7 @@ fn failure(alloc: Global, kind: ErrorKind) -> Error
     Error::new(alloc, ErrorKind::Io, "the folders fail")
 }
 
-/// Entries of rows.
+/// Returns the entries of rows.
 fn entries(alloc: Global, rows: &[(&str, bool)]) -> Result<Items<FolderEntry>>
     ensures { IfErr result (IsOfKind ErrorKind.Io) }
 {

@@ -247,7 +247,7 @@ fn lint_unknown_keys(rt: HostRuntime) -> Result<(), Fail> {
     )
 }
 
-/// Returns the paths come in the order of their identifiers, which is not that of their texts.
+// The paths come in the order of their identifiers, which is not that of their texts.
 #[test]
 fn lint_functions_in_the_order_of_paths(rt: HostRuntime) -> Result<(), Fail> {
     expect_errors(

@@ -163,7 +163,7 @@ fn lockfiles_behind_a_mark_and_with_line_ends(rt: HostRuntime) -> Result<(), Fai
     Ok(())
 }
 
-/// Returns a lockfile above a megabyte, whose packages follow a comment of that length.
+// A lockfile above a megabyte, whose packages follow a comment of that length.
 #[test]
 fn a_lockfile_above_a_megabyte(rt: HostRuntime) -> Result<(), Fail> {
     let comment = "#\n".repeat(rt.alloc(), 600000)?;

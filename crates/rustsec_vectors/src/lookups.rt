@@ -11,7 +11,7 @@ use std::process::Abort;
 use std::rt::Files;
 use std::test::Fail;
 
-/// What a registry answers about a name: the versions that it lists, each with whether it is yanked, or a
+/// The answer of a registry for a name: the versions that it lists, each with whether it is yanked, or a
 /// failure.
 enum Said<'a> {
     Lists(&'a [(&'a str, bool)]),
@@ -21,7 +21,7 @@ enum Said<'a> {
 /// The answers of a registry for some names. It has no others.
 type Rows<'a> = &'a [(&'a str, Said<'a>)];
 
-/// A registry that says another thing each time it is asked, and the last of them from then on.
+/// A registry that answers differently at each look-up, and with its last answer from then on.
 #[derive(Drop)]
 struct Changing<'a> {
     says: &'a [Rows<'a>],
@@ -86,7 +86,7 @@ impl<'a> Lookup for Changing<'a> {
     }
 }
 
-/// Returns a cache over a registry that says this, one after the other.
+/// Returns a cache over a registry with these answers, one after the other.
 fn asked_anew<'a>(alloc: Global, says: &'a [Rows<'a>]) -> CachedIndex<Changing<'a>> {
     CachedIndex::new(
         alloc,
@@ -97,7 +97,7 @@ fn asked_anew<'a>(alloc: Global, says: &'a [Rows<'a>]) -> CachedIndex<Changing<'
     )
 }
 
-/// What is wanted at one place of the answers: a package of this name and major version, or a kind.
+/// The wanted answer at one place: a package of this name and major version, or a kind.
 enum Want<'a> {
     Yanked(&'a str, u64),
     Refused(ErrorKind),
@@ -272,7 +272,7 @@ fn look_up_out_of_memory(rt: HostRuntime) -> Result<(), Fail> {
     )
 }
 
-// The answer about `a` is kept though the call is refused, and `b` alone is asked about again.
+// The answer for `a` is kept though the call is refused, and only `b` is looked up again.
 #[test]
 fn refused_memory_keeps(rt: HostRuntime) -> Result<(), Fail> {
     expect(
