@@ -1,6 +1,5 @@
-//! The RustSec advisory database, and audits of a `Cargo.lock` against it, under the paths where a user of
-//! the Rust crate `rustsec` looks. Each item stands in one of the crates below, with its contract; this
-//! crate has no code of its own but the version.
+//! The RustSec advisory database, and audits of a `Cargo.lock` against it, under the paths of the Rust crate
+//! `rustsec`. Each item is in one of the crates below, with its contract; the only code of this crate is the version.
 #![tactic(auto)]
 
 /// The version of the Rust crate that these crates port.
@@ -8,7 +7,7 @@ pub const VERSION: &str = "0.33.0";
 
 /// Advisories: their files, their fields and the linter.
 pub mod advisory {
-    /// Which platforms and functions an advisory affects.
+    /// The platforms and functions that an advisory affects.
     pub mod affected {
         pub use rustsec_advisory::Affected;
         pub use rustsec_texts::{FunctionPath, Identifier};
@@ -46,7 +45,7 @@ pub mod report {
     };
 }
 
-/// Reports on the packages that a binary holds.
+/// Reports on the packages in a binary.
 pub mod binary_scanning {
     pub use rustsec_report::{BinaryFormat, filter_report_by_binary_type};
 }
@@ -56,7 +55,7 @@ pub mod registry {
     pub use rustsec_registry::CachedIndex;
 }
 
-/// What the database's repository says.
+/// The repository of the advisory database.
 pub mod repository {
     /// Signatures of commits.
     pub mod signature {

@@ -1,4 +1,4 @@
--- Documents and texts of which a part is refused are no advisory's.
+-- Documents and texts with a refused part are not those of an advisory.
 use Rattle.std.proofs.Common.{◌≡◌, ◌∙◌, ℕ, List, Option, Some, None, codes, subst, sym}
 use Rattle.toml.specs.Data.{Data, Members, as_table, get_member}
 use Rattle.toml.specs.Parse.{parse_document}

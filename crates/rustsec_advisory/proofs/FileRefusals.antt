@@ -1,11 +1,11 @@
--- The refusal of a file's text as that of the file.
+-- The error of a file, from the error of its text.
 use Rattle.std.proofs.Common.{◌≡◌, ◌⊎◌, ◌∙◌, ℕ, List, inl, inr}
 use Rattle.rustsec_versions.specs.Failure.{Failure, IsMemory, IsOfKind, IsRefusal}
 use Rattle.rustsec_versions.specs.Refusals.{of_file}
 use Rattle.rustsec_versions.specs.declared.error.ErrorKind.{ErrorKind}
 use Rattle.rustsec_advisory.specs.FileRefusals.{NamesFile}
 
--- a refusal that keeps the kind and out of memory keeps the reason
+-- an error that keeps the kind and out of memory keeps the reason
 pub same_reason : {P : Type 0} (k : ErrorKind) (e r : Failure) → IsRefusal k P e → IsOfKind e.kind r → (IsMemory e → IsMemory r) → IsRefusal k P r
 same_reason k e r (inl bad) (inl same) keeps = inl (same ∙ bad.0, bad.1)
 same_reason k e r (inl bad) (inr memory) keeps = inr memory

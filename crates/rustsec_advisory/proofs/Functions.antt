@@ -21,7 +21,7 @@ use Rattle.rustsec_advisory.specs.Requirements.{requirements_of}
 use Rattle.rustsec_advisory.proofs.Insertion.{all-weaker, insertion-permutes, insertion-sorted, keys-with}
 use Rattle.rustsec_advisory.proofs.Members.{Entry, members_of-view, seen}
 
--- paths that are tied are the same
+-- paths that tie are equal
 tied-same : (p q : List (List ℕ)) → path_order p q ≡ Equal → p ≡ q
 tied-same p q h = (pointwise_decides bytes_decides p q).0 (path_ties p q ∙ ap is_eq h)
 
@@ -29,7 +29,8 @@ tied-same p q h = (pointwise_decides bytes_decides p q).0 (path_ties p q ∙ ap 
 abbrev pub IsApart : List (List ℕ) → List Entry → Type 0
 IsApart p es = AllByRecursion (λ k. string_bytes k ≢ path_text p) (keys_of es)
 
--- so far: some entries were read, and are the map's; the keys of the others rise, and none is the text of a path in the map
+-- so far: the entries that were read are those of the map; the keys of the others rise, and none is the text of a
+-- path in the map
 pub record Walked (all left : List Entry) (fs : List Function) : Type 0 where
   pub done : List Entry
   pub split : all ≡ done ++ left
@@ -91,7 +92,7 @@ unfolding read_all
 refused-at f [] y ys h = rw h refl
 refused-at f (x ∷ xs) y ys h = before-none (f x) _ (refused-at f xs y ys h)
 
--- an entry that gives no function
+-- an entry that does not give a function
 pub walked-stop : (all : List Entry) (e : Entry) (rest : List Entry) (fs : List Function) → Walked all (e ∷ rest) fs → function_of (seen e) ≡ None
     → (gs : List Function) → ¬ AreFunctions (members_view all) gs
 walked-stop all e rest fs w none gs h =

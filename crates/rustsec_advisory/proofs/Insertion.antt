@@ -14,7 +14,7 @@ all-weaker P Q [] f all = tt
 all-weaker P Q (k ∷ ks) f all = (f k all.0, all-weaker P Q ks f all.1)
 
 module _ {K X : Type 0} (R : K → K → Ordering) where
-  -- no key is tied with this one
+  -- no key ties with this one
   abbrev pub IsNew : K → List (K × X) → Type 0
   IsNew k es = AllByRecursion (λ q. R k q ≢ Equal) (keys_of es)
 

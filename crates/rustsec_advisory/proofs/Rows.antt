@@ -28,7 +28,7 @@ is-string (datetime t) text h = cc h
 is-string (array ds) text h = cc h
 is-string (table ms) text h = cc h
 
--- texts that are not the same
+-- texts that differ
 pub not-same : (a b : List ℕ) → a ≢ b → bytes_eq a b ≡ false
 not-same a b h = elim (cases_Bool (bytes_eq a b)) [
   | inl is_same ↦ absurd (h ((bytes_decides a b).0 is_same))

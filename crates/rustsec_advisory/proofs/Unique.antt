@@ -58,11 +58,11 @@ module _ {K X : Type 0} (R : K → K → Ordering) where
       All-contains (λ (f : K × X). R k f.0 ≡ Less) es e (All-from_recursion _ es (below_each k es h)) there
 
   module _ (total : IsTotalOrder R) where
-    -- an entry below some is none of them
+    -- an entry below some others is not one of them
     not_below_itself : {P : Type 0} (e : K × X) (es : List (K × X)) → IsBelow e.0 es → Contains es e → P
     not_below_itself e es h there = cc (sym (below_one e.0 es e h there) ∙ tied_itself total e.0)
 
-    -- two first entries, of which each is in the other's list
+    -- two first entries such that each is in the other list
     first_same : (e f : K × X) (es fs : List (K × X)) → IsBelow e.0 es → IsBelow f.0 fs
         → (f ≡ e) ⊎ Contains fs e → (e ≡ f) ⊎ Contains es f → e ≡ f
     first_same e f es fs h k (inl same) back = sym same

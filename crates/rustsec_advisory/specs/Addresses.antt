@@ -1,11 +1,11 @@
--- Addresses: texts that the URL Standard's parser takes, seen as they print.
+-- Addresses: texts that the URL Standard's parser accepts, seen as they print.
 use Rattle.std.specs.Prelude.{ℕ, List, Option, Some, None, Result, Ok, Err, alloc_error}
 use Rattle.std.specs.declared.alloc.AllocError.{AllocError}
 use Rattle.url.specs.Parser.{Parsed, parse_url}
 use Rattle.url.specs.Parts.{Parts, serialize}
 use Rattle.url.specs.declared.error.ParseError.TheVariants as reason
 
--- how an address prints that was parsed
+-- how a parsed address prints
 abbrev pub printed : Parsed Parts → Option (List ℕ)
 printed (Ok url) = Some (serialize url)
 printed (Err e) = None
@@ -14,7 +14,7 @@ printed (Err e) = None
 abbrev pub address_of : List ℕ → Option (List ℕ)
 address_of text = printed (parse_url None text)
 
--- what a parser answers, none for a refusal, and out of memory for want of room alone
+-- the parser's answer, none for a refusal; only a lack of room is out of memory
 abbrev pub unless_no_room : {T : Type 0} → Parsed T → Result (Option T) AllocError
 unless_no_room (Ok url) = Ok (Some url)
 unless_no_room (Err reason.OutOfMemory) = Err alloc_error

@@ -1,4 +1,4 @@
--- The advisory that a text is.
+-- The advisory of a text.
 use Rattle.std.specs.Prelude.{◌≡◌, ◌++◌, ℕ, List, [], Option, Some, None, true, codes, nat_eq, if◌then◌else◌}
 use Rattle.std.specs.List.{starts_with}
 use Rattle.toml.specs.Data.{Data, Members, as_table, get_member}
@@ -16,7 +16,8 @@ use Rattle.rustsec_advisory.specs.Metadata.{IsMetadata}
 abbrev pub header : List ℕ
 header = codes "[advisory]"
 
--- the document's text: the front matter, behind the header and a line feed where it does not begin with the header
+-- the text of the document: the front matter, with the header and a line feed before it unless it begins with the
+-- header
 abbrev pub document_text : List ℕ → List ℕ
 document_text front = if starts_with nat_eq front header then front else header ++ (codes "\n" ++ front)
 
@@ -26,7 +27,7 @@ pub record AreVersions (table : Members) (ls : Lists) : Type 0 where
   pub unaffected : defaulted [] (requirements_of) (codes "unaffected") table ≡ Some ls.unaffected
   pub accepted : accepted ls ≡ true
 
--- the table `affected`, where there is one
+-- the table `affected`, if present
 abbrev pub IsAffectedAt : Option Data → Option Affected → Type 0
 IsAffectedAt None a = a ≡ None
 IsAffectedAt (Some d) a = (t : Members) × (v : Affected) × ((as_table d ≡ Some t) × (IsAffected t v × (a ≡ Some v)))

@@ -1,4 +1,5 @@
--- The table `affected` of an advisory's document: platforms, and functions with the requirements that each is affected under.
+-- The table `affected` of an advisory's document: platforms, and functions with requirements for the versions in
+-- which each is affected.
 use Rattle.std.specs.Prelude.{◌≡◌, ℕ, List, [], ◌∷◌, Option, Some, None, codes}
 use Rattle.std.specs.List.Sorted.{IsPermutation, IsStrictlySortedBy}
 use Rattle.std.specs.Map.{keys_of}
@@ -11,7 +12,7 @@ use Rattle.rustsec_advisory.specs.declared.affected.Affected.{Affected}
 use Rattle.rustsec_toml.specs.Fields.{defaulted, every, text}
 use Rattle.rustsec_advisory.specs.Requirements.{requirements_of}
 
--- a function, by its path, and the requirements that it is affected under
+-- a function: its path, and requirements for the versions in which it is affected
 abbrev pub Function : Type 0
 Function = List (List ℕ) × List (List Held)
 
@@ -31,12 +32,12 @@ pub record AreFunctions (t : Members) (fs : List Function) : Type 0 where
   pub same : IsPermutation read fs
   pub ordered : IsStrictlySortedBy path_order (keys_of fs)
 
--- the functions at a key, none where it is missing
+-- the functions at a key, none if the key is missing
 abbrev pub AreFunctionsAt : Option Data → List Function → Type 0
 AreFunctionsAt None fs = fs ≡ []
 AreFunctionsAt (Some d) fs = (t : Members) × ((as_table d ≡ Some t) × AreFunctions t fs)
 
--- the table says this
+-- the value of the table
 pub record IsAffected (table : Members) (a : Affected) : Type 0 where
   pub arch : defaulted [] (every (text arch_of)) (codes "arch") table ≡ Some a.arch
   pub os : defaulted [] (every (text os_of)) (codes "os") table ≡ Some a.os

@@ -41,7 +41,7 @@ use Rattle.rustsec_advisory.specs.declared.metadata.Metadata.{Metadata}
 both_decide : {P Q : Type 0} (s t : Bool) → Decides s P → Decides t Q → Decides (s && t) (P × Q)
 both_decide s t d e = (λ h. (d.0 (first_so s t h), e.0 (second_so s t h)), λ p. both_true s t (d.1 p.0) (e.1 p.1))
 
--- a test of one fact as a test of another
+-- two tests at the same time
 decides_as : {P Q : Type 0} (t : Bool) → (P → Q) → (Q → P) → Decides t P → Decides t Q
 decides_as t f g d = (λ h. f (d.0 h), λ q. d.1 (g q))
 
@@ -83,7 +83,7 @@ affected_decides x y =
     (both_decide _ _ (pointwise_decides (λ a b. (same_true os tt a b, true_same os a b)) x.os y.os)
     (pointwise_decides function_decides x.functions y.functions)))
 
--- ---- what an advisory says of itself: each group of fields, and those behind it
+-- ---- metadata: each group of fields, and those after it
 
 abbrev SameTerms : Metadata → Metadata → Type 0
 SameTerms x y = (x.withdrawn ≡ y.withdrawn) × ((x.license ≡ y.license) × (x.expect_deleted ≡ y.expect_deleted))
@@ -164,7 +164,7 @@ same_fields x =
     let subject : SameSubject x x = (refl, (refl, (refl, kinds))) in
     (refl, (refl, (refl, (refl, subject))))
 
--- metadata of the same fields are the same
+-- metadata with the same fields are the same
 pub same_metadata : (x y : Metadata) → SameFields x y → x ≡ y
 same_metadata x y (id, (name, (title, (description, (date, (aliases, (related, kinds))))))) =
     let (collection, (categories, (keywords, (cvss, (informational, origin))))) = kinds in

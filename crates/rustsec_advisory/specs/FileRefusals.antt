@@ -11,7 +11,7 @@ use Rattle.rustsec_versions.specs.Failure.{Failure, IsRefusal}
 use Rattle.rustsec_versions.specs.Refusals.{of_file}
 use Rattle.rustsec_versions.specs.declared.error.ErrorKind.TheVariants as kind
 
--- a file that cannot be read, under its path; or the refusal of its text, as that of the file; or out of memory
+-- a file that cannot be read, with its path; or the error of its text, as that of the file; or out of memory
 abbrev pub NamesFile : List ℕ → Failure → Type 0
 NamesFile path e = IsReadFailure path e ⊎ ((refusal : Failure) × (e ≡ of_file path refusal))
 

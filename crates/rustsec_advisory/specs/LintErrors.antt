@@ -1,5 +1,5 @@
--- The lint errors that a linter finds in an advisory: for each key of its document, in the order of the keys' bytes, the rows that
--- the key, its value and the advisory give.
+-- The lint errors that a linter finds in an advisory: for each key of its document, in the order of the keys' bytes,
+-- the rows for the key, its value and the advisory.
 use Rattle.std.specs.Prelude.{ℕ, ◌++◌, Bool, true, false, not, ◌&&◌, List, [], ◌∷◌, Option, Some, None, codes, flat_map, is_some, map, nat_eq, if◌then◌else◌, ◌==◌}
 use Rattle.std.specs.Cmp.Lexicographic.{pointwise}
 use Rattle.std.specs.List.{list_any, starts_with}
@@ -28,21 +28,21 @@ use Rattle.rustsec_advisory.specs.declared.linter.ErrorKind.{ErrorKind}
 use Rattle.rustsec_advisory.specs.declared.linter.ErrorKind.TheVariants as kind
 use Rattle.rustsec_advisory.specs.declared.metadata.Metadata.{Metadata}
 
--- a lint error: its kind, the section that it stands in, and a message
+-- a lint error: its kind, its section, and a message
 pub record LintError : Type 0 where
   pub kind : ErrorKind
   pub section : Option (List ℕ)
   pub message : Option (List ℕ)
 
--- one lint error, where a test holds
+-- one lint error, if a test holds
 abbrev pub when : Bool → LintError → List LintError
 when test error = if test then error ∷ [] else []
 
--- a key that has no meaning where it stands
+-- a key without a meaning at its place
 abbrev pub unknown_key : Option (List ℕ) → List ℕ → LintError
 unknown_key section key = record { kind = kind.InvalidKey key; section = section; message = None }
 
--- a value that a key does not take
+-- a value that a key does not accept
 abbrev pub bad_value : List ℕ → List ℕ → List ℕ → List ℕ → LintError
 bad_value section key value message = record { kind = kind.InvalidValue key value; section = Some section; message = Some message }
 
@@ -69,7 +69,7 @@ differs (Some flag) fact = if flag then not fact else fact
 abbrev pub is_other_id : IdKind → Bool
 is_other_id k = kind_eq k id_kind.Other
 
--- whether the year of an ID of this kind is to be the date's
+-- whether an ID of this kind must have the year of the date
 abbrev pub shares_year : IdKind → Bool
 shares_year id_kind.RustSec = true
 shares_year id_kind.Cve = false
@@ -83,7 +83,7 @@ years_differ None d = false
 years_differ (Some year) None = false
 years_differ (Some year) (Some d) = not (year == d.year)
 
--- the rows of `id`, whose value prints so: on drafts, on its kind, on its year
+-- the rows of `id`, with the text of its value: for drafts, for its kind, for its year
 abbrev pub draft_row : Option Bool → Metadata → List ℕ → List LintError
 draft_row draft m printed =
     when (differs draft (is_placeholder m.id.text)) (advisory_value (codes "id") printed (codes "advisory ID draft status does not match file name"))
@@ -98,7 +98,7 @@ year_row m printed =
 abbrev pub id_rows : Option Bool → Metadata → List ℕ → List LintError
 id_rows draft m printed = draft_row draft m printed ++ (kind_row m printed ++ year_row m printed)
 
--- whether a category is none of the table
+-- whether a category is not one of the table
 abbrev pub is_other_category : Category → Bool
 is_other_category (category.Other text) = true
 is_other_category _ = false
@@ -112,11 +112,11 @@ abbrev pub informational_row : Option Informational → List LintError
 informational_row None = []
 informational_row (Some i) = when (is_other_kind i) (advisory_value (codes "informational") (informational_name i) (codes "unknown informational advisory type"))
 
--- the row of `url`, with its text as it is written
+-- the row of `url`, for its text as written
 abbrev pub url_row : List ℕ → List LintError
 url_row text = when (not (starts_with nat_eq text (codes "https://"))) (advisory_value (codes "url") (string_text text) (codes "URL must start with https://"))
 
--- whether a license is none of the table
+-- whether a license is not one of the table
 abbrev pub is_other_license : License → Bool
 is_other_license (license.Other text) = true
 is_other_license _ = false
@@ -130,7 +130,7 @@ abbrev pub of_string : (List ℕ → List LintError) → Data → List LintError
 of_string rows (string text) = rows text
 of_string rows _ = []
 
--- the keys of the section that mean something and have no row
+-- the keys of the section that have a meaning and no row
 abbrev pub quiet_keys : List (List ℕ)
 quiet_keys = codes "aliases" ∷ codes "cvss" ∷ codes "date" ∷ codes "description" ∷ codes "expect-deleted" ∷ codes "keywords" ∷ codes "package"
     ∷ codes "references" ∷ codes "related" ∷ codes "source" ∷ codes "title" ∷ codes "withdrawn" ∷ []
@@ -157,7 +157,7 @@ advisory_rows draft m entry =
 abbrev pub crate_name_of : List ℕ → List ℕ
 crate_name_of name = map (λ b. if b == 45 then 95 else b) name
 
--- whether a path begins so
+-- whether a path begins with this name
 abbrev pub begins_with : List ℕ → List (List ℕ) → Bool
 begins_with name [] = false
 begins_with name (first ∷ rest) = pointwise nat_eq first name

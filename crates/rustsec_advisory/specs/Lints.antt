@@ -1,4 +1,4 @@
--- What a linter finds in a text.
+-- The lint errors that a linter finds in a text.
 use Rattle.std.specs.Prelude.{◌≡◌, ℕ, Bool, List, Option}
 use Rattle.toml.specs.Data.{Members}
 use Rattle.rustsec_advisory.specs.Advisory.{IsAdvisoryWith}

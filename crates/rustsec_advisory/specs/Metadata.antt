@@ -19,7 +19,7 @@ use Rattle.rustsec_advisory.specs.declared.metadata.Subject.{Subject}
 use Rattle.rustsec_advisory.specs.declared.metadata.Terms.{Terms}
 use Rattle.rustsec_toml.specs.Fields.{defaulted, every, optional, required, text}
 
--- what the table says of the vulnerability: its names, its package and its day
+-- the subject in the table: names, package and day
 pub record IsSubject (table : Members) (s : Subject) : Type 0 where
   pub id : required (text id_of) (codes "id") table ≡ Some s.id
   pub name : required (text name_of) (codes "package") table ≡ Some s.name
@@ -27,7 +27,7 @@ pub record IsSubject (table : Members) (s : Subject) : Type 0 where
   pub aliases : defaulted [] (every (text id_of)) (codes "aliases") table ≡ Some s.aliases
   pub related : defaulted [] (every (text id_of)) (codes "related") table ≡ Some s.related
 
--- how it sorts the vulnerability
+-- the classification of the vulnerability
 pub record AreKinds (table : Members) (k : Kinds) : Type 0 where
   pub collection : optional (text collection_of) (codes "collection") table ≡ Some k.collection
   pub categories : defaulted [] (every (text (λ t. Some (category_of t)))) (codes "categories") table ≡ Some k.categories
@@ -35,19 +35,20 @@ pub record AreKinds (table : Members) (k : Kinds) : Type 0 where
   pub cvss : optional (text cvss_of) (codes "cvss") table ≡ Some k.cvss
   pub informational : optional (text (λ t. Some (informational_of t))) (codes "informational") table ≡ Some k.informational
 
--- what it says of where more is found
+-- references, source and address
 pub record IsOrigin (table : Members) (o : Origin) : Type 0 where
   pub references : defaulted [] (every (text address_of)) (codes "references") table ≡ Some o.references
   pub source : optional (text source_id_of) (codes "source") table ≡ Some o.source
   pub url : optional (text address_of) (codes "url") table ≡ Some o.url
 
--- on which terms it says that the advisory stands
+-- withdrawal, license and expectation of deletion
 pub record AreTerms (table : Members) (t : Terms) : Type 0 where
   pub withdrawn : optional (text date_of) (codes "withdrawn") table ≡ Some t.withdrawn
   pub license : defaulted default_license (text (λ t. Some (license_of t))) (codes "license") table ≡ Some t.license
   pub expect_deleted : defaulted false as_bool (codes "expect-deleted") table ≡ Some t.expect_deleted
 
--- the table says this, and the text around it the title and the description, which the table leaves empty
+-- the metadata of the table, with the title and the description of the text around it; in the table both are missing
+-- or empty
 pub record IsMetadata (table : Members) (title description : List ℕ) (m : Metadata) : Type 0 where
   pub no_title : defaulted [] as_str (codes "title") table ≡ Some []
   pub no_description : defaulted [] as_str (codes "description") table ≡ Some []

@@ -1,4 +1,4 @@
-// Addresses, which contracts see as they print.
+//! Addresses (URL Standard), which contracts see as they print.
 
 ghost use Rattle.std.specs.Prelude.{◌≡◌, IfErr, IfOk, None, Ok, Some, nat_eq};
 ghost use Rattle.std.specs.Cmp.{partial_equiv_from_equiv};
@@ -16,8 +16,8 @@ use std::fmt;
 use std::marker::Model;
 use url::{ParseError, ParseResult, Url};
 
-/// An address by the URL Standard, which was read from a text. Every contract sees it as the text that
-/// it prints; that text is read as the same address.
+/// An address that was parsed by the URL Standard. Every contract sees it as the text that it prints; parsing that
+/// text gives the same address.
 #[derive(Debug, Drop)]
 pub struct Address {
     url: Url,
@@ -35,7 +35,8 @@ impl Model for Address {
     ghost invariant = { λ a. parse_url None (serialize a.url) ≡ Ok a.url };
 }
 
-/// What the parser gives, none if it refuses its text. An error here is want of room alone.
+/// Returns the parsed address, or none if the parser refuses the text. Only an address beyond the size limit is an
+/// error.
 fn unless_no_room(parsed: ParseResult<Url>) -> std::result::Result<Option<Url>, AllocError>
     ensures { result ≡ unless_no_room parsed }
 {
@@ -46,7 +47,7 @@ fn unless_no_room(parsed: ParseResult<Url>) -> std::result::Result<Option<Url>, 
     }
 }
 
-/// Why the parser refuses a text.
+/// Returns the parser's reason to refuse a text.
 fn reason(alloc: Global, parsed: &ParseResult<Url>) -> std::result::Result<String, AllocError> {
     match parsed {
         Ok(_) => Ok(String::new(alloc)),
@@ -54,23 +55,23 @@ fn reason(alloc: Global, parsed: &ParseResult<Url>) -> std::result::Result<Strin
     }
 }
 
-/// The address of a text that the parser reads as this URL.
+/// Returns the address for a text that the parser reads as this URL.
 fn read_from(url: Url, text: &str) -> Address
     requires { parse_url None text.now ≡ Ok url }
     ensures { result ≡ serialize url }
 {
-    // A `Url` says of itself, where it is asked for its text, that it is valid.
+    // The contract of `as_str` states that a `Url` is valid; this call brings that fact into the proof.
     let _text = url.as_str();
     Address { url }
 }
 
 impl Address {
-    /// The address of a text.
+    /// Parses an address (URL Standard).
     ///
     /// # Errors
     ///
-    /// `Parse` if the URL Standard's parser refuses the text, with its reason; else `OutOfMemory`, for an
-    /// address beyond the 4 GB of the type `Url` too.
+    /// `Parse` if the URL Standard's parser refuses the text, with its reason; else `OutOfMemory`, also for
+    /// an address over 4 GB, the limit of the type `Url`.
     pub fn from_str(alloc: Global, text: &str) -> Result<Address>
         ensures ok { IfOk result (λ a. address_of text.now ≡ Some a) }
         ensures err { IfErr result (IsRefusal ErrorKind.Parse (address_of text.now ≡ None)) }
@@ -83,24 +84,24 @@ impl Address {
         }
     }
 
-    /// The address as the type of `url`.
+    /// Returns the address as the type of `url`.
     pub fn as_url(&self) -> &Url
         ensures { serialize result.now ≡ self.now }
     {
         &self.url
     }
 
-    /// The text that it prints.
+    /// Returns the text that it prints.
     pub fn as_str(&self) -> &str
         ensures value { result.now ≡ self.now }
 
-        // The text is read as this very address, whatever its scheme.
+        // Parsing the text gives the same address, whatever its scheme.
         ensures read_again { address_of self.now ≡ Some self.now }
     {
         self.url.as_str()
     }
 
-    /// An equal address.
+    /// Returns an equal address.
     ///
     /// # Errors
     ///

@@ -1,4 +1,4 @@
-// Advisories, and how a text is read as one.
+//! Advisories, and the reader of their files.
 
 ghost use Rattle.std.specs.Prelude.{◌≡◌, ◌⊎◌, ℕ, IfErr, IfOk, List, None, Some, is_some, option_and_then, string_bytes};
 ghost use Rattle.rustsec_lock.specs.Cvss.{cvss_severity};
@@ -25,19 +25,19 @@ use std::alloc::{AllocError, Global};
 use std::rt::Files;
 use toml::Table;
 
-/// A security advisory: what it says of itself, what is affected, and the requirements that tell
-/// which versions are.
+/// A security advisory: its metadata, the platforms and functions that are affected, and the requirements that
+/// determine the affected versions.
 #[derive(Debug, PartialEq, Eq)]
 pub struct Advisory {
-    /// The table `advisory` of its document, with its title and its description.
+    /// The table `advisory` of the document, with the title and the description.
     pub metadata: Metadata,
-    /// The table `affected`, where there is one.
+    /// The table `affected`, if present.
     pub affected: Option<Affected>,
     /// The requirements of the table `versions`.
     pub versions: Versions,
 }
 
-/// One place drops the fields, so that the end of an owner's life is one step of its proof.
+/// Hand-written: a derived `Drop` is proved again, field by field, at every exit of every owner.
 impl Drop for Advisory {
     fn drop(self) {
         let Advisory {
@@ -48,7 +48,7 @@ impl Drop for Advisory {
     }
 }
 
-/// The text of the document: the front matter, behind its header where that is left out.
+/// Returns the text of the document: the front matter, with the line `[advisory]` before it unless it begins so.
 fn document_text(alloc: Global, front: &str) -> std::result::Result<String, AllocError>
     ensures { IfOk result (λ s. string_bytes s ≡ document_text front.now) }
 {
@@ -60,7 +60,7 @@ fn document_text(alloc: Global, front: &str) -> std::result::Result<String, Allo
     Ok(text)
 }
 
-/// The refusal of a front matter that is no document, with the TOML reader's words for it.
+/// Returns the error for a front matter that is not a TOML document, with the reason of the TOML reader.
 fn no_document(alloc: Global, why: &str) -> Error
     ensures { IsOfKind ErrorKind.Parse result }
 {
@@ -70,7 +70,7 @@ fn no_document(alloc: Global, why: &str) -> Error
     }
 }
 
-/// The document of a front matter.
+/// Parses the document of a front matter.
 fn document(alloc: Global, front: &str) -> Result<Table>
     ensures ok { IfOk result (λ t. parse_document (document_text front.now) ≡ Some (table_view t)) }
     ensures err { IfErr result (IsRefusal ErrorKind.Parse (parse_document (document_text front.now) ≡ None)) }
@@ -87,7 +87,7 @@ fn document(alloc: Global, front: &str) -> Result<Table>
     }
 }
 
-/// The advisory of a document, with this title and description.
+/// Reads the advisory of a document, with this title and description.
 fn of_document(
     alloc: Global,
     document: Section<'_>,
@@ -124,7 +124,7 @@ fn of_document(
     })
 }
 
-/// The advisory of a text, and the document of its front matter.
+/// Parses an advisory, and returns the document of its front matter too.
 pub(crate) fn read(alloc: Global, text: &str) -> Result<(Advisory, Table)>
     ensures ok { IfOk result (λ r. IsAdvisoryWith text.now (table_view r.1) r.0) }
     ensures err { IfErr result (IsRefusal ErrorKind.Parse ((a : given.Advisory) → ¬ IsAdvisory text.now a)) }
@@ -140,13 +140,13 @@ pub(crate) fn read(alloc: Global, text: &str) -> Result<(Advisory, Table)>
 }
 
 impl Advisory {
-    /// The advisory of a text: front matter between fences, then Markdown under a title.
+    /// Parses an advisory: front matter between fences, then Markdown with a title.
     ///
     /// # Errors
     ///
-    /// `Parse` where the text is no advisory: where it has no such parts, the front matter is no TOML
-    /// document, a key that must be there is missing, a value is of another kind or refused, or the
-    /// versions are not accepted; else `OutOfMemory`.
+    /// `Parse` if the text does not have such parts, its front matter is not a TOML document, a required
+    /// key is missing, a value is of another kind or refused, or the versions are not accepted; else
+    /// `OutOfMemory`.
     pub fn from_str(alloc: Global, text: &str) -> Result<Advisory>
         ensures ok { IfOk result (IsAdvisory text.now) }
         ensures only { IfOk result (λ a. (b : given.Advisory) → IsAdvisory text.now b → b ≡ a) }
@@ -201,35 +201,35 @@ impl Advisory {
         Advisory::of_file(alloc, path, text.as_str())
     }
 
-    /// The ID.
+    /// Returns the ID.
     pub fn id(&self) -> &Id
         ensures { result.now ≡ self.now.metadata.id }
     {
         &self.metadata.id
     }
 
-    /// The title.
+    /// Returns the title.
     pub fn title(&self) -> &str
         ensures { result.now ≡ self.now.metadata.title }
     {
         self.metadata.title.as_str()
     }
 
-    /// The description.
+    /// Returns the description.
     pub fn description(&self) -> &str
         ensures { result.now ≡ self.now.metadata.description }
     {
         self.metadata.description.as_str()
     }
 
-    /// The day on which the vulnerability was made known.
+    /// Returns the day on which the vulnerability was disclosed.
     pub fn date(&self) -> &Date
         ensures { result.now ≡ self.now.metadata.date }
     {
         &self.metadata.date
     }
 
-    /// The severity, where there is a CVSS vector of version 3.
+    /// Returns the severity of the CVSS vector, if there is a vector of version 3.
     pub fn severity(&self) -> Option<Severity>
         ensures { result ≡ option_and_then cvss_severity self.now.metadata.cvss }
     {
@@ -239,14 +239,14 @@ impl Advisory {
         }
     }
 
-    /// Whether it was withdrawn.
+    /// Returns whether it was withdrawn.
     pub fn withdrawn(&self) -> bool
         ensures { result ≡ is_some self.now.metadata.withdrawn }
     {
         self.metadata.withdrawn.is_some()
     }
 
-    /// The parts, by value. This takes no memory.
+    /// Takes the advisory apart. This takes no memory.
     pub fn into_parts(self) -> (Metadata, Option<Affected>, Versions)
         ensures { result ≡ (self.metadata, self.affected, self.versions) }
     {
@@ -258,14 +258,14 @@ impl Advisory {
         (metadata, affected, versions)
     }
 
-    /// Whether a path is a draft's: whether its file's name begins with `RUSTSEC-0000-0000.`.
+    /// Returns whether a path is that of a draft: whether its file name begins with `RUSTSEC-0000-0000.`.
     pub fn is_draft(path: &str) -> bool
         ensures { result ≡ is_draft path.now }
     {
         path::is_draft(path)
     }
 
-    /// An equal advisory.
+    /// Returns an equal advisory.
     ///
     /// # Errors
     ///

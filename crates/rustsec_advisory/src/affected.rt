@@ -1,4 +1,4 @@
-// Which platforms and functions of a package an advisory affects.
+//! The platforms and functions of a package that an advisory affects.
 
 ghost use Rattle.std.specs.Prelude.{◌≡◌, [], IfErr, IfOk};
 ghost use Rattle.rustsec_versions.specs.Failure.{IsMemory};
@@ -9,18 +9,18 @@ use rustsec_values::{ExactClone, ExactEq, Items, SortedMap};
 use rustsec_versions::{Requirements, Result};
 use std::alloc::{AllocError, Global};
 
-/// Which platforms and functions are affected.
+/// The affected platforms and functions.
 #[derive(Debug, PartialEq, Eq)]
 pub struct Affected {
-    /// The architectures; all of them where there is none.
+    /// The architectures; an empty list means all.
     pub arch: Items<Arch>,
-    /// The systems; all of them where there is none.
+    /// The systems; an empty list means all.
     pub os: Items<OS>,
-    /// The functions, each with the requirements of the versions in which it is affected.
+    /// The functions, each with requirements for the versions in which it is affected.
     pub functions: SortedMap<FunctionPath, Requirements>,
 }
 
-/// One place drops the fields, so that the end of an owner's life is one step of its proof.
+/// Hand-written: a derived `Drop` is proved again, field by field, at every exit of every owner.
 impl Drop for Affected {
     fn drop(self) {
         let Affected {
@@ -32,7 +32,7 @@ impl Drop for Affected {
 }
 
 impl Affected {
-    /// No platform and no function is named. This takes no memory.
+    /// Returns a value that names no platform and no function. This takes no memory.
     pub fn default(alloc: Global) -> Affected
         ensures { result ≡ record { arch = []; os = []; functions = [] } }
     {
@@ -43,7 +43,7 @@ impl Affected {
         }
     }
 
-    /// The architectures, the systems and the functions, by value. This takes no memory.
+    /// Takes the value apart: architectures, systems and functions. This takes no memory.
     pub fn into_parts(
         self,
     ) -> (
@@ -61,7 +61,7 @@ impl Affected {
         (arch, os, functions)
     }
 
-    /// An equal value.
+    /// Returns an equal value.
     ///
     /// # Errors
     ///

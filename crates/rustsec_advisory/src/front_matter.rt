@@ -1,4 +1,4 @@
-// The tables of a front matter's document.
+//! Reads the tables of a front matter's document.
 
 ghost use Rattle.std.specs.Prelude.{◌≡◌, ◌≢◌, [], IfErr, IfOk, List, None, OnOk, Option, Some};
 ghost use Rattle.toml.specs.Data.{as_str, get_member};
@@ -27,7 +27,7 @@ use rustsec_versions::{Error, ErrorKind, Requirements, Result, Versions};
 use std::alloc::{AllocError, Global};
 use toml::Table;
 
-/// What the table `advisory` says of the vulnerability: its names, its package and its day.
+/// Reads the subject from the table `advisory`: names, package and day.
 fn subject(alloc: Global, section: Section<'_>) -> Result<Subject>
     ensures ok { IfOk result (λ s. IsSubject (table_view section.entry.table.now) s) }
     ensures err { IfErr result (IsRefusal ErrorKind.Parse ((s : subject.Subject) → ¬ IsSubject (table_view section.entry.table.now) s)) }
@@ -41,7 +41,7 @@ fn subject(alloc: Global, section: Section<'_>) -> Result<Subject>
     })
 }
 
-/// How the table `advisory` sorts the vulnerability.
+/// Reads the classification of the vulnerability from the table `advisory`.
 fn kinds(alloc: Global, section: Section<'_>) -> Result<Kinds>
     ensures ok { IfOk result (λ k. AreKinds (table_view section.entry.table.now) k) }
     ensures err { IfErr result (IsRefusal ErrorKind.Parse ((k : kinds.Kinds) → ¬ AreKinds (table_view section.entry.table.now) k)) }
@@ -55,7 +55,7 @@ fn kinds(alloc: Global, section: Section<'_>) -> Result<Kinds>
     })
 }
 
-/// What the table `advisory` says of where more is found.
+/// Reads the references, the source and the address from the table `advisory`.
 fn origin(alloc: Global, section: Section<'_>) -> Result<Origin>
     ensures ok { IfOk result (λ o. IsOrigin (table_view section.entry.table.now) o) }
     ensures err { IfErr result (IsRefusal ErrorKind.Parse ((o : origin.Origin) → ¬ IsOrigin (table_view section.entry.table.now) o)) }
@@ -67,7 +67,7 @@ fn origin(alloc: Global, section: Section<'_>) -> Result<Origin>
     })
 }
 
-/// On which terms the table `advisory` says that the advisory stands.
+/// Reads the withdrawal, the license and the expectation of deletion from the table `advisory`.
 fn terms(alloc: Global, section: Section<'_>) -> Result<Terms>
     ensures ok { IfOk result (λ t. AreTerms (table_view section.entry.table.now) t) }
     ensures err { IfErr result (IsRefusal ErrorKind.Parse ((t : terms.Terms) → ¬ AreTerms (table_view section.entry.table.now) t)) }
@@ -79,7 +79,7 @@ fn terms(alloc: Global, section: Section<'_>) -> Result<Terms>
     })
 }
 
-/// Checks that there is no text at a key, or an empty one.
+/// Checks that the string at a key is missing or empty.
 fn no_text_at(alloc: Global, section: Section<'_>, key: &str) -> Result<()>
     ensures ok { OnOk result (defaulted [] as_str key.now (table_view section.entry.table.now) ≡ Some []) }
     ensures err { IfErr result (IsRefusal ErrorKind.Parse (defaulted [] as_str key.now (table_view section.entry.table.now) ≢ Some [])) }
@@ -93,7 +93,7 @@ fn no_text_at(alloc: Global, section: Section<'_>, key: &str) -> Result<()>
     }
 }
 
-/// What the table `advisory` says, with the title and the description from around it.
+/// Reads the table `advisory`, with the title and the description of the Markdown.
 pub fn metadata(
     alloc: Global,
     section: Section<'_>,
@@ -115,7 +115,7 @@ pub fn metadata(
     Ok(Metadata::of_groups(subject, kinds, origin, terms, title, description))
 }
 
-/// A refusal of lists of requirements, as the refusal of the table that holds them.
+/// Turns an error about lists of requirements into the error of the table that holds them.
 fn as_parse(alloc: Global, section: Section<'_>, error: Error) -> Error
     ensures memory { error ≡ out_of_memory → result ≡ out_of_memory }
     ensures kind { IsOfKind ErrorKind.Parse result }
@@ -133,7 +133,7 @@ fn as_parse(alloc: Global, section: Section<'_>, error: Error) -> Error
     }
 }
 
-/// The lists of the table `versions`.
+/// Reads the lists of the table `versions`.
 pub fn versions(alloc: Global, section: Section<'_>) -> Result<Versions>
     ensures ok { IfOk result (AreVersions (table_view section.entry.table.now)) }
     ensures err { IfErr result (IsRefusal ErrorKind.Parse ((ls : Lists) → ¬ AreVersions (table_view section.entry.table.now) ls)) }
@@ -146,7 +146,7 @@ pub fn versions(alloc: Global, section: Section<'_>) -> Result<Versions>
     }
 }
 
-/// The table of the functions, under its name.
+/// Returns the table of functions, with its name for errors.
 fn functions_section(table: &Table) -> Section<'_>
     ensures { table_view result.table.now ≡ table_view table.now }
 {
@@ -156,7 +156,7 @@ fn functions_section(table: &Table) -> Section<'_>
     }
 }
 
-/// The path of a key of the table of the functions.
+/// Parses a key of the table of functions as a path.
 fn function_path(alloc: Global, table: &Table, key: &str) -> Result<FunctionPath>
     ensures ok { IfOk result (λ p. path_of key.now ≡ Some p) }
     ensures err { IfErr result (IsRefusal ErrorKind.Parse (path_of key.now ≡ None)) }
@@ -164,7 +164,7 @@ fn function_path(alloc: Global, table: &Table, key: &str) -> Result<FunctionPath
     functions_section(table).read(alloc, key, key)
 }
 
-/// The functions of a table, by their paths.
+/// Reads the functions of a table, by their paths.
 fn functions(alloc: Global, table: &Table) -> Result<SortedMap<FunctionPath, Requirements>>
     ensures ok { IfOk result (AreFunctions (table_view table.now)) }
     ensures err { IfErr result (IsRefusal ErrorKind.Parse ((fs : List Function) → ¬ AreFunctions (table_view table.now) fs)) }
@@ -179,7 +179,7 @@ fn functions(alloc: Global, table: &Table) -> Result<SortedMap<FunctionPath, Req
     Ok(functions)
 }
 
-/// The functions at a key, none if it is missing.
+/// Reads the functions at a key; none if the key is missing.
 fn functions_at(
     alloc: Global,
     section: Section<'_>,
@@ -198,7 +198,7 @@ fn functions_at(
     }
 }
 
-/// What the table `affected` says.
+/// Reads the table `affected`.
 fn affected_in(alloc: Global, section: Section<'_>) -> Result<Affected>
     ensures ok { IfOk result (IsAffected (table_view section.entry.table.now)) }
     ensures err { IfErr result (IsRefusal ErrorKind.Parse ((a : affected.Affected) → ¬ IsAffected (table_view section.entry.table.now) a)) }
@@ -213,7 +213,7 @@ fn affected_in(alloc: Global, section: Section<'_>) -> Result<Affected>
     })
 }
 
-/// What the table `affected` says at a key, if it is there.
+/// Reads the table `affected` at a key, if the key is present.
 pub fn affected_at(alloc: Global, section: Section<'_>, key: &str) -> Result<Option<Affected>>
     ensures ok { IfOk result (IsAffectedAt (get_member key.now (table_view section.entry.table.now))) }
     ensures err { IfErr result (IsRefusal ErrorKind.Parse

@@ -1,4 +1,4 @@
-//! Advisories of the RustSec database: their files, and the lint errors that a linter finds in them.
+//! Advisories of the RustSec database: their files, and the linter for them.
 #![tactic(auto)]
 
 mod address;

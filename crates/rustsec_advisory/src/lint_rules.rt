@@ -1,4 +1,4 @@
-// The walk over the keys of a document that finds an advisory's lint errors.
+//! Finds an advisory's lint errors by a walk over the keys of its document.
 
 ghost use Rattle.std.specs.Prelude.{◌≡◌, ◌++◌, ◌&&◌, IfErr, IfOk, OnOk, false, flat_map, string_bytes};
 ghost use Rattle.std.specs.Option.{option_copied};
@@ -22,7 +22,7 @@ use std::fmt;
 use std::fmt::Formatter;
 use toml::{Table, Value};
 
-/// A lint error of a value: where it stands, how it prints, and what is wrong with it.
+/// A lint error for a value: its place, its text, and what is wrong with it.
 #[derive(Clone, Copy)]
 struct BadValue<'a> {
     section: &'a str,
@@ -32,7 +32,7 @@ struct BadValue<'a> {
 }
 
 impl<'a> BadValue<'a> {
-    /// Appends the lint error, where a test holds.
+    /// Appends the lint error, if a test holds.
     fn add_if(self, alloc: Global, errors: &mut Items<Error>, test: bool) -> Result<()>
         ensures ok { OnOk result (errors.new ≡ errors.old ++ when test (bad_value self.entry.section.now self.entry.name.now self.entry.value.now self.entry.message.now)) }
         ensures err { IfErr result IsMemory }
@@ -46,7 +46,7 @@ impl<'a> BadValue<'a> {
     }
 }
 
-/// Appends a lint error of a section's content, where a test holds.
+/// Appends a lint error for a section's content, if a test holds.
 fn add_content(
     alloc: Global,
     errors: &mut Items<Error>,
@@ -64,7 +64,7 @@ fn add_content(
     Ok(())
 }
 
-/// Appends the lint error of a key that has no meaning where it stands, where a test holds.
+/// Appends the lint error for a key without a meaning at its place, if a test holds.
 fn add_key(
     alloc: Global,
     errors: &mut Items<Error>,
@@ -83,7 +83,7 @@ fn add_key(
     Ok(())
 }
 
-/// Whether a flag is given and differs from a fact.
+/// Returns whether a flag is given and differs from a fact.
 fn differs(flag: Option<bool>, fact: bool) -> bool
     ensures { result ≡ differs flag fact }
 {
@@ -93,7 +93,7 @@ fn differs(flag: Option<bool>, fact: bool) -> bool
     }
 }
 
-/// Whether the ID names a year that is not the date's. An ID of MITRE's may.
+/// Returns whether the ID's year differs from the date's. CVE IDs are exempt.
 fn names_another_year(metadata: &Metadata) -> bool
     ensures { result ≡ (shares_year metadata.now.id.kind && years_differ metadata.now.id.year (day_of metadata.now.date)) }
 {
@@ -104,7 +104,7 @@ fn names_another_year(metadata: &Metadata) -> bool
     }
 }
 
-/// Appends the lint error of an ID beside a draft flag, where there is one.
+/// Appends the lint error for an ID that disagrees with the draft flag, if so.
 fn lint_draft(
     alloc: Global,
     errors: &mut Items<Error>,
@@ -125,7 +125,7 @@ fn lint_draft(
     bad.add_if(alloc, errors, test)
 }
 
-/// Appends the lint error of an ID of no known kind.
+/// Appends the lint error for an ID of no known kind.
 fn lint_kind(
     alloc: Global,
     errors: &mut Items<Error>,
@@ -145,7 +145,7 @@ fn lint_kind(
     bad.add_if(alloc, errors, test)
 }
 
-/// Appends the lint error of an ID of another year than the date's.
+/// Appends the lint error for an ID whose year is not the date's.
 fn lint_year(
     alloc: Global,
     errors: &mut Items<Error>,
@@ -165,7 +165,7 @@ fn lint_year(
     bad.add_if(alloc, errors, test)
 }
 
-/// Appends the lint errors of the ID, which prints so.
+/// Appends the lint errors for the ID; `value` is its text in them.
 fn lint_id(
     alloc: Global,
     errors: &mut Items<Error>,
@@ -181,14 +181,14 @@ fn lint_id(
     lint_year(alloc, errors, metadata, printed)
 }
 
-/// Whether a category is none of the table.
+/// Returns whether a category is not one of the table.
 fn is_other_category(category: &Category) -> bool
     ensures { result ≡ is_other_category category.now }
 {
     matches!(category, Category::Other(_))
 }
 
-/// Appends the lint error of a category.
+/// Appends the lint error for a category.
 fn lint_category(alloc: Global, errors: &mut Items<Error>, category: &Category) -> Result<()>
     ensures ok { OnOk result (errors.new ≡ errors.old ++ category_row category.now) }
     ensures err { IfErr result IsMemory }
@@ -203,7 +203,7 @@ fn lint_category(alloc: Global, errors: &mut Items<Error>, category: &Category) 
     bad.add_if(alloc, errors, test)
 }
 
-/// Appends the lint errors of the categories.
+/// Appends the lint errors for the categories.
 fn lint_categories(alloc: Global, errors: &mut Items<Error>, categories: &[Category]) -> Result<()>
     ensures ok { OnOk result (errors.new ≡ errors.old ++ flat_map category_row categories.now) }
     ensures err { IfErr result IsMemory }
@@ -214,7 +214,7 @@ fn lint_categories(alloc: Global, errors: &mut Items<Error>, categories: &[Categ
     Ok(())
 }
 
-/// Appends the lint error of an informational kind.
+/// Appends the lint error for an informational kind.
 fn lint_informational(
     alloc: Global,
     errors: &mut Items<Error>,
@@ -235,7 +235,7 @@ fn lint_informational(
     bad.add_if(alloc, errors, kind.is_other())
 }
 
-/// How a value prints.
+/// Returns a value as TOML prints it.
 fn printed(alloc: Global, value: &Value) -> std::result::Result<String, AllocError>
     ensures { IfOk result (λ s. IsValueText false (view value.now) (string_bytes s)) }
 {
@@ -246,7 +246,7 @@ fn printed(alloc: Global, value: &Value) -> std::result::Result<String, AllocErr
     }
 }
 
-/// Appends the lint error of an address, which the URL Standard's parser took.
+/// Appends the lint error for an address that the URL Standard's parser accepted.
 fn lint_url(alloc: Global, errors: &mut Items<Error>, value: &Value) -> Result<()>
     ensures ok { OnOk result (errors.new ≡ errors.old ++ of_string url_row (view value.now)) }
     ensures err { IfErr result IsMemory }
@@ -265,14 +265,14 @@ fn lint_url(alloc: Global, errors: &mut Items<Error>, value: &Value) -> Result<(
     bad.add_if(alloc, errors, test)
 }
 
-/// Whether a license is none of the table.
+/// Returns whether a license is not one of the table.
 fn is_other_license(license: &License) -> bool
     ensures { result ≡ is_other_license license.now }
 {
     matches!(license, License::Other(_))
 }
 
-/// Appends the lint error of a license.
+/// Appends the lint error for a license.
 fn lint_license(alloc: Global, errors: &mut Items<Error>, license: &License) -> Result<()>
     ensures ok { OnOk result (errors.new ≡ errors.old ++ license_row license.now) }
     ensures err { IfErr result IsMemory }
@@ -287,7 +287,7 @@ fn lint_license(alloc: Global, errors: &mut Items<Error>, license: &License) -> 
     bad.add_if(alloc, errors, test)
 }
 
-/// Whether a key of the section `advisory` has a meaning, and no lint error of its own.
+/// Returns whether a key of the section `advisory` has a meaning and never has a lint error.
 fn is_quiet(key: &str) -> bool
     ensures { result ≡ is_one_of quiet_keys key.now }
 {
@@ -308,7 +308,7 @@ fn is_quiet(key: &str) -> bool
     )
 }
 
-/// Appends the lint errors of the ID, where its value is a string.
+/// Appends the lint errors for the ID, if its value is a string.
 fn lint_id_value(
     alloc: Global,
     errors: &mut Items<Error>,
@@ -326,7 +326,7 @@ fn lint_id_value(
     lint_id(alloc, errors, draft, metadata, &printed)
 }
 
-/// Appends the lint errors of a key of the section `advisory`.
+/// Appends the lint errors for a key of the section `advisory`.
 fn lint_advisory_key(
     alloc: Global,
     errors: &mut Items<Error>,
@@ -362,7 +362,7 @@ fn lint_advisory_key(
     }
 }
 
-/// Appends the lint errors of the section `advisory`.
+/// Appends the lint errors for the section `advisory`.
 fn lint_advisory(
     alloc: Global,
     errors: &mut Items<Error>,
@@ -379,7 +379,7 @@ fn lint_advisory(
     Ok(())
 }
 
-/// The name of a crate, as paths of its functions begin: that of its package with `_` for `-`.
+/// Returns the crate name with which paths of its functions begin: the package's name with `_` for `-`.
 fn crate_name(alloc: Global, name: &str) -> std::result::Result<Vec<u8>, AllocError>
     ensures { IfOk result (λ v. v.items ≡ crate_name_of name.now) }
 {
@@ -390,14 +390,14 @@ fn crate_name(alloc: Global, name: &str) -> std::result::Result<Vec<u8>, AllocEr
     Ok(bytes)
 }
 
-/// Whether a path begins with the name of a crate.
+/// Returns whether a path begins with the name of a crate.
 fn begins_with(name: &[u8], path: &FunctionPath) -> bool
     ensures { result ≡ begins_with name.now path.now }
 {
     path.crate_name().as_bytes() == name
 }
 
-/// Appends the lint error of a function whose path does not begin with the name of its crate.
+/// Appends the lint error for a function whose path does not begin with the name of its crate.
 fn lint_function(
     alloc: Global,
     errors: &mut Items<Error>,
@@ -418,7 +418,7 @@ fn lint_function(
     bad.add_if(alloc, errors, test)
 }
 
-/// Appends the lint errors of some functions of a crate.
+/// Appends the lint errors for some functions of a crate.
 fn lint_paths(
     alloc: Global,
     errors: &mut Items<Error>,
@@ -434,7 +434,7 @@ fn lint_paths(
     Ok(())
 }
 
-/// Appends the lint errors of the functions of an advisory.
+/// Appends the lint errors for the functions of an advisory.
 fn lint_functions(alloc: Global, errors: &mut Items<Error>, advisory: &Advisory) -> Result<()>
     ensures ok { OnOk result (errors.new ≡ errors.old ++ flat_map (function_row (crate_name_of advisory.now.metadata.«package»)) (paths_in advisory.now.affected)) }
     ensures err { IfErr result IsMemory }
@@ -446,14 +446,14 @@ fn lint_functions(alloc: Global, errors: &mut Items<Error>, advisory: &Advisory)
     lint_paths(alloc, errors, &name, &affected.functions)
 }
 
-/// Whether a key of the section `affected` names platforms.
+/// Returns whether a key of the section `affected` names platforms.
 fn is_platform_key(key: &str) -> bool
     ensures { result ≡ is_one_of platform_keys key.now }
 {
     matches!(key, "arch" | "os")
 }
 
-/// Appends the lint errors of a key of the section `affected`.
+/// Appends the lint errors for a key of the section `affected`.
 fn lint_affected_key(
     alloc: Global,
     errors: &mut Items<Error>,
@@ -469,7 +469,7 @@ fn lint_affected_key(
     }
 }
 
-/// Appends the lint errors of the section `affected`.
+/// Appends the lint errors for the section `affected`.
 fn lint_affected(
     alloc: Global,
     errors: &mut Items<Error>,
@@ -485,7 +485,7 @@ fn lint_affected(
     Ok(())
 }
 
-/// Appends the lint errors of a key of the section `versions`.
+/// Appends the lint errors for a key of the section `versions`.
 fn lint_versions_key(alloc: Global, errors: &mut Items<Error>, key: &str) -> Result<()>
     ensures ok { OnOk result (errors.new ≡ errors.old ++ versions_rows key.now) }
     ensures err { IfErr result IsMemory }
@@ -496,7 +496,7 @@ fn lint_versions_key(alloc: Global, errors: &mut Items<Error>, key: &str) -> Res
     }
 }
 
-/// Appends the lint errors of the section `versions`.
+/// Appends the lint errors for the section `versions`.
 fn lint_versions(alloc: Global, errors: &mut Items<Error>, table: &Table) -> Result<()>
     ensures ok { OnOk result (errors.new ≡ errors.old ++ flat_map (λ e. versions_rows e.0) (members_of (table_view table.now))) }
     ensures err { IfErr result IsMemory }
@@ -507,7 +507,7 @@ fn lint_versions(alloc: Global, errors: &mut Items<Error>, table: &Table) -> Res
     Ok(())
 }
 
-/// Appends the lint errors of a section.
+/// Appends the lint errors for a section.
 fn lint_section(
     alloc: Global,
     errors: &mut Items<Error>,
@@ -527,7 +527,7 @@ fn lint_section(
     }
 }
 
-/// Appends the lint errors of a key at the top.
+/// Appends the lint errors for a key at the top.
 fn lint_top_key(
     alloc: Global,
     errors: &mut Items<Error>,
@@ -546,7 +546,7 @@ fn lint_top_key(
     lint_section(alloc, errors, draft, advisory, key, table)
 }
 
-/// The lint errors of a document and its advisory.
+/// Returns the lint errors of a document and its advisory.
 pub(crate) fn of_document(
     alloc: Global,
     draft: Option<bool>,

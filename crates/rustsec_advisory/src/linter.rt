@@ -1,4 +1,4 @@
-//! The linter of advisories: it finds the lint errors that the reader of advisories lets pass.
+//! The linter of advisories: it finds lint errors in advisories that the reader accepts.
 
 ghost use Rattle.std.specs.Prelude.{◌≡◌, ◌⊎◌, ℕ, List, IfErr, IfOk, Some, false, true};
 ghost use Rattle.std.specs.Fmt.{DisplaysOnOk};
@@ -29,22 +29,22 @@ use std::rt::Files;
 pub enum ErrorKind {
     /// A section has content that it should not have.
     Malformed,
-    /// A key has no meaning where it stands.
+    /// A key without a meaning at its place.
     InvalidKey {
         /// The key.
         name: Text,
     },
-    /// A value that its key does not take.
+    /// A value that its key does not accept.
     InvalidValue {
         /// The key.
         name: Text,
-        /// The value, as it prints.
+        /// The value as TOML prints it.
         value: Text,
     },
 }
 
 impl ErrorKind {
-    /// A key that has no meaning where it stands.
+    /// Returns the kind for a key without a meaning at its place.
     ///
     /// # Errors
     ///
@@ -57,7 +57,7 @@ impl ErrorKind {
         Ok(ErrorKind::InvalidKey { name })
     }
 
-    /// A value that its key does not take.
+    /// Returns the kind for a value that its key does not accept.
     ///
     /// # Errors
     ///
@@ -71,7 +71,7 @@ impl ErrorKind {
         Ok(ErrorKind::InvalidValue { name, value })
     }
 
-    /// An equal kind.
+    /// Returns an equal kind.
     ///
     /// # Errors
     ///
@@ -128,7 +128,7 @@ impl fmt::Display for ErrorKind {
     }
 }
 
-/// A lint error: its kind, the section where it stands, and a message.
+/// A lint error: its kind, its section, and a message.
 #[derive(Debug, PartialEq, Eq)]
 pub struct Error {
     kind: ErrorKind,
@@ -136,7 +136,7 @@ pub struct Error {
     message: Option<Text>,
 }
 
-/// One place drops the fields, so that the end of an owner's life is one step of its proof.
+/// Hand-written: a derived `Drop` is proved again, field by field, at every exit of every owner.
 impl Drop for Error {
     fn drop(self) {
         let Error {
@@ -158,7 +158,7 @@ impl Model for Error {
 }
 
 impl Error {
-    /// A lint error with copies of these texts.
+    /// Returns a lint error with copies of these texts.
     pub(crate) fn new(
         alloc: Global,
         kind: ErrorKind,
@@ -177,28 +177,28 @@ impl Error {
         })
     }
 
-    /// The kind.
+    /// Returns the kind.
     pub fn kind(&self) -> &ErrorKind
         ensures { result.now ≡ self.now.kind }
     {
         &self.kind
     }
 
-    /// The section of the advisory where the lint error stands; none for the top.
+    /// Returns the section of the lint error; none for the top of the document.
     pub fn section(&self) -> Option<&str>
         ensures { option_copied result ≡ self.now.section }
     {
         text_of(&self.section)
     }
 
-    /// What is wrong, where the kind alone does not tell.
+    /// Returns the message, if the kind alone does not say what is wrong.
     pub fn message(&self) -> Option<&str>
         ensures { option_copied result ≡ self.now.message }
     {
         text_of(&self.message)
     }
 
-    /// An equal lint error.
+    /// Returns an equal lint error.
     ///
     /// # Errors
     ///
@@ -212,7 +212,7 @@ impl Error {
     }
 }
 
-/// A text that may be missing, as std's type.
+/// Returns a text that may be missing, as std's type.
 fn text_of(text: &Option<Text>) -> Option<&str>
     ensures { option_copied result ≡ text.now }
 {
@@ -247,7 +247,7 @@ impl ExactEq for Error {
     ghost decides = { lint_error_decides };
 }
 
-/// Writes where a lint error stands.
+/// Writes the section of a lint error.
 fn write_section<W: fmt::Write>(f: &mut fmt::Formatter<W>, section: &Option<Text>) -> fmt::Result
     ensures { DisplaysOnOk W.write_str_gives f.old result (Some (section_text section.now)) f.new }
 {
@@ -257,7 +257,7 @@ fn write_section<W: fmt::Write>(f: &mut fmt::Formatter<W>, section: &Option<Text
     }
 }
 
-/// Writes a message, where there is one.
+/// Writes a message, if any.
 fn write_message<W: fmt::Write>(f: &mut fmt::Formatter<W>, message: &Option<Text>) -> fmt::Result
     ensures { DisplaysOnOk W.write_str_gives f.old result (Some (message_text message.now)) f.new }
 {
@@ -284,7 +284,7 @@ pub struct Linter {
     errors: Items<Error>,
 }
 
-/// One place drops the fields, so that the end of an owner's life is one step of its proof.
+/// Hand-written: a derived `Drop` is proved again, field by field, at every exit of every owner.
 impl Drop for Linter {
     fn drop(self) {
         let Linter {
@@ -295,12 +295,12 @@ impl Drop for Linter {
 }
 
 impl Linter {
-    /// Reads an advisory from a text, and finds its lint errors. `draft` tells whether its file is a
-    /// draft's, where that is known.
+    /// Parses an advisory and finds its lint errors. `draft` is whether its file is a draft's, if that is
+    /// known.
     ///
     /// # Errors
     ///
-    /// `Parse` where the text is no advisory; else `OutOfMemory`.
+    /// `Parse` if the text is not an advisory; else `OutOfMemory`.
     pub fn lint_string(alloc: Global, text: &str, draft: Option<bool>) -> Result<Linter>
         ensures ok { IfOk result (λ l. Lints text.now draft l.advisory l.errors) }
         ensures only { IfOk result (λ l. (b : given.Advisory) (fs : List LintError)
@@ -343,14 +343,14 @@ impl Linter {
         Linter::lint_file_with(alloc, &mut RealFolders::new(rt), path)
     }
 
-    /// The advisory.
+    /// Returns the advisory.
     pub fn advisory(&self) -> &Advisory
         ensures { result.now ≡ self.now.advisory }
     {
         &self.advisory
     }
 
-    /// Its lint errors, in the order of the document's keys.
+    /// Returns its lint errors, in the order of the document's keys.
     pub fn errors(&self) -> &[Error]
         ensures { result.now ≡ self.now.errors }
     {

@@ -1,4 +1,4 @@
-// What an advisory says of itself.
+//! The metadata of an advisory.
 
 ghost use Rattle.std.specs.Prelude.{◌≡◌, IfErr, IfOk};
 ghost use Rattle.rustsec_advisory.specs.FieldGroups.{kinds_of, origin_of, subject_of, terms_of};
@@ -12,82 +12,81 @@ use rustsec_values::{ExactClone, ExactEq, Items, Text};
 use rustsec_versions::Result;
 use std::alloc::{AllocError, Global};
 
-/// What an advisory says of itself: the table `advisory` of its document, and its title and its
-/// description.
+/// The metadata of an advisory: the table `advisory` of its document, and its title and description.
 #[derive(Debug, PartialEq, Eq)]
 pub struct Metadata {
     /// The ID.
     pub id: Id,
     /// The name of the package.
     pub package: Name,
-    /// The title, which stands behind the front matter.
+    /// The title, which follows the front matter.
     pub title: Text,
-    /// The description, which stands behind the title.
+    /// The description, which follows the title.
     pub description: Text,
-    /// The day on which the vulnerability was made known.
+    /// The day on which the vulnerability was disclosed.
     pub date: Date,
     /// IDs of the same vulnerability.
     pub aliases: Items<Id>,
-    /// IDs of others that go with it.
+    /// IDs of related vulnerabilities.
     pub related: Items<Id>,
-    /// The collection that it stands in, where the file says so.
+    /// The collection of the package, if the file names it.
     pub collection: Option<Collection>,
     /// The categories of the vulnerability.
     pub categories: Items<Category>,
-    /// Words to look for it by.
+    /// Keywords to find the advisory by.
     pub keywords: Items<Keyword>,
-    /// How severe it is.
+    /// The CVSS vector, which gives the severity.
     pub cvss: Option<Cvss>,
-    /// What it informs of, where it is no vulnerability.
+    /// The concern, if the advisory is informational.
     pub informational: Option<Informational>,
-    /// Addresses of more about it.
+    /// Addresses with more information.
     pub references: Items<Address>,
-    /// The source of the package, where it is not the default registry.
+    /// The source of the package, if it is not the default registry.
     pub source: Option<SourceId>,
     /// The address of an announcement.
     pub url: Option<Address>,
-    /// The day on which it was withdrawn, where it was.
+    /// The day on which it was withdrawn, if it was.
     pub withdrawn: Option<Date>,
     /// The license of the text.
     pub license: License,
-    /// Whether the package may be gone from its registry.
+    /// Whether the package may be deleted from its registry.
     pub expect_deleted: bool,
 }
 
-/// What an advisory says of the vulnerability: its names, its package and its day.
+/// The subject of an advisory: names, package and day.
 #[derive(Drop)]
 pub struct Subject {
     /// The ID.
     pub id: Id,
     /// The name of the package.
     pub name: Name,
-    /// The day on which it was made known.
+    /// The day on which it was disclosed.
     pub date: Date,
     /// IDs of the same vulnerability.
     pub aliases: Items<Id>,
-    /// IDs of others that go with it.
+    /// IDs of related vulnerabilities.
     pub related: Items<Id>,
 }
 
-/// How an advisory sorts the vulnerability.
+/// The classification of the vulnerability.
 #[derive(Drop)]
 pub struct Kinds {
-    /// The collection that it stands in, if the file says so.
+    /// The collection of the package, if the file names it.
     pub collection: Option<Collection>,
     /// The categories.
     pub categories: Items<Category>,
-    /// Words to look for it by.
+    /// Keywords to find the advisory by.
     pub keywords: Items<Keyword>,
-    /// How severe it is.
+    /// The CVSS vector, which gives the severity.
     pub cvss: Option<Cvss>,
-    /// What the advisory informs of, if there is no vulnerability.
+    /// The concern, if the advisory is informational.
     pub informational: Option<Informational>,
 }
 
-/// What an advisory says of where more is found.
+/// References of an advisory, the source of its package, and its address.
 #[derive(Drop)]
 pub struct Origin {
-    /// Addresses of more about it.
+    /// Addresses with more information.
     pub references: Items<Address>,
     /// The source of the package, if it is not the default registry.
     pub source: Option<SourceId>,
@@ -95,36 +94,35 @@ pub struct Origin {
     pub url: Option<Address>,
 }
 
-/// On which terms an advisory stands.
+/// Withdrawal, license and expectation of deletion.
 #[derive(Drop)]
 pub struct Terms {
     /// The day on which it was withdrawn, if it was.
     pub withdrawn: Option<Date>,
     /// The license of the text.
     pub license: License,
-    /// Whether the package may be gone from its registry.
+    /// Whether the package may be deleted from its registry.
     pub expect_deleted: bool,
 }
 
-/// All parts of what an advisory says of itself, in groups. Unlike `Metadata` it can be taken apart
-/// field by field.
+/// All fields of the metadata, in groups. Unlike `Metadata`, it can be taken apart field by field.
 #[derive(Drop)]
 pub struct MetadataParts {
     /// The title.
     pub title: Text,
     /// The description.
     pub description: Text,
-    /// The vulnerability: its names, its package and its day.
+    /// Names, package and day.
     pub subject: Subject,
-    /// How it is sorted.
+    /// The classification.
     pub kinds: Kinds,
-    /// Where more is found.
+    /// References, source and address.
     pub origin: Origin,
-    /// The terms.
+    /// Withdrawal, license and expectation of deletion.
     pub terms: Terms,
 }
 
-/// One place drops the fields, so that the end of an owner's life is one step of its proof.
+/// Hand-written: a derived `Drop` is proved again, field by field, at every exit of every owner.
 impl Drop for Metadata {
     fn drop(self) {
         let Metadata {
@@ -151,7 +149,7 @@ impl Drop for Metadata {
 }
 
 impl Metadata {
-    /// The value with these groups of fields.
+    /// Returns the metadata with these groups of fields.
     pub(crate) fn of_groups(
         subject: Subject,
         kinds: Kinds,
@@ -185,7 +183,7 @@ impl Metadata {
         }
     }
 
-    /// The parts, by value. This takes no memory.
+    /// Takes the metadata apart. This takes no memory.
     pub fn into_parts(self) -> MetadataParts
         ensures { result ≡ record {
           title = self.title;
@@ -246,7 +244,7 @@ impl Metadata {
         }
     }
 
-    /// A copy of what is said of the vulnerability.
+    /// Returns a copy of the subject.
     fn subject(&self) -> std::result::Result<Subject, AllocError>
         ensures { IfOk result (λ s. s ≡ subject_of self.now) }
     {
@@ -259,7 +257,7 @@ impl Metadata {
         })
     }
 
-    /// A copy of how the vulnerability is sorted.
+    /// Returns a copy of the classification.
     fn kinds(&self) -> std::result::Result<Kinds, AllocError>
         ensures { IfOk result (λ k. k ≡ kinds_of self.now) }
     {
@@ -272,7 +270,7 @@ impl Metadata {
         })
     }
 
-    /// A copy of what is said of its origin.
+    /// Returns a copy of references, source and address.
     fn origin(&self) -> std::result::Result<Origin, AllocError>
         ensures { IfOk result (λ o. o ≡ origin_of self.now) }
     {
@@ -283,7 +281,7 @@ impl Metadata {
         })
     }
 
-    /// A copy of its terms.
+    /// Returns a copy of withdrawal, license and expectation of deletion.
     fn terms(&self) -> std::result::Result<Terms, AllocError>
         ensures { IfOk result (λ t. t ≡ terms_of self.now) }
     {
@@ -294,7 +292,7 @@ impl Metadata {
         })
     }
 
-    /// An equal value.
+    /// Returns an equal value.
     ///
     /// # Errors
     ///

@@ -1,4 +1,4 @@
-// Lists of requirements in a document.
+//! Reads lists of requirements of a document.
 
 ghost use Rattle.std.specs.Prelude.{◌≡◌, [], IfErr, IfOk, None, Some, map};
 ghost use Rattle.toml.specs.View.{array_view, table_view, view};
@@ -15,7 +15,7 @@ use std::alloc::{AllocError, Global};
 use toml::Value;
 use toml::value::Array;
 
-/// The requirement of a text that stands at a key.
+/// Parses a requirement that was found at a key.
 fn requirement_at(alloc: Global, section: Section<'_>, key: &str, text: &str) -> Result<VersionReq>
     ensures ok { IfOk result (λ r. requirement_of text.now ≡ Some (comparators_of r)) }
     ensures err { IfErr result (IsRefusal ErrorKind.Parse (requirement_of text.now ≡ None)) }
@@ -26,7 +26,7 @@ fn requirement_at(alloc: Global, section: Section<'_>, key: &str, text: &str) ->
     }
 }
 
-/// The requirement of a value that must be a string.
+/// Parses a requirement from a value that must be a string.
 fn requirement_in(
     alloc: Global,
     section: Section<'_>,
@@ -42,7 +42,7 @@ fn requirement_in(
     }
 }
 
-/// The requirements of an array, in order.
+/// Parses the requirements of an array, in order.
 fn requirements_in(
     alloc: Global,
     section: Section<'_>,
@@ -62,7 +62,7 @@ fn requirements_in(
     Ok(read)
 }
 
-/// The requirements of a value that must be an array of texts.
+/// Parses the requirements of a value that must be an array of strings.
 pub fn requirements(
     alloc: Global,
     section: Section<'_>,
@@ -78,7 +78,7 @@ pub fn requirements(
     }
 }
 
-/// The requirements at a key that must be there.
+/// Parses the requirements at a required key.
 pub fn requirements_at(alloc: Global, section: Section<'_>, key: &str) -> Result<Vec<VersionReq>>
     ensures ok { IfOk result (λ rs. required requirements_of key.now (table_view section.entry.table.now) ≡ Some (map comparators_of rs.items)) }
     ensures err { IfErr result (IsRefusal ErrorKind.Parse (required requirements_of key.now (table_view section.entry.table.now) ≡ None)) }
@@ -89,7 +89,7 @@ pub fn requirements_at(alloc: Global, section: Section<'_>, key: &str) -> Result
     }
 }
 
-/// The requirements at a key, none if it is missing.
+/// Parses the requirements at a key; none if the key is missing.
 pub fn optional_requirements_at(
     alloc: Global,
     section: Section<'_>,

@@ -7,7 +7,7 @@ use std::io::ErrorKind;
 use std::process::ExitCode;
 use std::{env, io};
 
-/// The words behind the program's name; none at all where one of them is no text.
+/// Returns the arguments after the program's name; no argument at all if one is not UTF-8.
 fn words(rt: &HostRuntime) -> Result<Vec<String>, Fault> {
     let mut words = Vec::new(rt.alloc());
     match env::args(rt) {
@@ -22,7 +22,7 @@ fn words(rt: &HostRuntime) -> Result<Vec<String>, Fault> {
     Ok(words)
 }
 
-/// The words as texts.
+/// Returns the arguments as `&str`.
 fn texts(alloc: Global, words: &[String]) -> Result<Vec<&str>, Fault> {
     let mut texts = Vec::new(alloc);
     for word in words {
@@ -48,7 +48,7 @@ fn main(rt: HostRuntime) -> ExitCode {
     match carry_out(&rt) {
         Ok(status) => ExitCode::from(status),
         Err(_) => {
-            // The status tells of the fault even where the error output cannot be written.
+            // The status shows the fault even if the error output cannot be written.
             let _ = eprintln!(rt; "failed");
             ExitCode::from(3)
         }

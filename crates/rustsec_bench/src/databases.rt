@@ -1,4 +1,4 @@
-// Calls over a database: its files are read, and it is loaded, before the calls are made.
+//! Calls over a database, which is read and loaded before the calls are made.
 
 use rustsec_database::{Database, SourceFile};
 use rustsec_folders::{RealFolders, source_files};
@@ -20,7 +20,7 @@ pub(crate) enum Call {
     Report,
 }
 
-/// The call of a word.
+/// Returns the call with a name.
 pub(crate) fn call_of(word: &str) -> Option<Call> {
     match word {
         "load" => Some(Call::Load),
@@ -39,7 +39,7 @@ fn load(alloc: Global, times: u32, files: &[SourceFile]) -> Result<()> {
     Ok(())
 }
 
-/// Asks many times for the advisories of a package.
+/// Queries the advisories of a package many times.
 fn query(alloc: Global, times: u32, database: &Database, name: &str) -> Result<()> {
     let query = Query::crate_scope(alloc).package_name(Name::from_str(alloc, name)?);
     for _ in 0..times {
@@ -48,7 +48,7 @@ fn query(alloc: Global, times: u32, database: &Database, name: &str) -> Result<(
     Ok(())
 }
 
-/// Asks many times for the vulnerabilities of a lockfile.
+/// Queries the vulnerabilities of a lockfile many times.
 fn vulnerabilities(
     alloc: Global,
     times: u32,
@@ -61,7 +61,7 @@ fn vulnerabilities(
     Ok(())
 }
 
-/// The settings of the command `report`.
+/// Returns the settings of the command `report`.
 fn settings(alloc: Global) -> std::result::Result<Settings, AllocError> {
     let kinds = vec![in alloc;
         Informational::Notice,
@@ -73,7 +73,7 @@ fn settings(alloc: Global) -> std::result::Result<Settings, AllocError> {
     Ok(settings)
 }
 
-/// Makes the report of a lockfile many times.
+/// Generates the report of a lockfile many times.
 fn report(alloc: Global, times: u32, database: &Database, lockfile: &Lockfile) -> Result<()> {
     let settings = settings(alloc)?;
     for _ in 0..times {
@@ -82,7 +82,7 @@ fn report(alloc: Global, times: u32, database: &Database, lockfile: &Lockfile) -
     Ok(())
 }
 
-/// Makes a call many times over the database under a root, for a name or for the lockfile at a path.
+/// Makes a call many times over the database under a root, with a package name or the lockfile at a path.
 pub(crate) fn repeat(rt: &HostRuntime, call: Call, times: u32, root: &str, of: &str) -> Result<()> {
     let alloc = rt.alloc();
     let files = source_files(alloc, &mut RealFolders::new(rt), root)?;

@@ -6,16 +6,15 @@
 //!     rustsec_bench read FILE
 //!     rustsec_bench load|query|vulnerabilities|report N ROOT NAME|LOCKFILE
 //!
-//! `document` reads the text as a TOML document and no more, and `parts` takes an advisory apart and
-//! reads its front matter as one. The calls over a database take its root,
-//! and the name of a package for `query`, else the path of a lockfile. These calls write nothing. The status is 0,
-//! 2 for other words, and 1 where the file or a call refuses.
+//! `document` only parses the text as a TOML document, and `parts` splits an advisory and parses its front matter.
+//! The calls over a database take its root, and the name of a package for `query`, else the path of a lockfile. These
+//! calls write nothing. The status is 0, 2 for other arguments, and 1 if the file cannot be read or a call fails.
 //!
-//! `copy` and `from_rustsec` copy an advisory, and `from_rustsec` exports the copy; `to_value` is the tree of
-//! its document and the tree's text; `from_value` reads a JSON tree as a document. The kind of what one of
-//! these refuses is written.
+//! `copy` and `from_rustsec` copy an advisory, and `from_rustsec` exports the copy; `to_value` builds the tree of
+//! its document and prints the tree; `from_value` reads a JSON tree as a document. If one of these fails, the kind of
+//! its error is written.
 //!
-//! `read` gives each input of a file to the reader that the input names, and writes a line for each.
+//! `read` gives each input in a file to the reader that the input names, and writes a line for each.
 #![tactic(auto)]
 
 mod databases;
@@ -40,7 +39,7 @@ enum Call {
     Lint,
 }
 
-/// The call of a word.
+/// Returns the call with a name.
 fn call_of(word: &str) -> Option<Call> {
     match word {
         "document" => Some(Call::Document),
@@ -52,7 +51,7 @@ fn call_of(word: &str) -> Option<Call> {
     }
 }
 
-/// Reads a TOML document.
+/// Parses a TOML document.
 fn document(alloc: Global, text: &str) -> Result<()> {
     match toml::table_from_str(alloc, text) {
         Ok(_) => Ok(()),
@@ -86,7 +85,7 @@ fn repeat(alloc: Global, call: Call, times: u32, text: &str) -> Result<()> {
     Ok(())
 }
 
-/// The words behind the program's name, where they are texts.
+/// Returns the arguments after the program's name, if they are UTF-8.
 fn words(rt: &HostRuntime) -> Option<Vec<String>> {
     let mut words = Vec::new(rt.alloc());
     for word in env::args(rt).ok()?.skip(1) {
@@ -95,7 +94,7 @@ fn words(rt: &HostRuntime) -> Option<Vec<String>> {
     Some(words)
 }
 
-/// The call, how often it is made, and the file.
+/// Returns the call, how often it is made, and the file.
 fn asked(words: &[String]) -> Option<(Call, u32, &str)> {
     match words {
         [call, times, path] => {
@@ -107,7 +106,7 @@ fn asked(words: &[String]) -> Option<(Call, u32, &str)> {
     }
 }
 
-/// The call over a database, how often it is made, its root, and the name or lockfile it is made for.
+/// Returns the call over a database, how often it is made, its root, and the package name or lockfile.
 fn asked_of_database(words: &[String]) -> Option<(databases::Call, u32, &str, &str)> {
     match words {
         [call, times, root, of] => {
@@ -119,7 +118,7 @@ fn asked_of_database(words: &[String]) -> Option<(databases::Call, u32, &str, &s
     }
 }
 
-/// The status of a call's answer.
+/// Returns the exit status for the answer of a call.
 fn status(answer: Result<()>) -> ExitCode {
     match answer {
         Ok(()) => ExitCode::from(0),

@@ -1,4 +1,4 @@
-// Calls of OSV documents.
+//! Calls about OSV documents.
 
 use rustsec_advisory::Advisory;
 use rustsec_osv::OsvAdvisory;
@@ -20,7 +20,7 @@ enum OsvCall {
     FromValue,
 }
 
-/// The call of a word.
+/// Returns the call with a name.
 fn call_of(word: &str) -> Option<OsvCall> {
     match word {
         "copy" => Some(OsvCall::Copy),
@@ -39,7 +39,7 @@ fn copies(alloc: Global, advisory: &Advisory, times: u32) -> Result<()> {
     Ok(())
 }
 
-/// Exports copies of an advisory.
+/// Exports an advisory many times, from copies.
 fn exports(alloc: Global, advisory: &Advisory, times: u32) -> Result<()> {
     for _ in 0..times {
         OsvAdvisory::from_rustsec(alloc, advisory.clone(alloc)?, MODIFIED)?;
@@ -47,14 +47,14 @@ fn exports(alloc: Global, advisory: &Advisory, times: u32) -> Result<()> {
     Ok(())
 }
 
-/// The compact text of a document's tree.
+/// Returns the compact text of a document's tree.
 fn text_of(alloc: Global, document: &OsvAdvisory) -> Result<String> {
     let tree = document.to_value(alloc)?;
     let text = tree.to_string(alloc)?;
     Ok(text)
 }
 
-/// Makes a document's text many times.
+/// Prints a document many times.
 fn texts(alloc: Global, document: &OsvAdvisory, times: u32) -> Result<()> {
     for _ in 0..times {
         text_of(alloc, document)?;
@@ -62,7 +62,7 @@ fn texts(alloc: Global, document: &OsvAdvisory, times: u32) -> Result<()> {
     Ok(())
 }
 
-/// Makes the text of an advisory's document many times.
+/// Prints the document of an advisory many times.
 fn texts_of(alloc: Global, advisory: Advisory, times: u32) -> Result<()> {
     let document = OsvAdvisory::from_rustsec(alloc, advisory, MODIFIED)?;
     texts(alloc, &document, times)
@@ -76,7 +76,7 @@ fn readings(alloc: Global, tree: &Value, times: u32) -> Result<()> {
     Ok(())
 }
 
-/// The tree of a text.
+/// Parses a JSON tree.
 fn tree_of(alloc: Global, text: &str) -> Result<Value> {
     match Value::from_str(alloc, text) {
         Ok(tree) => Ok(tree),
@@ -84,13 +84,13 @@ fn tree_of(alloc: Global, text: &str) -> Result<Value> {
     }
 }
 
-/// Reads the tree of a text as a document many times.
+/// Parses a JSON tree once, and reads it as a document many times.
 fn readings_of(alloc: Global, text: &str, times: u32) -> Result<()> {
     let tree = tree_of(alloc, text)?;
     readings(alloc, &tree, times)
 }
 
-/// Makes a call many times. What it is given is read from the text once.
+/// Makes a call many times. Its argument is read from the text once.
 fn repeat(alloc: Global, call: OsvCall, times: u32, text: &str) -> Result<()> {
     match call {
         OsvCall::Copy => copies(alloc, &Advisory::from_str(alloc, text)?, times),
@@ -100,7 +100,7 @@ fn repeat(alloc: Global, call: OsvCall, times: u32, text: &str) -> Result<()> {
     }
 }
 
-/// The call, how often it is made, and the file.
+/// Returns the call, how often it is made, and the file.
 fn asked(words: &[String]) -> Option<(OsvCall, u32, &str)> {
     match words {
         [call, times, path] => {
@@ -112,7 +112,7 @@ fn asked(words: &[String]) -> Option<(OsvCall, u32, &str)> {
     }
 }
 
-/// The status of an answer. The kind of a refusal is written.
+/// Returns the exit status for an answer, and writes the kind of an error.
 fn status(rt: &HostRuntime, answer: Result<()>) -> ExitCode {
     match answer {
         Ok(()) => ExitCode::from(0),
@@ -123,7 +123,7 @@ fn status(rt: &HostRuntime, answer: Result<()>) -> ExitCode {
     }
 }
 
-/// Makes the call that words ask for. The status is 2 for other words.
+/// Makes the call that the arguments name. The status is 2 for other arguments.
 pub(crate) fn run(rt: &HostRuntime, words: &[String]) -> ExitCode {
     let Some((call, times, path)) = asked(words) else {
         return ExitCode::from(2);

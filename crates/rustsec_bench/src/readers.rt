@@ -1,4 +1,4 @@
-// The readers of the library over many inputs of a file.
+//! The readers of the library over many inputs in a file.
 
 use rustsec_advisory::{Address, Advisory, Linter};
 use rustsec_lock::package::Name;
@@ -17,22 +17,22 @@ use std::io::Write;
 use std::process::ExitCode;
 use std::{fs, io, str};
 
-/// The answer to an input that is read.
+/// The answer to an input that a reader accepts.
 const READ: &str = "ok";
 
-/// Reads a value of a type.
+/// Parses a value of a type.
 fn value<T: FromText>(alloc: Global, text: &str) -> Result<&'static str> {
     T::from_text(alloc, text)?;
     Ok(READ)
 }
 
-/// Takes an advisory's file apart.
+/// Splits an advisory file into its parts.
 fn parts(alloc: Global, text: &str) -> Result<&'static str> {
     Parts::parse(alloc, text)?;
     Ok(READ)
 }
 
-/// Reads an advisory.
+/// Parses an advisory.
 fn advisory(alloc: Global, text: &str) -> Result<&'static str> {
     Advisory::from_str(alloc, text)?;
     Ok(READ)
@@ -44,13 +44,13 @@ fn lint(alloc: Global, text: &str) -> Result<&'static str> {
     Ok(READ)
 }
 
-/// Reads a lockfile.
+/// Parses a lockfile.
 fn lockfile(alloc: Global, text: &str) -> Result<&'static str> {
     Lockfile::from_str(alloc, text)?;
     Ok(READ)
 }
 
-/// Reads the interval of a requirement.
+/// Parses a requirement, and makes its interval.
 fn interval(alloc: Global, text: &str) -> Result<&'static str> {
     match VersionReq::parse(alloc, text) {
         Ok(req) => {
@@ -61,7 +61,7 @@ fn interval(alloc: Global, text: &str) -> Result<&'static str> {
     }
 }
 
-/// Reads an OSV document of a tree, and the IDs that it refers to.
+/// Reads an OSV document from a tree, and the IDs that it refers to.
 fn document(alloc: Global, tree: &Value) -> Result<&'static str> {
     let document = OsvAdvisory::from_value(alloc, tree)?;
     document.to_value(alloc)?;
@@ -72,7 +72,7 @@ fn document(alloc: Global, tree: &Value) -> Result<&'static str> {
     }
 }
 
-/// Reads an OSV document.
+/// Parses an OSV document.
 fn osv(alloc: Global, text: &str) -> Result<&'static str> {
     match Value::from_str(alloc, text) {
         Ok(tree) => document(alloc, &tree),
@@ -80,7 +80,7 @@ fn osv(alloc: Global, text: &str) -> Result<&'static str> {
     }
 }
 
-/// Reads a text by a reader of small texts.
+/// Parses a text by the reader of small texts with this name.
 fn small(alloc: Global, reader: &str, text: &str) -> Result<&'static str> {
     match reader {
         "address" => value::<Address>(alloc, text),
@@ -103,7 +103,7 @@ fn small(alloc: Global, reader: &str, text: &str) -> Result<&'static str> {
     }
 }
 
-/// Reads a text by the reader of a name.
+/// Parses a text by the reader with this name.
 fn read(alloc: Global, reader: &str, text: &str) -> Result<&'static str> {
     match reader {
         "advisory" => advisory(alloc, text),
@@ -116,8 +116,8 @@ fn read(alloc: Global, reader: &str, text: &str) -> Result<&'static str> {
     }
 }
 
-/// What is said of one input, the name of a reader and a text with a space between: that it is read, or
-/// the kind of its refusal.
+/// Returns the answer to one input, which is the name of a reader, a space and a text: that it is accepted, or the
+/// kind of the error.
 fn answer(alloc: Global, input: &[u8]) -> &'static str {
     let Ok(input) = str::from_utf8(input) else {
         return "no text";
@@ -131,7 +131,7 @@ fn answer(alloc: Global, input: &[u8]) -> &'static str {
     }
 }
 
-/// Reads each input, and writes a line for each. A byte 255, which no text has, stands between inputs.
+/// Reads each input, and writes a line for each. A byte 255, which is not in any UTF-8 text, separates inputs.
 fn answers<W: Write>(alloc: Global, inputs: &[u8], output: &mut W) -> io::Result<()> {
     for input in inputs.split(|b| *b == 255) {
         let said = answer(alloc, input);
@@ -141,7 +141,7 @@ fn answers<W: Write>(alloc: Global, inputs: &[u8], output: &mut W) -> io::Result
     Ok(())
 }
 
-/// The file whose inputs the words ask for.
+/// Returns the file with the inputs, if the arguments name one.
 pub fn asked(words: &[String]) -> Option<&str> {
     match words {
         [word, path] => (word.as_str() == "read").then_some(path.as_str()),

@@ -1,4 +1,4 @@
-//! Commands that update the vulnerable packages of a lockfile.
+//! Builds the command that updates the vulnerable packages of a lockfile.
 
 ghost use Rattle.std.specs.Prelude.{◌≡◌, IfErr, IfOk, option_map, string_bytes};
 ghost use Rattle.rustsec_versions.specs.Failure.{IsMemory};
@@ -13,7 +13,7 @@ use rustsec_versions::Result;
 use std::alloc::Global;
 use std::marker::Model;
 
-/// Makes the commands that update the vulnerable packages of a lockfile.
+/// Builds commands that update the vulnerable packages of a lockfile.
 #[derive(Debug, Drop)]
 pub struct Fixer {
     lockfile: Lockfile,
@@ -29,7 +29,7 @@ impl Model for Fixer {
     ghost view = { λ f. record { packages = f.lockfile.packages; manifest_path = f.manifest_path; path_to_cargo = f.path_to_cargo } };
 }
 
-/// A text that may be given.
+/// Converts a string that may be missing.
 fn text_of(string: Option<String>) -> Option<Text>
     ensures { result ≡ option_map string_bytes string }
 {
@@ -40,8 +40,8 @@ fn text_of(string: Option<String>) -> Option<Text>
 }
 
 impl Fixer {
-    /// A fixer of a lockfile. Where no manifest is given, the whole workspace in the folder in which the
-    /// command is started is updated; where no path to Cargo is given, the system looks up `cargo`.
+    /// Returns a fixer of a lockfile. Without a manifest, the command updates the whole workspace of the folder in
+    /// which it is started; without a path to Cargo, the system looks up `cargo`.
     pub fn new(
         lockfile: Lockfile,
         manifest_path: Option<String>,
@@ -58,12 +58,12 @@ impl Fixer {
         }
     }
 
-    /// The command that asks Cargo to update each package of the lockfile that has the vulnerable
-    /// package's name and a vulnerable version, each named by `SOURCE#NAME@VERSION`, or by `NAME@VERSION`
-    /// where it has no source. With `dry_run` Cargo is told to write nothing.
+    /// Returns the command that makes Cargo update each package of the lockfile that has the vulnerable package's
+    /// name and a vulnerable version. Each is named by `SOURCE#NAME@VERSION`, or by `NAME@VERSION` if it has no
+    /// source (Cargo's package ID specifications). With `dry_run` Cargo writes nothing.
     ///
-    /// That the command succeeds doesn't mean that the vulnerability is gone: there may be no version
-    /// that Cargo can take.
+    /// If the command succeeds, the vulnerability may still be present: perhaps there is no version that
+    /// Cargo can choose.
     ///
     /// # Errors
     ///

@@ -1,4 +1,4 @@
-//! The command that updates the vulnerable packages of a lockfile. Nothing is started here.
+//! The command that updates the vulnerable packages of a lockfile. This crate does not start it.
 #![tactic(auto)]
 
 mod command;

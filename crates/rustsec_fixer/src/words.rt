@@ -1,4 +1,4 @@
-//! The words of the command, group by group.
+//! Builds the arguments of the command, group by group.
 
 ghost use Rattle.std.specs.Prelude.{◌≡◌, ◌++◌, ◌∷◌, [], IfErr, IfOk, OnOk, Some};
 ghost use Rattle.rustsec_versions.specs.Failure.{IsMemory};
@@ -9,7 +9,7 @@ use rustsec_values::{Items, Text};
 use rustsec_versions::{Result, Versions};
 use std::alloc::Global;
 
-/// Puts a word behind others.
+/// Appends an argument.
 pub(crate) fn add_word(alloc: Global, words: &mut Items<Text>, word: &str) -> Result<()>
     ensures ok { OnOk result (words.new ≡ words.old ++ word.now ∷ []) }
     ensures err { IfErr result IsMemory }
@@ -19,7 +19,7 @@ pub(crate) fn add_word(alloc: Global, words: &mut Items<Text>, word: &str) -> Re
     Ok(())
 }
 
-/// Puts the words behind others that name a manifest.
+/// Appends the arguments that name a manifest.
 fn add_path(alloc: Global, words: &mut Items<Text>, path: &str) -> Result<()>
     ensures ok { OnOk result (words.new ≡ words.old ++ manifest_words (Some path.now)) }
     ensures err { IfErr result IsMemory }
@@ -29,7 +29,7 @@ fn add_path(alloc: Global, words: &mut Items<Text>, path: &str) -> Result<()>
     Ok(())
 }
 
-/// Puts the words behind others that name the manifest, where it is given.
+/// Appends the arguments that name the manifest, if it is given.
 pub(crate) fn add_manifest(
     alloc: Global,
     words: &mut Items<Text>,
@@ -44,7 +44,7 @@ pub(crate) fn add_manifest(
     }
 }
 
-/// Puts the word behind others by which nothing is written, where that is asked.
+/// Appends `--dry-run` if requested.
 pub(crate) fn add_dry_run(alloc: Global, words: &mut Items<Text>, dry_run: bool) -> Result<()>
     ensures ok { OnOk result (words.new ≡ words.old ++ dry_run_words dry_run) }
     ensures err { IfErr result IsMemory }
@@ -55,7 +55,7 @@ pub(crate) fn add_dry_run(alloc: Global, words: &mut Items<Text>, dry_run: bool)
     Ok(())
 }
 
-/// The word that names a package.
+/// Returns the argument that names a package.
 fn package_word(alloc: Global, package: &Package) -> Result<Text>
     ensures ok { IfOk result (λ t. t ≡ package_word «package».now) }
     ensures err { IfErr result IsMemory }
@@ -69,7 +69,7 @@ fn package_word(alloc: Global, package: &Package) -> Result<Text>
     Ok(Text::from(word))
 }
 
-/// Puts the words behind others that name the packages of a name and a vulnerable version.
+/// Appends the arguments for the packages with this name and a vulnerable version.
 pub(crate) fn add_packages(
     alloc: Global,
     words: &mut Items<Text>,

@@ -1,4 +1,4 @@
-// Advisory files that tests share.
+//! Advisory files that tests share.
 
 use crate::values::kind_of;
 use rustsec_advisory::Advisory;
@@ -62,7 +62,7 @@ functions = { \"notyourbase::belongs::All\" = [\"< 1.2.3\"] }
 You have no chance to survive. Make your time.
 ";
 
-/// Its lint errors where its file is no draft's.
+/// Its lint errors, if its file is not a draft's.
 pub const INVALID_ERRORS: &[&str] = &[
     "invalid value `invalid-category` for key `category` in [advisory]: unknown category",
     "malformed content in [advisory]: collection shouldn't be explicit; inferred by location",
@@ -73,13 +73,13 @@ pub const INVALID_ERRORS: &[&str] = &[
     "invalid key `invalid-section` in toplevel",
 ];
 
-/// A text with its first place of another one changed.
+/// Returns a text with the first place of another text replaced.
 pub fn changed(alloc: Global, text: &str, old: &str, new: &str) -> Result<String, Fail> {
     let (before, after) = text.split_once(old).ok_or("there is nothing to change")?;
     Ok(format!(in alloc; "{before}{new}{after}")?)
 }
 
-/// Whether a text is an advisory; nothing if it is refused for another reason than its form.
+/// Returns whether a text is an advisory; none if it is refused for another reason than its form.
 pub fn acceptance(alloc: Global, text: &str) -> Option<bool> {
     match kind_of(Advisory::from_str(alloc, text)) {
         None => Some(true),
@@ -88,7 +88,7 @@ pub fn acceptance(alloc: Global, text: &str) -> Option<bool> {
     }
 }
 
-/// Whether the valid advisory is one still with its first place of a text changed.
+/// Returns whether the valid advisory is still one after a replacement of the first place of a text.
 pub fn acceptance_with(alloc: Global, old: &str, new: &str) -> Result<Option<bool>, Fail> {
     let text = changed(alloc, VALID, old, new)?;
     Ok(acceptance(alloc, &text))

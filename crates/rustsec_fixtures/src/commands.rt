@@ -1,11 +1,11 @@
-// Commands over memory, and over a root that is written to the disk.
+//! Commands over memory, and over a root that is written to the disk.
 
 use rustsec_commands::run;
 use std::fs;
 use std::rt::Files;
 use std::test::Fail;
 
-/// Whether words write a text for an input, with this status.
+/// Returns whether a command writes a text for an input, with this status.
 pub fn writes<T: Files + AllocGlobal>(
     rt: &T,
     words: &[&str],
@@ -19,8 +19,8 @@ pub fn writes<T: Files + AllocGlobal>(
     Ok(found == status && written.as_slice() == text)
 }
 
-/// Advisories for `base`, by their paths under a root: one of a vulnerability, one that was withdrawn,
-/// and one of a package that nobody maintains.
+/// Advisories for `base`, by their paths under a root: one with a vulnerability, one that was withdrawn, and one
+/// about a package that nobody maintains.
 pub const ADVISORIES: &[(&str, &str)] = &[
     (
         "crates/base/RUSTSEC-2001-0001.md",

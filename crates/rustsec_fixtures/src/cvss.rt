@@ -1,10 +1,10 @@
-// Vectors of CVSS: their scores, and how they print.
+//! CVSS vectors: their scores, and how they print.
 
 use rustsec_lock::{Base, Cvss, Severity};
 use std::alloc::Global;
 use std::test::Fail;
 
-/// The base metrics of a vector, where it is of version 3.
+/// Returns the base metrics of a vector of version 3.
 pub fn base_of(vector: &Cvss) -> Option<Base> {
     match vector {
         Cvss::CvssV30(base) => Some(*base),
@@ -13,7 +13,7 @@ pub fn base_of(vector: &Cvss) -> Option<Base> {
     }
 }
 
-/// The score in tenths and the rating of a vector's text, each where it has one.
+/// Returns the score in tenths and the rating of a vector's text, each if any.
 pub fn score(alloc: Global, text: &str) -> Result<(Option<u8>, Option<Severity>), Fail> {
     let vector = Cvss::from_str(alloc, text)?;
     let tenths = match base_of(&vector) {
@@ -23,13 +23,13 @@ pub fn score(alloc: Global, text: &str) -> Result<(Option<u8>, Option<Severity>)
     Ok((tenths, vector.severity()))
 }
 
-/// Whether a vector prints as a text.
+/// Returns whether a vector prints as a text.
 pub fn prints(alloc: Global, vector: &Cvss, printed: &str) -> Result<bool, Fail> {
     let found = vector.to_string(alloc)?;
     Ok(found.as_str() == printed)
 }
 
-/// Whether a text's vector prints as another text.
+/// Returns whether a text's vector prints as another text.
 pub fn is_printed(alloc: Global, text: &str, printed: &str) -> Result<bool, Fail> {
     let vector = Cvss::from_str(alloc, text)?;
     prints(alloc, &vector, printed)

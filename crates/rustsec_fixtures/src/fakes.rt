@@ -1,4 +1,4 @@
-// Readers and writers over memory that give or take one byte a call, and fail at a call.
+//! Readers and writers over memory that give or take one byte a call, and fail at a given call.
 
 ghost use Rattle.std.specs.Prelude.{Some, drop, ◌≡◌, ◌≤◌, vec_len};
 
@@ -16,7 +16,7 @@ pub struct ByteReader<'a> {
 }
 
 impl<'a> ByteReader<'a> {
-    /// A reader of bytes.
+    /// Returns a reader of bytes.
     pub fn new(bytes: &'a [u8], fails_at: u64) -> ByteReader<'a>
         ensures { result.rest.now ≡ bytes.now }
     {
@@ -28,7 +28,7 @@ impl<'a> ByteReader<'a> {
         }
     }
 
-    /// A reader of bytes whose failure is that the call was interrupted.
+    /// Returns a reader of bytes whose failure is that the call was interrupted.
     pub fn interrupted(bytes: &'a [u8], fails_at: u64) -> ByteReader<'a>
         ensures { result.rest.now ≡ bytes.now }
     {
@@ -67,7 +67,7 @@ pub struct ByteWriter {
 }
 
 impl ByteWriter {
-    /// A writer behind some bytes.
+    /// Returns a writer that already holds some bytes.
     pub fn new(held: Vec<u8>, fails_at: u64) -> ByteWriter
         ensures { result.held.items ≡ held.items }
     {
@@ -78,7 +78,7 @@ impl ByteWriter {
         }
     }
 
-    /// What it holds: the bytes that it began with, and what was written.
+    /// Returns the bytes that it holds: those it began with, and those that were written.
     pub fn held(&self) -> &[u8]
         ensures { result.now ≡ self.now.held.items }
     {

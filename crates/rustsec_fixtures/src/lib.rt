@@ -1,5 +1,5 @@
-//! What tests are made of: versions and requirements of texts, advisory files, vectors of CVSS, commands over
-//! memory, readers and writers that fail.
+//! Fixtures of tests: parsed versions and requirements, advisory files, CVSS vectors, commands over memory, readers
+//! and writers that fail.
 #![tactic(auto)]
 
 mod advisory_texts;

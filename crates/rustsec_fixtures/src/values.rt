@@ -1,16 +1,16 @@
-// Versions, requirements and lists of texts.
+//! Versions, requirements and lists of texts.
 
 use rustsec_versions::{Error, ErrorKind, OsvRange, UnaffectedRange, Versions};
 use semver::{Version, VersionReq};
 use std::alloc::Global;
 use std::test::Fail;
 
-/// A version of a text.
+/// Parses a version.
 pub fn version(alloc: Global, text: &str) -> Result<Version, Fail> {
     Ok(Version::parse(alloc, text)?)
 }
 
-/// Requirements of texts.
+/// Parses requirements.
 pub fn requirements(alloc: Global, texts: &[&str]) -> Result<Vec<VersionReq>, Fail> {
     let mut reqs = Vec::new(alloc);
     for text in texts {
@@ -19,13 +19,13 @@ pub fn requirements(alloc: Global, texts: &[&str]) -> Result<Vec<VersionReq>, Fa
     Ok(reqs)
 }
 
-/// The interval of a requirement's text.
+/// Returns the interval of a requirement's text.
 pub fn interval(alloc: Global, text: &str) -> Result<Result<UnaffectedRange, Error>, Fail> {
     let req = VersionReq::parse(alloc, text)?;
     Ok(UnaffectedRange::from_req(alloc, &req))
 }
 
-/// The lists of requirements of texts, if they are accepted.
+/// Returns the lists of requirements, if they are accepted.
 pub fn lists(
     alloc: Global,
     patched: &[&str],
@@ -36,7 +36,7 @@ pub fn lists(
     Ok(Versions::new(alloc, patched, unaffected))
 }
 
-/// The kind of a refusal.
+/// Returns the kind of an error.
 pub fn kind_of<T: Drop>(answer: Result<T, Error>) -> Option<ErrorKind> {
     match answer {
         Ok(_) => None,
@@ -44,7 +44,7 @@ pub fn kind_of<T: Drop>(answer: Result<T, Error>) -> Option<ErrorKind> {
     }
 }
 
-/// Whether some range has a version.
+/// Returns whether some range contains a version.
 pub fn some_affects(ranges: &[OsvRange], version: &Version) -> bool {
     for range in ranges {
         if range.affects(version) {

@@ -7,7 +7,7 @@ use Rattle.serde_json.specs.View.{items_of}
 abbrev pub list_tree : {A : Type 0} → (A → Data) → List A → Data
 list_tree tree xs = array (items_of (map tree xs))
 
--- a value that may be missing: null where it is
+-- a value that may be missing: null if it is
 abbrev pub optional_tree : {A : Type 0} → (A → Data) → Option A → Data
 optional_tree tree None = null
 optional_tree tree (Some x) = tree x

@@ -1,4 +1,4 @@
-// What an object of a JSON tree holds at its keys.
+//! Reads the values at the keys of a JSON object (RFC 8259, section 4).
 
 ghost use Rattle.std.specs.Prelude.{◌≡◌, [], IfErr, IfOk, None, Some, option_map};
 ghost use Rattle.serde_json.specs.Find.{as_object, get_member};
@@ -13,11 +13,11 @@ use rustsec_versions::{ErrorKind, Result};
 use serde_json::{Map, Value};
 use std::alloc::Global;
 
-/// The members of a tree that must be an object.
+/// Returns the members of a tree that must be an object.
 ///
 /// # Errors
 ///
-/// `Parse` where it is none; else `OutOfMemory`.
+/// `Parse` if it is not an object; else `OutOfMemory`.
 pub fn fields_of(alloc: Global, tree: &Value) -> Result<&Map<String, Value>>
     ensures ok { IfOk result (λ m. as_object (view tree.now) ≡ Some (members_view m.now.entries)) }
     ensures err { IfErr result (IsRefusal ErrorKind.Parse (as_object (view tree.now) ≡ None)) }
@@ -28,18 +28,18 @@ pub fn fields_of(alloc: Global, tree: &Value) -> Result<&Map<String, Value>>
     }
 }
 
-/// The tree at a key of an object, where the key is there.
+/// Returns the tree at a key of an object, if the key is present.
 pub fn member<'a>(fields: &'a Map<String, Value>, key: &str) -> Option<&'a Value>
     ensures { option_map (λ v. view v.now) result ≡ get_member key.now (members_view fields.now.entries) }
 {
     fields.get(key)
 }
 
-/// The value at a key that must be there.
+/// Reads the value at a required key.
 ///
 /// # Errors
 ///
-/// `Parse` where the key is missing, or its tree is refused; else `OutOfMemory`.
+/// `Parse` if the key is missing, or its tree is refused; else `OutOfMemory`.
 pub fn required_at<T: FromTree>(alloc: Global, fields: &Map<String, Value>, key: &str) -> Result<T>
     ensures ok { IfOk result (λ x. required T.reads key.now (members_view fields.now.entries) ≡ Some x) }
     ensures err { IfErr result (IsRefusal ErrorKind.Parse (required T.reads key.now (members_view fields.now.entries) ≡ None)) }
@@ -53,11 +53,11 @@ pub fn required_at<T: FromTree>(alloc: Global, fields: &Map<String, Value>, key:
     }
 }
 
-/// The value at a key that may be missing; null stands for none too.
+/// Reads the value at a key that may be missing; null means missing too.
 ///
 /// # Errors
 ///
-/// `Parse` where its tree is refused; else `OutOfMemory`.
+/// `Parse` if its tree is refused; else `OutOfMemory`.
 pub fn optional_at<T: FromTree>(
     alloc: Global,
     fields: &Map<String, Value>,
@@ -75,11 +75,11 @@ pub fn optional_at<T: FromTree>(
     }
 }
 
-/// The values of the list at a key, none where the key is missing.
+/// Reads the list at a key, empty if the key is missing.
 ///
 /// # Errors
 ///
-/// `Parse` where there is another value than a list, or a tree of it is refused; else `OutOfMemory`.
+/// `Parse` if the value is not a list, or a tree in it is refused; else `OutOfMemory`.
 pub fn list_at<T: FromTree>(
     alloc: Global,
     fields: &Map<String, Value>,

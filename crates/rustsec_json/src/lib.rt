@@ -1,4 +1,4 @@
-//! JSON trees: how values are made into trees, and read from them again.
+//! JSON trees (RFC 8259): trees of values, and values of trees.
 #![tactic(auto)]
 
 mod fields;

@@ -1,4 +1,4 @@
-// Values as JSON trees.
+//! Makes JSON trees of values.
 
 ghost use Rattle.std.specs.Prelude.{◌≡◌, IfOk};
 ghost use Rattle.serde_json.specs.Data.{Data};
@@ -13,7 +13,7 @@ use std::alloc::{AllocError, Global};
 pub trait ToTree {
     ghost tree: { Self → Data };
 
-    /// The tree.
+    /// Builds the tree.
     ///
     /// # Errors
     ///
@@ -22,7 +22,7 @@ pub trait ToTree {
         ensures { IfOk result (λ v. view v ≡ Self.tree self.now) };
 }
 
-/// The trees of values, in order, as an array.
+/// Builds the array of the trees of some values, in order.
 fn list<T: ToTree>(alloc: Global, values: &[T]) -> Result<Value, AllocError>
     ensures { IfOk result (λ v. view v ≡ list_tree T.tree values.now) }
 {

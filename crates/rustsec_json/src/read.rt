@@ -1,4 +1,4 @@
-// Values of JSON trees.
+//! Reads values from JSON trees.
 
 ghost use Rattle.std.specs.Prelude.{◌≡◌, IfErr, IfOk, None, Option, Some};
 ghost use Rattle.serde_json.specs.Data.{Data};
@@ -17,17 +17,17 @@ use std::alloc::Global;
 pub trait FromTree: Drop + Sized {
     ghost reads: { Data → Option Self };
 
-    /// The value of a tree.
+    /// Reads the value of a tree.
     ///
     /// # Errors
     ///
-    /// `Parse` where the type takes no such tree; else `OutOfMemory`.
+    /// `Parse` if the type does not accept the tree; else `OutOfMemory`.
     fn from_tree(alloc: Global, tree: &Value) -> Result<Self>
         ensures ok { IfOk result (λ x. Self.reads (view tree.now) ≡ Some x) }
         ensures err { IfErr result (IsRefusal ErrorKind.Parse (Self.reads (view tree.now) ≡ None)) };
 }
 
-/// The values of trees, in order.
+/// Reads the values of trees, in order.
 fn list<T: FromTree>(alloc: Global, trees: &Vec<Value>) -> Result<Items<T>>
     ensures ok { IfOk result (λ xs. read_all T.reads (list_of (items_view trees.now.items)) ≡ Some xs) }
     ensures err { IfErr result (IsRefusal ErrorKind.Parse (read_all T.reads (list_of (items_view trees.now.items)) ≡ None)) }
@@ -42,7 +42,7 @@ fn list<T: FromTree>(alloc: Global, trees: &Vec<Value>) -> Result<Items<T>>
     Ok(read)
 }
 
-/// The value of a tree that must be a string of the type's grammar.
+/// Parses a tree that must be a string of the type's grammar.
 pub(crate) fn read_text<T: FromText>(alloc: Global, tree: &Value) -> Result<T>
     ensures ok { IfOk result (λ x. text T.reads (view tree.now) ≡ Some x) }
     ensures err { IfErr result (IsRefusal ErrorKind.Parse (text T.reads (view tree.now) ≡ None)) }

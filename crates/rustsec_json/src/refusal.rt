@@ -1,4 +1,5 @@
-// Refusals of JSON trees: the keys that lead there; of another kind of tree also what was found and what was expected.
+//! Errors about JSON trees: they name the keys that lead to a value; for a tree of another kind, also what was found
+//! and what was expected.
 
 ghost use Rattle.rustsec_versions.specs.Failure.{IsMemory, IsOfKind};
 
@@ -6,14 +7,14 @@ use rustsec_versions::{Error, ErrorKind, refused_at, refused_text};
 use serde_json::Value;
 use std::alloc::Global;
 
-/// The refusal of a tree.
+/// Returns a `Parse` error about a tree.
 pub fn refused(alloc: Global, message: &str) -> Error
     ensures { IsOfKind ErrorKind.Parse result }
 {
     Error::new(alloc, ErrorKind::Parse, message)
 }
 
-/// The refusal of an object without a key that must be there.
+/// Returns the error for an object without a required key.
 pub(crate) fn missing(alloc: Global, key: &str) -> Error
     ensures { IsOfKind ErrorKind.Parse result }
 {
@@ -23,7 +24,7 @@ pub(crate) fn missing(alloc: Global, key: &str) -> Error
     }
 }
 
-/// What a tree is, before its text.
+/// Returns the name of a tree's kind, for a message.
 fn found(tree: &Value) -> &'static str {
     match tree {
         Value::Null => "found",
@@ -35,7 +36,7 @@ fn found(tree: &Value) -> &'static str {
     }
 }
 
-/// The refusal of a tree that is not of the expected kind. Its message shows the tree's text, cut.
+/// Returns the error for a tree that is not of the expected kind. Its message shows the beginning of the tree's text.
 pub fn unexpected(alloc: Global, tree: &Value, expected: &str) -> Error
     ensures { IsOfKind ErrorKind.Parse result }
 {
@@ -45,7 +46,7 @@ pub fn unexpected(alloc: Global, tree: &Value, expected: &str) -> Error
     }
 }
 
-/// The refusal of the value at a key: the key stands before its message, and its cause stays.
+/// Adds a key before the message of an error about the value at the key. Its cause stays.
 pub fn at_key(alloc: Global, key: &str, error: &Error) -> Error
     ensures kind { IsOfKind error.now.kind result }
     ensures memory { IsMemory error.now → IsMemory result }

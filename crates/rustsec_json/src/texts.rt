@@ -1,4 +1,4 @@
-// Types that a JSON string stands for.
+//! Types whose JSON tree is a string.
 
 ghost use Rattle.serde_json.specs.Data.{string};
 ghost use Rattle.rustsec_json.specs.Fields.{text};

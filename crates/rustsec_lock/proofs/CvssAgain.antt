@@ -1,4 +1,4 @@
--- The printed text of base metrics is read as the same metrics.
+-- Parsing the printed text of base metrics gives the same metrics.
 use Rattle.std.proofs.Common.{◌≡◌, ◌∙◌, ℕ, ◌==◌, false, List, [], ◌∷◌, ◌++◌, Some, All, refl, ap, codes, rules}
 use Rattle.std.proofs.lemmas.List.Splits.{slice_split_at, slice_split_none}
 use Rattle.std.specs.Fmt.{digits}

@@ -1,4 +1,4 @@
--- What stands behind a beginning, and the lone one of several parts.
+-- The text after a prefix, and the only match among several parts.
 use Rattle.std.proofs.Common.{◌≡◌, ◌∙◌, ◌==◌, ℕ, ◌+◌, ◌<◌, ◌≤◌, true, false, List, [], ◌∷◌, ◌++◌, Option, Some, None, option_map, is_some, map, filter_map, drop, get_or, length, nat_eq, refl, sym, ap, subst, add-one, drop-cons, append-nil}
 use Rattle.std.proofs.lemmas.List.{drop_all, length-map}
 use Rattle.std.proofs.lemmas.Str.Pattern.{starts_text}
@@ -27,7 +27,7 @@ listed (Some x) = x.now ∷ []
 abbrev pub found_from : List ℕ → List (Bor (List ℕ)) → ℕ → List (List ℕ)
 found_from name parts k = filter_map (behind name) (map (λ p. p.now) (drop k parts))
 
--- a value that may be missing, before a list
+-- a value that may be missing, put before a list
 abbrev pub put_before : Option (List ℕ) → List (List ℕ) → List (List ℕ)
 put_before None xs = xs
 put_before (Some y) xs = y ∷ xs
@@ -49,7 +49,7 @@ lone_listed (Some x) = refl
 pub found_past : (name : List ℕ) (parts : List (Bor (List ℕ))) (k : ℕ) → length parts ≤ k → found_from name parts k ≡ []
 found_past name parts k h = ap (λ ps. filter_map (behind name) (map (λ p. p.now) ps)) (drop_all k parts h)
 
--- the whole of what was found, where no part is left
+-- all that was found, when no part is left
 pub given_at_end : (name : List ℕ) (parts : List (Bor (List ℕ))) (k : ℕ) (r : Option (Bor (List ℕ))) → length parts ≤ k
     → listed r ++ found_from name parts k ≡ found_from name parts 0 → option_map (λ t. t.now) r ≡ given name (map (λ p. p.now) parts)
 unfolding given
@@ -75,9 +75,9 @@ pub given_again : (name : List ℕ) (parts : List (Bor (List ℕ))) (k : ℕ) (d
 given_again name parts k d None v h found some e = cc some
 given_again name parts k d (Some x) v h found some e = given_twice name parts k d x v h (sym found) e
 
--- ---- the text behind a version
+-- ---- the text after a version
 
--- what the parts give, where there are eight of them
+-- the metrics of the parts, if there are eight of them
 pub base_of_parts : (minor : ℕ) (text : List ℕ) (ps : List (Bor (List ℕ))) → map (λ p. p.now) ps ≡ parts_of text
     → base_of minor text ≡ only_if (length ps == 8) (metrics_of minor (map (λ p. p.now) ps))
 unfolding base_of

@@ -1,4 +1,4 @@
--- What one more product does.
+-- The effect of one more product.
 use Rattle.std.proofs.Common.{◌≡◌, ℕ, ◌+◌, refl, add-one}
 use Rattle.rustsec_lock.specs.Score.{mul, multiplied}
 

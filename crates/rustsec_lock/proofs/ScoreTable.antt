@@ -1,4 +1,4 @@
--- What holds of each combination of values, by a test of all of them.
+-- Facts about each combination of values, by a test of all of them.
 use Rattle.std.proofs.Common.{◌≡◌, ℕ, ◌+◌, ◌-◌, ◌*◌, ◌^◌, ◌≤◌, ◌&&◌, ◌||◌, Bool, true, false, not, refl, nat_eq, nat_le, eq-eqb, ap, ◌<◌}
 use Rattle.std.proofs.lemmas.Bool.{eqb-true, le-leb, leb-true}
 use Rattle.std.specs.Cmp.{first_so, second_so}
@@ -102,7 +102,7 @@ not_false : (t : Bool) → not t ≡ true → t ≡ false
 not_false true h = cc h
 not_false false h = refl
 
--- a sub-score of 0 is that of no loss alone, and any other one is at least 0.22
+-- only the sub-score without any loss is 0, and any other one is at least 0.22
 pub harmless_without_score : (c : Confidentiality) (i : Integrity) (a : Availability) → iss_of c i a ≡ 0 → is_harmless c i a ≡ true
 harmless_without_score c i a e =
     let whole = at_loss (λ x y z. not (nat_eq (iss_of x y z) 0) || is_harmless x y z) refl c i a in

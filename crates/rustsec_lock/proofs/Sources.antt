@@ -1,4 +1,4 @@
--- The text of a source is read back as that source.
+-- Parsing the text of a source gives that source.
 use Rattle.std.proofs.Common.{◌≡◌, ◌∙◌, ◌+◌, ◌<◌, ◌++◌, ℕ, Bool, true, false, List, ◌∷◌, None, Some, ap, arith, drop, length, nat_lt, refl, take}
 use Rattle.std.proofs.Math.Seq.{drop-append-add, take-append_seam}
 use Rattle.std.proofs.lemmas.Bool.Decides.{nat_tests}
@@ -53,6 +53,6 @@ no_kind : (b : Bool) (cut : List ℕ × List ℕ) → kind_of cut.0 ≡ None →
 no_kind true cut h = rw h refl
 no_kind false cut h = refl
 
--- a text whose word names no kind is no source
+-- a text whose word is not that of a kind is not a source
 pub source_id_of-no_kind : (text word : List ℕ) → word ≡ before_first is_plus text → kind_of word ≡ None → source_id_of text ≡ None
 source_id_of-no_kind text word is h = no_kind _ (before_first is_plus text, after_first is_plus text) (rw is at h)

@@ -14,7 +14,7 @@ use Rattle.rustsec_lock.specs.Names.{name_of}
 use Rattle.rustsec_lock.specs.Package.{PackageValue}
 use Rattle.rustsec_lock.specs.Source.{Source, source_id_of}
 
--- what a second reader gave comes from what a first one gave
+-- the result of a second reader comes from the result of a first one
 bound : {A B : Type 0} (o : Option A) (f : A → Option B) (y : B) → o >>= f ≡ Some y → (x : A) × ((o ≡ Some x) × (f x ≡ Some y))
 bound None f y h = cc h
 bound (Some x) f y h = (x, (refl, h))
@@ -56,7 +56,7 @@ package_of-valid d p h =
     let (ms, (_, is)) = bound (as_table d) package_in p h in
     package_in-valid ms p is
 
--- what holds of each value that a reader gives holds of all that it reads
+-- what holds for each result of a reader holds for all results of a list
 module _ {A B : Type 0} (f : A → Option B) (P : B → Type 0) (each : (x : A) (y : B) → f x ≡ Some y → P y) where
   before-all : (h : Option B) (r : Option (List B)) (ys : List B) → ((y : B) → h ≡ Some y → P y) → ((zs : List B) → r ≡ Some zs → All P zs)
       → before h r ≡ Some ys → All P ys

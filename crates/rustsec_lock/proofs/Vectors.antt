@@ -1,4 +1,4 @@
--- The order of a vector's parts says nothing.
+-- The order of a vector's parts does not matter.
 use Rattle.std.proofs.Common.{◌≡◌, ◌∙◌, ◌==◌, ℕ, List, [], ◌∷◌, ◌++◌, Option, Some, None, IsPermutation, ap, arith, codes, length, refl, sym}
 use Rattle.std.proofs.lemmas.List.Sorted.{length_permutation}
 use Rattle.rustsec_values.specs.Reading.{◌>>=◌, only_if}

@@ -1,5 +1,5 @@
--- Vectors of CVSS: CVSS 3.1, section 6. A vector of version 3 is the version and the eight base metrics, in any order,
--- each behind a slash; one of version 4 is any text behind its version.
+-- CVSS vectors: CVSS 3.1, section 6. A vector of version 3 is the version and the eight base metrics, in any order,
+-- each after a slash; a vector of version 4 is any text after its version.
 use Rattle.std.specs.Prelude.{ℕ, ◌==◌, ◌++◌, List, [], ◌∷◌, drop, filter_map, length, nat_eq, Option, Some, None, option_map, if◌then◌else◌, codes}
 use Rattle.std.specs.Fmt.{decimal}
 use Rattle.std.specs.List.{slice_split, starts_with}
@@ -12,17 +12,17 @@ use Rattle.rustsec_lock.specs.declared.severity.Severity.{Severity}
 use Rattle.rustsec_lock.specs.Metrics.{attack_complexity_letter, attack_complexity_values, attack_vector_letter, attack_vector_values, availability_letter, availability_values, confidentiality_letter, confidentiality_values, integrity_letter, integrity_values, privileges_required_letter, privileges_required_values, scope_letter, scope_values, user_interaction_letter, user_interaction_values}
 use Rattle.rustsec_lock.specs.Score.{score_tenths_of, severity_of}
 
--- what stands behind a beginning, in a text that begins with it
+-- the text after a prefix, if it begins with the prefix
 abbrev pub behind : List ℕ → List ℕ → Option (List ℕ)
 behind beginning text = if starts_with nat_eq text beginning then Some (drop (length beginning) text) else None
 
--- the member of a list that has no other
+-- the member of a list that has exactly one
 abbrev pub lone : {A : Type 0} → List A → Option A
 lone [] = None
 lone (x ∷ []) = Some x
 lone (x ∷ y ∷ rest) = None
 
--- what stands behind a metric's name in the one part that begins with it
+-- the text after a metric's name in the only part that begins with it
 unfoldable pub given : List ℕ → List (List ℕ) → Option (List ℕ)
 given name parts = lone (filter_map (behind name) parts)
 
@@ -30,7 +30,7 @@ given name parts = lone (filter_map (behind name) parts)
 abbrev pub parts_of : List ℕ → List (List ℕ)
 parts_of text = slice_split (λ b. b == 47) text
 
--- the value whose letter stands behind a metric's name in the one part that begins with it
+-- the value whose letter follows a metric's name in the only part that begins with it
 abbrev pub metric : {A : Type 0} → (A → List ℕ) → List A → List ℕ → List (List ℕ) → Option A
 metric letter values name parts = given name parts >>= value_named letter values
 
@@ -48,11 +48,11 @@ metrics_of minor parts =
     metric availability_letter availability_values (codes "A:") parts >>= λ a.
     Some (record { minor_version = minor; av = av; ac = ac; pr = pr; ui = ui; s = s; c = c; i = i; a = a })
 
--- the base metrics of the text behind a vector's version
+-- the base metrics of the text after a vector's version
 unfoldable pub base_of : ℕ → List ℕ → Option Base
 base_of minor text = only_if (length (parts_of text) == 8) (metrics_of minor (parts_of text))
 
--- the first reading that there is
+-- the first reading that succeeds
 abbrev pub or_else : {A : Type 0} → Option A → Option A → Option A
 or_else None other = other
 or_else (Some x) other = Some x
@@ -61,7 +61,7 @@ or_else (Some x) other = Some x
 abbrev pub kept_vector : List ℕ → Option Cvss
 kept_vector text = option_map (λ rest. cvss.CvssV40 text) (behind (codes "CVSS:4.0/") text)
 
--- the vector that a text is, where it is one
+-- the vector of a text, if it is a vector
 abbrev pub cvss_of : List ℕ → Option Cvss
 cvss_of text =
     or_else (behind (codes "CVSS:3.0/") text >>= base_of 0 >>= λ b. Some (cvss.CvssV30 b))
@@ -87,7 +87,7 @@ cvss_text (cvss.CvssV30 b) = base_text b
 cvss_text (cvss.CvssV31 b) = base_text b
 cvss_text (cvss.CvssV40 text) = text
 
--- the rating of a vector: none is given for version 4
+-- the rating of a vector; none for version 4
 abbrev pub cvss_severity : Cvss → Option Severity
 cvss_severity (cvss.CvssV30 b) = Some (severity_of (score_tenths_of b))
 cvss_severity (cvss.CvssV31 b) = Some (severity_of (score_tenths_of b))

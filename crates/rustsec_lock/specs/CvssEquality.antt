@@ -20,7 +20,7 @@ use Rattle.rustsec_lock.specs.contracts.metrics.Confidentiality.{the_type as con
 use Rattle.rustsec_lock.specs.contracts.metrics.Integrity.{the_type as integrity}
 use Rattle.rustsec_lock.specs.contracts.metrics.Availability.{the_type as availability}
 
--- `==` of base metrics: each part's
+-- `==` of base metrics: that of each part
 abbrev pub base_eq : Base → Base → Bool
 base_eq x y =
     nat_eq x.minor_version y.minor_version && (sameb attack_vector x.av y.av && (sameb attack_complexity x.ac y.ac

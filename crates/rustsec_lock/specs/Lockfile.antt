@@ -19,7 +19,7 @@ use Rattle.rustsec_lock.specs.Source.{source_id_of}
 abbrev pub version_of : List ℕ → Option Parts
 version_of text = value_of (version_parts text)
 
--- the package of a table: texts at `name`, at `version` and, where the keys are there, at `source` and `checksum`
+-- the package of a table: texts at `name`, at `version` and, if the keys are present, at `source` and `checksum`
 abbrev pub package_in : Members → Option PackageValue
 package_in ms =
     required as_str (codes "name") ms >>= name_of >>= λ name.
@@ -32,7 +32,7 @@ package_in ms =
 abbrev pub package_of : Data → Option PackageValue
 package_of d = as_table d >>= package_in
 
--- the packages of a lockfile's table, in order, none where the key `package` is missing; other keys say nothing
+-- the packages of a lockfile's table, in order; none if the key `package` is missing; other keys are ignored
 abbrev pub packages_of : Members → Option (List PackageValue)
 packages_of ms = defaulted [] (every package_of) (codes "package") ms
 

@@ -1,4 +1,4 @@
--- The letters that stand for the values of the base metrics: CVSS 3.1, section 6, table 15.
+-- The letters of the values of the base metrics: CVSS 3.1, section 6, table 15.
 use Rattle.std.specs.Prelude.{ℕ, List, [], ◌∷◌, Option, codes}
 use Rattle.rustsec_values.specs.ClosedTables.{value_named}
 use Rattle.rustsec_lock.specs.declared.metrics.AttackComplexity.{AttackComplexity}
@@ -18,7 +18,7 @@ use Rattle.rustsec_lock.specs.declared.metrics.Scope.TheVariants as scope
 use Rattle.rustsec_lock.specs.declared.metrics.UserInteraction.{UserInteraction}
 use Rattle.rustsec_lock.specs.declared.metrics.UserInteraction.TheVariants as user_interaction
 
--- ---- the letter of a value: its name's first
+-- ---- the letter of a value: the first of its name
 
 abbrev pub attack_vector_letter : AttackVector → List ℕ
 attack_vector_letter attack_vector.Network = codes "N"
@@ -84,7 +84,7 @@ integrity_values = integrity.None ∷ integrity.Low ∷ integrity.High ∷ []
 abbrev pub availability_values : List Availability
 availability_values = availability.None ∷ availability.Low ∷ availability.High ∷ []
 
--- ---- the value of a letter, where there is one
+-- ---- the value of a letter, if any
 
 abbrev pub attack_vector_of : List ℕ → Option AttackVector
 attack_vector_of = value_named attack_vector_letter attack_vector_values

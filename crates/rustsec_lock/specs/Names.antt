@@ -9,6 +9,6 @@ use Rattle.rustsec_values.specs.Reading.{only_if}
 abbrev pub name_of : List ℕ → Option (List ℕ)
 name_of text = only_if (nat_lt 0 (length text)) (Some text)
 
--- names by their bytes
+-- names are ordered by their bytes
 abbrev pub name_cmp : List ℕ → List ℕ → Ordering
 name_cmp = slice_cmp nat_cmp

@@ -24,12 +24,13 @@ pub record PackageValue : Type 0 where
   pub source : Option Source
   pub checksum : Option (List ℕ)
 
--- packages by these fields in this order: versions by the order of their type, none before a source or a checksum
+-- packages are ordered by these fields, in this order: versions by the order of their type, a missing source or
+-- checksum first
 abbrev pub package_cmp : PackageValue → PackageValue → Ordering
 package_cmp = then_cmp (on (λ (p : PackageValue). p.name) (slice_cmp nat_cmp)) (then_cmp (on (λ (p : PackageValue). p.version) version_order)
     (then_cmp (on (λ (p : PackageValue). p.source) (option_cmp source_cmp)) (on (λ (p : PackageValue). p.checksum) (option_cmp (slice_cmp nat_cmp)))))
 
--- two packages are equal where all their fields are
+-- two packages are equal if all their fields are
 abbrev pub package_eq : PackageValue → PackageValue → Bool
 package_eq = eq_of_both (on (λ (p : PackageValue). p.name) (pointwise nat_eq)) (eq_of_both (on (λ (p : PackageValue). p.version) version_eq)
     (eq_of_both (on (λ (p : PackageValue). p.source) (option_eq source_eq)) (on (λ (p : PackageValue). p.checksum) (option_eq (pointwise nat_eq)))))

@@ -1,5 +1,5 @@
--- The score of base metrics, in tenths, and its rating: CVSS 3.1, sections 5, 7.1 and 7.4, in exact whole units
--- of 10^-12 in place of floating point.
+-- The score of base metrics, in tenths, and its rating: CVSS 3.1, sections 5, 7.1 and 7.4, in exact whole units of
+-- 10^-12 instead of floating point.
 use Rattle.std.specs.Prelude.{◌≡◌, ℕ, zero, suc, ◌+◌, ◌-◌, ◌*◌, ◌/◌, ◌^◌, ◌≤◌, ◌==◌, Bool, true, false, List, min, nat_lt, if◌then◌else◌, codes}
 use Rattle.std.specs.Ordering.{nat_cmp, on}
 use Rattle.std.specs.declared.cmp.Ordering.{Ordering}
@@ -23,7 +23,7 @@ use Rattle.rustsec_lock.specs.declared.metrics.UserInteraction.TheVariants as us
 use Rattle.rustsec_lock.specs.declared.severity.Severity.{Severity}
 use Rattle.rustsec_lock.specs.declared.severity.Severity.TheVariants as severity
 
--- one, and so many thousandths of it
+-- one, and a number of thousandths of it
 abbrev pub one : ℕ
 one = 10 ^ 12
 
@@ -74,7 +74,7 @@ availability_weight availability.High = thousandths 560
 
 -- ---- the steps: section 7.1
 
--- what is kept of confidentiality, integrity and availability, each
+-- what is left of confidentiality, integrity and availability, each
 abbrev pub kept_confidentiality : Confidentiality → ℕ
 kept_confidentiality c = one - confidentiality_weight c
 
@@ -93,12 +93,12 @@ abbrev pub is_harmless : Confidentiality → Integrity → Availability → Bool
 is_harmless confidentiality.None integrity.None availability.None = true
 is_harmless c i a = false
 
--- a number multiplied so often by a factor
+-- a number multiplied by a factor as often as a count says
 unfoldable pub multiplied : ℕ → ℕ → ℕ → ℕ
 multiplied zero x p = p
 multiplied (suc n) x p = mul (multiplied n x p) x
 
--- what the fifteenth power is of, and the fifteenth power with its fourteen floors
+-- the base of the fifteenth power, and the fifteenth power with its fourteen floors
 abbrev pub power_base : ℕ → ℕ
 power_base iss = iss - thousandths 20
 
@@ -140,7 +140,7 @@ score_tenths_of b =
 -- ---- the same products without floors
 
 -- no floor loses anything in the products of step 1, in the first products of step 3 and in those of step 4: each is
--- the whole product of its factors
+-- the exact product of its factors
 pub record HasExactProducts (b : Base) : Type 0 where
   pub sub_score : (one - iss_of b.c b.i b.a) * one ^ 2
       ≡ kept_confidentiality b.c * kept_integrity b.i * kept_availability b.a

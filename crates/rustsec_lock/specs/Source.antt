@@ -37,7 +37,7 @@ is_plus b = b == 43
 abbrev pub ends_address : ℕ → Bool
 ends_address b = b == 63 || b == 35
 
--- where a source is found: its address, of which `git` sources leave out all from the first `?` or `#` on
+-- the address for `url`: for `git` sources without all from the first `?` or `#` on
 abbrev pub location_of : SourceKind → List ℕ → List ℕ
 location_of kind.Registry address = address
 location_of kind.SparseRegistry address = address
@@ -53,11 +53,11 @@ url_of s = location_of s.kind s.address
 abbrev pub source_text : Source → List ℕ
 source_text s = kind_word s.kind ++ 43 ∷ s.address
 
--- a source, where its location is not empty
+-- a source, if its location is not empty
 abbrev pub located : Source → Option Source
 located s = only_if (nat_lt 0 (length (url_of s))) (Some s)
 
--- what stands before the first plus sign and behind it, where there is one
+-- the text before the first plus sign and the text after it, if there is a plus sign
 abbrev pub at_plus : List ℕ → Option (List ℕ × List ℕ)
 at_plus text = only_if (nat_lt (position_or_len is_plus text) (length text)) (Some (before_first is_plus text, after_first is_plus text))
 

@@ -1,4 +1,4 @@
--- Sources are compared by their texts, and a text has one source.
+-- Sources are compared by their texts, and a text is the text of one source.
 use Rattle.std.specs.Prelude.{◌≡◌, ◌++◌, ℕ, Bool, List, [], ◌∷◌, nat_eq, refl}
 use Rattle.std.specs.Bool.{Decides}
 use Rattle.std.specs.Cmp.{IsEquivalence, IsTotalOrder, on_equiv, on_total}
@@ -14,7 +14,7 @@ use Rattle.rustsec_lock.specs.declared.source.SourceKind.TheVariants as kind
 abbrev pub source_eq : Source → Source → Bool
 source_eq = on source_text (pointwise nat_eq)
 
--- sources by their texts
+-- sources are ordered by their texts
 abbrev pub source_cmp : Source → Source → Ordering
 source_cmp = on source_text (slice_cmp nat_cmp)
 

@@ -1,4 +1,4 @@
-//! Vectors of CVSS: section 6 of CVSS 3.1, and version 4 as a text.
+//! CVSS vectors: CVSS 3.1, section 6, and version 4 as a text.
 
 ghost use Rattle.std.specs.Prelude.{◌≡◌, ◌==◌, Some, None, IfErr, IfOk, IfSome, length, map, option_map};
 ghost use Rattle.std.specs.Fmt.{DisplaysOnOk};
@@ -12,25 +12,25 @@ use rustsec_versions::{ErrorKind, FromText, Result, refused_text};
 use std::alloc::{AllocError, Global};
 use std::fmt;
 
-/// A vector of CVSS. If it is read from a text, `CvssV30` has the minor version 0 and `CvssV31` has 1.
+/// A CVSS vector. After parsing, `CvssV30` has the minor version 0 and `CvssV31` has 1.
 #[derive(Debug, PartialEq, Eq, Drop)]
 pub enum Cvss {
     /// A vector of version 3.0.
     CvssV30(Base),
     /// A vector of version 3.1.
     CvssV31(Base),
-    /// A text that begins with `CVSS:4.0/`, which is neither checked nor rated.
+    /// A text that begins with `CVSS:4.0/`; it is neither checked nor rated.
     CvssV40(Text),
 }
 
-/// What stands behind a beginning, in a text that begins with it.
+/// Returns the text after a prefix, if it begins with the prefix.
 fn behind<'a>(beginning: &str, text: &'a str) -> Option<&'a str>
     ensures { option_map (λ t. t.now) result ≡ behind beginning.now text.now }
 {
     text.strip_prefix(beginning)
 }
 
-/// What stands behind a metric's name in the one part that begins with it.
+/// Returns the text after a metric's name in the only part that begins with it.
 fn given<'a>(name: &str, parts: &[&'a str]) -> Option<&'a str>
     ensures { option_map (λ t. t.now) result ≡ given name.now (map (λ p. p.now) parts.now) }
 {
@@ -46,14 +46,14 @@ fn given<'a>(name: &str, parts: &[&'a str]) -> Option<&'a str>
     found
 }
 
-/// The value whose letter stands behind a metric's name in the one part that begins with it.
+/// Returns the value whose letter follows a metric's name in the only part that begins with it.
 fn metric<T: Named>(name: &str, parts: &[&str]) -> Option<T>
     ensures { result ≡ metric T.name_of T.values name.now (map (λ p. p.now) parts.now) }
 {
     value_named(given(name, parts)?)
 }
 
-/// The metrics that the parts of a vector give.
+/// Returns the metrics of the parts of a vector.
 fn metrics(minor_version: usize, parts: &[&str]) -> Option<Base>
     ensures value { result ≡ metrics_of minor_version (map (λ p. p.now) parts.now) }
     ensures minor { IfSome result (λ b. b.minor_version ≡ minor_version) }
@@ -71,14 +71,14 @@ fn metrics(minor_version: usize, parts: &[&str]) -> Option<Base>
     })
 }
 
-/// Whether a vector has a part for each of the eight base metrics, and no other part.
+/// Returns whether a vector has a part for each of the eight base metrics, and no other part.
 fn are_eight(parts: &[&str]) -> bool
     ensures { result ≡ (length parts.now == 8) }
 {
     parts.len() == 8
 }
 
-/// The metrics of the text behind a vector's version: eight parts between slashes.
+/// Parses the text after a vector's version: eight parts between slashes.
 fn base(alloc: Global, minor_version: usize, text: &str) -> Result<Base>
     ensures ok { IfOk result (λ b. base_of minor_version text.now ≡ Some b) }
     ensures minor { IfOk result (λ b. b.minor_version ≡ minor_version) }
@@ -99,12 +99,13 @@ fn base(alloc: Global, minor_version: usize, text: &str) -> Result<Base>
 }
 
 impl Cvss {
-    /// Reads a vector: `CVSS:3.0` or `CVSS:3.1` with each of the eight base metrics once, in any order, or
-    /// `CVSS:4.0/` and any text, which is kept.
+    /// Parses a vector (CVSS 3.1, section 6): `CVSS:3.0` or `CVSS:3.1` with each of the eight base metrics once, in
+    /// any
+    /// order, or `CVSS:4.0/` and any text, which is kept.
     ///
     /// # Errors
     ///
-    /// `Parse` if the text is no such vector, and `OutOfMemory`.
+    /// `Parse` if the text is not such a vector; else `OutOfMemory`.
     pub fn from_str(alloc: Global, text: &str) -> Result<Cvss>
         ensures ok { IfOk result (λ v. cvss_of text.now ≡ Some v) }
         ensures again { IfOk result (λ v. cvss_of (cvss_text v) ≡ Some v) }
@@ -130,7 +131,7 @@ impl Cvss {
         ))
     }
 
-    /// The rating of the vector's score; none for version 4.
+    /// Returns the rating of the vector's score (CVSS 3.1, section 5); none for version 4.
     pub fn severity(&self) -> Option<Severity>
         ensures { result ≡ cvss_severity self.now }
     {
@@ -141,7 +142,7 @@ impl Cvss {
         }
     }
 
-    /// An equal vector.
+    /// Returns an equal vector.
     ///
     /// # Errors
     ///

@@ -1,4 +1,4 @@
-//! Lockfiles, the names and sources of their packages, platforms, and ratings by CVSS vectors.
+//! Lockfiles, the names and sources of their packages, platforms, and ratings of CVSS vectors.
 #![tactic(auto)]
 
 mod cvss;

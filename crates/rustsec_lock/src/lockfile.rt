@@ -1,4 +1,4 @@
-// Lockfiles.
+//! Lockfiles (`Cargo.lock`).
 
 ghost use Rattle.std.specs.Prelude.{◌≡◌, ◌++◌, ◌∷◌, ◌⊎◌, [], ℕ, IfErr, IfOk, List, None, OnOk, Some, option_map};
 ghost use Rattle.toml.specs.View.{array_view, table_view, view};
@@ -23,7 +23,7 @@ use std::rt::Files;
 use toml::value::Array;
 use toml::{Table, Value};
 
-/// The source of a text that may be missing.
+/// Parses a source that may be missing.
 fn source_of(alloc: Global, text: Option<&str>) -> Result<Option<SourceId>>
     ensures ok { IfOk result (λ s. read_optional source_id_of (option_map (λ t. t.now) text.entry) ≡ Some s) }
     ensures err { IfErr result (IsRefusal ErrorKind.Parse (read_optional source_id_of (option_map (λ t. t.now) text.entry) ≡ None)) }
@@ -37,7 +37,7 @@ fn source_of(alloc: Global, text: Option<&str>) -> Result<Option<SourceId>>
     }
 }
 
-/// The package that a table stands for.
+/// Reads the package of a table.
 fn package_in(alloc: Global, table: &Table) -> Result<Package>
     ensures ok { IfOk result (λ p. package_in (table_view table.now) ≡ Some p) }
     ensures err { IfErr result (IsRefusal ErrorKind.Parse (package_in (table_view table.now) ≡ None)) }
@@ -59,7 +59,7 @@ fn package_in(alloc: Global, table: &Table) -> Result<Package>
     })
 }
 
-/// The package of a value, which must be a table.
+/// Reads the package of a value, which must be a table.
 fn package_of(alloc: Global, value: &Value) -> Result<Package>
     ensures ok { IfOk result (λ p. package_of (view value.now) ≡ Some p) }
     ensures err { IfErr result (IsRefusal ErrorKind.Parse (package_of (view value.now) ≡ None)) }
@@ -70,7 +70,7 @@ fn package_of(alloc: Global, value: &Value) -> Result<Package>
     }
 }
 
-/// Where a package stands: its place among the packages, from 1 on, and its name if it has one.
+/// Returns the place of a package for a message: its position among the packages, from 1 on, and its name, if any.
 fn place_of(alloc: Global, index: usize, value: &Value) -> std::result::Result<String, AllocError> {
     let place = index.saturating_add(1);
     match value.get("name").and_then(Value::as_str) {
@@ -82,7 +82,7 @@ fn place_of(alloc: Global, index: usize, value: &Value) -> std::result::Result<S
     }
 }
 
-/// The refusal of a package that names its place.
+/// Adds the place of a package before the message of an error about it.
 fn in_package(alloc: Global, index: usize, value: &Value, error: &Error) -> Error
     ensures kind { IsOfKind error.now.kind result }
     ensures memory { IsMemory error.now → IsMemory result }
@@ -93,7 +93,7 @@ fn in_package(alloc: Global, index: usize, value: &Value, error: &Error) -> Erro
     }
 }
 
-/// Puts the package of a value behind others.
+/// Appends the package of a value.
 fn add_package(alloc: Global, packages: &mut Items<Package>, value: &Value) -> Result<()>
     ensures ok { OnOk result (option_map (λ p. packages.old ++ p ∷ []) (package_of (view value.now)) ≡ Some packages.new) }
     ensures err { IfErr result (IsRefusal ErrorKind.Parse (package_of (view value.now) ≡ None)) }
@@ -107,7 +107,7 @@ fn add_package(alloc: Global, packages: &mut Items<Package>, value: &Value) -> R
     }
 }
 
-/// The packages of an array, in order.
+/// Reads the packages of an array, in order.
 fn packages_in(alloc: Global, array: &Array) -> Result<Items<Package>>
     ensures ok { IfOk result (λ ps. read_all package_of (list_of (array_view array.now)) ≡ Some ps) }
     ensures err { IfErr result (IsRefusal ErrorKind.Parse (read_all package_of (list_of (array_view array.now)) ≡ None)) }
@@ -119,7 +119,7 @@ fn packages_in(alloc: Global, array: &Array) -> Result<Items<Package>>
     Ok(packages)
 }
 
-/// The refusal of a text that is no TOML document, whose cause is what `toml` says of it.
+/// Returns the error for a text that is not a TOML document; its cause is the reason of `toml`.
 fn no_document(alloc: Global, error: &toml::de::Error) -> Error
     ensures { IsOfKind ErrorKind.Parse result }
 {
@@ -140,14 +140,14 @@ pub struct Lockfile {
 }
 
 impl Lockfile {
-    /// The lockfile of a TOML table. The array `package` holds a table for each package, with the texts
-    /// `name`, `version` and, if they are there, `source` and `checksum`. Without that key there are
-    /// no packages. Other keys say nothing.
+    /// Reads the lockfile of a TOML table. The array `package` holds a table for each package, with the texts
+    /// `name`, `version` and, if present, `source` and `checksum`. Without that key there are no packages.
+    /// Other keys are ignored.
     ///
     /// # Errors
     ///
     /// `Parse` if a value is of another type, a name or a version is missing, or a text is refused; else
-    /// `OutOfMemory`. The message names the package, by its place from 1 on and its name.
+    /// `OutOfMemory`. The message names the package, by its position from 1 on and its name.
     #[tactic(auto, using(crate::proofs::ValidVersions::values_valid))]
     pub fn from_table(alloc: Global, table: &Table) -> Result<Lockfile>
         ensures ok { IfOk result (λ l. packages_of (table_view table.now) ≡ Some l.packages) }
@@ -168,11 +168,11 @@ impl Lockfile {
         Ok(Lockfile { packages })
     }
 
-    /// The lockfile of a text, which is read as a TOML document.
+    /// Parses a lockfile, which is a TOML document.
     ///
     /// # Errors
     ///
-    /// `Parse` if the text is no document, or `from_table` refuses its table; else
+    /// `Parse` if the text is not a TOML document, or `from_table` refuses its table; else
     /// `OutOfMemory`.
     pub fn from_str(alloc: Global, text: &str) -> Result<Lockfile>
         ensures ok { IfOk result (λ l. lockfile_of text.now ≡ Some l.packages) }
@@ -234,7 +234,7 @@ impl Lockfile {
         Lockfile::of_file(alloc, path, text.as_str())
     }
 
-    /// An equal lockfile.
+    /// Returns an equal lockfile.
     ///
     /// # Errors
     ///

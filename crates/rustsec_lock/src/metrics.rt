@@ -1,17 +1,17 @@
-//! The base metrics of CVSS 3, and the letters that stand for their values.
+//! The base metrics of CVSS 3, and the letters of their values (CVSS 3.1, sections 2 and 6).
 
 use rustsec_values::{ExactClone, ExactEq, Named};
 
-/// How close an attacker has to be: section 2.1.1 of CVSS 3.1.
+/// How close an attacker must be: CVSS 3.1, section 2.1.1.
 #[derive(Clone, Copy, Debug, PartialEq, Eq)]
 pub enum AttackVector {
     /// Over a network.
     Network,
     /// From an adjacent network.
     Adjacent,
-    /// From the system itself.
+    /// From the vulnerable system itself.
     Local,
-    /// With the system in hand.
+    /// With physical access to the system.
     Physical,
 }
 
@@ -31,7 +31,7 @@ impl Named for AttackVector {
         ]
     }
 
-    /// The letter of the value.
+    /// Returns the letter of the value.
     fn name(&self) -> &'static str {
         match self {
             AttackVector::Network => "N",
@@ -53,12 +53,12 @@ impl ExactEq for AttackVector {
     ghost decides = { λ x y. (same_true the_type tt x y, true_same the_type x y) };
 }
 
-/// What has to be in place beyond the attacker's control: section 2.1.2 of CVSS 3.1.
+/// Which conditions beyond the attacker's control must hold: CVSS 3.1, section 2.1.2.
 #[derive(Clone, Copy, Debug, PartialEq, Eq)]
 pub enum AttackComplexity {
-    /// Nothing.
+    /// None.
     Low,
-    /// Something that the attacker has to wait for or to prepare.
+    /// Some that the attacker must wait for or prepare.
     High,
 }
 
@@ -73,7 +73,7 @@ impl Named for AttackComplexity {
         &[AttackComplexity::Low, AttackComplexity::High]
     }
 
-    /// The letter of the value.
+    /// Returns the letter of the value.
     fn name(&self) -> &'static str {
         match self {
             AttackComplexity::Low => "L",
@@ -93,7 +93,7 @@ impl ExactEq for AttackComplexity {
     ghost decides = { λ x y. (same_true the_type tt x y, true_same the_type x y) };
 }
 
-/// The privileges that an attacker needs before the attack: section 2.1.3 of CVSS 3.1.
+/// The privileges that an attacker needs before the attack: CVSS 3.1, section 2.1.3.
 #[derive(Clone, Copy, Debug, PartialEq, Eq)]
 pub enum PrivilegesRequired {
     /// No privileges.
@@ -119,7 +119,7 @@ impl Named for PrivilegesRequired {
         ]
     }
 
-    /// The letter of the value.
+    /// Returns the letter of the value.
     fn name(&self) -> &'static str {
         match self {
             PrivilegesRequired::None => "N",
@@ -140,7 +140,7 @@ impl ExactEq for PrivilegesRequired {
     ghost decides = { λ x y. (same_true the_type tt x y, true_same the_type x y) };
 }
 
-/// Whether a user has to take part: section 2.1.4 of CVSS 3.1.
+/// Whether a user must take part: CVSS 3.1, section 2.1.4.
 #[derive(Clone, Copy, Debug, PartialEq, Eq)]
 pub enum UserInteraction {
     /// No user takes part.
@@ -160,7 +160,7 @@ impl Named for UserInteraction {
         &[UserInteraction::None, UserInteraction::Required]
     }
 
-    /// The letter of the value.
+    /// Returns the letter of the value.
     fn name(&self) -> &'static str {
         match self {
             UserInteraction::None => "N",
@@ -180,12 +180,12 @@ impl ExactEq for UserInteraction {
     ghost decides = { λ x y. (same_true the_type tt x y, true_same the_type x y) };
 }
 
-/// Whether the attack reaches beyond the component that is vulnerable: section 2.2 of CVSS 3.1.
+/// Whether the attack reaches beyond the vulnerable component: CVSS 3.1, section 2.2.
 #[derive(Clone, Copy, Debug, PartialEq, Eq)]
 pub enum Scope {
-    /// It stays with that component's authority.
+    /// It stays within the authority of that component.
     Unchanged,
-    /// It reaches others.
+    /// It reaches other components.
     Changed,
 }
 
@@ -200,7 +200,7 @@ impl Named for Scope {
         &[Scope::Unchanged, Scope::Changed]
     }
 
-    /// The letter of the value.
+    /// Returns the letter of the value.
     fn name(&self) -> &'static str {
         match self {
             Scope::Unchanged => "U",
@@ -220,14 +220,14 @@ impl ExactEq for Scope {
     ghost decides = { λ x y. (same_true the_type tt x y, true_same the_type x y) };
 }
 
-/// What is lost of confidentiality: section 2.3.1 of CVSS 3.1.
+/// The loss of confidentiality: CVSS 3.1, section 2.3.1.
 #[derive(Clone, Copy, Debug, PartialEq, Eq)]
 pub enum Confidentiality {
-    /// Nothing.
+    /// No loss.
     None,
-    /// Some of it.
+    /// Partial loss.
     Low,
-    /// All of it.
+    /// Total loss.
     High,
 }
 
@@ -246,7 +246,7 @@ impl Named for Confidentiality {
         ]
     }
 
-    /// The letter of the value.
+    /// Returns the letter of the value.
     fn name(&self) -> &'static str {
         match self {
             Confidentiality::None => "N",
@@ -267,14 +267,14 @@ impl ExactEq for Confidentiality {
     ghost decides = { λ x y. (same_true the_type tt x y, true_same the_type x y) };
 }
 
-/// What is lost of integrity: section 2.3.2 of CVSS 3.1.
+/// The loss of integrity: CVSS 3.1, section 2.3.2.
 #[derive(Clone, Copy, Debug, PartialEq, Eq)]
 pub enum Integrity {
-    /// Nothing.
+    /// No loss.
     None,
-    /// Some of it.
+    /// Partial loss.
     Low,
-    /// All of it.
+    /// Total loss.
     High,
 }
 
@@ -289,7 +289,7 @@ impl Named for Integrity {
         &[Integrity::None, Integrity::Low, Integrity::High]
     }
 
-    /// The letter of the value.
+    /// Returns the letter of the value.
     fn name(&self) -> &'static str {
         match self {
             Integrity::None => "N",
@@ -310,14 +310,14 @@ impl ExactEq for Integrity {
     ghost decides = { λ x y. (same_true the_type tt x y, true_same the_type x y) };
 }
 
-/// What is lost of availability: section 2.3.3 of CVSS 3.1.
+/// The loss of availability: CVSS 3.1, section 2.3.3.
 #[derive(Clone, Copy, Debug, PartialEq, Eq)]
 pub enum Availability {
-    /// Nothing.
+    /// No loss.
     None,
-    /// Some of it.
+    /// Partial loss.
     Low,
-    /// All of it.
+    /// Total loss.
     High,
 }
 
@@ -332,7 +332,7 @@ impl Named for Availability {
         &[Availability::None, Availability::Low, Availability::High]
     }
 
-    /// The letter of the value.
+    /// Returns the letter of the value.
     fn name(&self) -> &'static str {
         match self {
             Availability::None => "N",
@@ -353,10 +353,10 @@ impl ExactEq for Availability {
     ghost decides = { λ x y. (same_true the_type tt x y, true_same the_type x y) };
 }
 
-/// The base metrics of a vector of CVSS 3.
+/// The base metrics of a CVSS 3 vector.
 #[derive(Clone, Copy, Debug, PartialEq, Eq)]
 pub struct Base {
-    /// The number behind `CVSS:3.`, which the score does not look at.
+    /// The number after `CVSS:3.`; the score does not depend on it.
     pub minor_version: usize,
     /// Attack vector.
     pub av: AttackVector,

@@ -1,4 +1,4 @@
-// Names of packages.
+//! Names of packages.
 
 ghost use Rattle.std.specs.Prelude.{◌≡◌, ◌<◌, IfErr, IfOk, None, Some, length};
 ghost use Rattle.rustsec_versions.specs.Failure.{IsMemory, IsRefusal};
@@ -30,7 +30,7 @@ impl Model for Name {
 }
 
 impl Name {
-    /// The name of a text.
+    /// Parses a name.
     ///
     /// # Errors
     ///
@@ -47,17 +47,17 @@ impl Name {
         Ok(Name { text })
     }
 
-    /// The text.
+    /// Returns the text.
     pub fn as_str(&self) -> &str
         ensures text { result.now ≡ self.now }
 
-        // The text is read back as the same name.
+        // Parsing the text gives the same name.
         ensures back { name_of result.now ≡ Some self.now }
     {
         self.text.as_str()
     }
 
-    /// An equal name.
+    /// Returns an equal name.
     ///
     /// # Errors
     ///

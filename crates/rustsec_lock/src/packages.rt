@@ -1,4 +1,4 @@
-// Packages of a lockfile.
+//! Packages of a lockfile.
 
 ghost use Rattle.std.specs.Prelude.{◌≡◌, IfErr, IfOk, Some, refl};
 ghost use Rattle.std.specs.Cmp.{partial_equiv_from_equiv, po};
@@ -14,16 +14,16 @@ use std::alloc::{AllocError, Global};
 use std::cmp::Ordering;
 use std::marker::Model;
 
-/// A package, as a lockfile names it. Packages are ordered by these fields, in this order.
+/// A package of a lockfile. Packages are ordered by these fields, in this order.
 #[derive(Debug, Drop)]
 pub struct Package {
     /// The name.
     pub name: Name,
     /// The version.
     pub version: Version,
-    /// Where the package comes from, if that is said.
+    /// The source, if the lockfile gives one.
     pub source: Option<SourceId>,
-    /// The checksum, as it is written, if there is one.
+    /// The checksum as it is written, if the lockfile gives one.
     pub checksum: Option<Text>,
 }
 
@@ -37,7 +37,7 @@ impl Model for Package {
 }
 
 impl Package {
-    /// An equal package.
+    /// Returns an equal package.
     ///
     /// # Errors
     ///

@@ -1,4 +1,4 @@
-//! Architectures and systems, by the names of two closed tables.
+//! Architectures and operating systems: two closed tables of names.
 
 ghost use Rattle.std.specs.Prelude.{◌≡◌, IfErr, IfOk, None, Some};
 ghost use Rattle.rustsec_versions.specs.Failure.{IsRefusal};
@@ -9,7 +9,7 @@ use rustsec_versions::{ErrorKind, FromText, Result, refused_text};
 use std::alloc::Global;
 use std::fmt;
 
-/// An architecture of processors.
+/// A processor architecture.
 #[derive(Clone, Copy, Debug, PartialEq, Eq)]
 pub enum Arch {
     /// `aarch64`.
@@ -88,7 +88,7 @@ const ARCHES: &[Arch] = &[
 ];
 
 impl Arch {
-    /// The architecture of a name. Case counts.
+    /// Returns the architecture with a name. It distinguishes upper and lower case.
     ///
     /// # Errors
     ///
@@ -98,7 +98,7 @@ impl Arch {
         ensures text { IfOk result (λ x. arch_text x ≡ text.now) }
         ensures err { IfErr result (IsRefusal ErrorKind.Parse (arch_of text.now ≡ None)) }
 
-        // Any error, of memory too, means that nothing has this name.
+        // Success takes no memory, so any error means that nothing has this name.
         ensures none { IfErr result (λ e. arch_of text.now ≡ None) }
     {
         match value_named(text) {
@@ -112,11 +112,11 @@ impl Arch {
         }
     }
 
-    /// The name.
+    /// Returns the name.
     pub fn as_str(self) -> &'static str
         ensures text { result.now ≡ arch_text self }
 
-        // The name is read back as the same value.
+        // Parsing the name gives the same value.
         ensures back { arch_of result.now ≡ Some self }
     {
         match self {
@@ -192,7 +192,7 @@ impl fmt::Display for Arch {
     }
 }
 
-/// An operating system, or what stands in its place.
+/// An operating system, or what Rust's target names have instead of one.
 #[derive(Clone, Copy, Debug, PartialEq, Eq)]
 pub enum OS {
     /// `aix`.
@@ -307,7 +307,7 @@ const SYSTEMS: &[OS] = &[
 ];
 
 impl OS {
-    /// The system of a name. Case counts.
+    /// Returns the system with a name. It distinguishes upper and lower case.
     ///
     /// # Errors
     ///
@@ -317,7 +317,7 @@ impl OS {
         ensures text { IfOk result (λ x. os_text x ≡ text.now) }
         ensures err { IfErr result (IsRefusal ErrorKind.Parse (os_of text.now ≡ None)) }
 
-        // Any error, of memory too, means that nothing has this name.
+        // Success takes no memory, so any error means that nothing has this name.
         ensures none { IfErr result (λ e. os_of text.now ≡ None) }
     {
         match value_named(text) {
@@ -331,11 +331,11 @@ impl OS {
         }
     }
 
-    /// The name.
+    /// Returns the name.
     pub fn as_str(self) -> &'static str
         ensures text { result.now ≡ os_text self }
 
-        // The name is read back as the same value.
+        // Parsing the name gives the same value.
         ensures back { os_of result.now ≡ Some self }
     {
         match self {

@@ -15,7 +15,7 @@ const THOUSANDTH: u64 = 1_000_000_000;
 /// One.
 const ONE: u64 = 1000 * THOUSANDTH;
 
-/// The product of two numbers, rounded down.
+/// Returns the product of two numbers, rounded down.
 fn mul(x: u64, y: u64) -> u64
     requires x { x < 2 ^ 44 }
     requires y { y < 2 ^ 44 }
@@ -103,7 +103,7 @@ fn availability_weight(value: Availability) -> u64
     }
 }
 
-/// The impact sub-score, which is 0 if nothing is lost.
+/// Returns the impact sub-score (ISS), which is 0 if nothing is lost.
 fn sub_score(base: &Base) -> u64
     ensures value { result ≡ iss_of base.now.c base.now.i base.now.a }
     ensures bound { result ≤ one }
@@ -115,7 +115,7 @@ fn sub_score(base: &Base) -> u64
     ONE - mul(kept, ONE - availability_weight(base.a))
 }
 
-/// The fifteenth power of a sub-score less 0.02.
+/// Returns the fifteenth power of a sub-score less 0.02.
 fn power(iss: u64) -> u64
     requires low { thousandths 20 ≤ iss }
     requires high { iss ≤ one }
@@ -130,7 +130,7 @@ fn power(iss: u64) -> u64
     power
 }
 
-/// The impact of a sub-score that is not 0.
+/// Returns the impact for a sub-score that is not 0.
 fn impact(scope: Scope, iss: u64) -> u64
     requires low { thousandths 29 ≤ iss }
     requires high { iss ≤ one }
@@ -147,7 +147,7 @@ fn impact(scope: Scope, iss: u64) -> u64
     }
 }
 
-/// How easily the vulnerability is exploited.
+/// Returns the exploitability sub-score.
 fn exploitability(base: &Base) -> u64
     ensures value { result ≡ exploitability_of base.now }
     ensures bound { result ≤ thousandths 8220 }
@@ -158,7 +158,7 @@ fn exploitability(base: &Base) -> u64
     mul(by_privileges, user_interaction_weight(base.ui))
 }
 
-/// A sum of impact and exploitability, weighted by the scope.
+/// Returns the sum of impact and exploitability, weighted by the scope.
 fn weighted(scope: Scope, sum: u64) -> u64
     requires { sum < 2 ^ 44 }
     ensures { result ≡ sum_of scope sum }
@@ -169,14 +169,14 @@ fn weighted(scope: Scope, sum: u64) -> u64
     }
 }
 
-/// A sum, of which what is above ten does not count.
+/// Returns the lesser of a sum and ten.
 fn at_most_ten(sum: u64) -> u64
     ensures { result ≡ at_most_ten sum }
 {
     sum.min(10 * ONE)
 }
 
-/// The tenths of a sum: it is rounded to hundred-thousandths first, and then up.
+/// Returns a sum in tenths: rounded to hundred-thousandths first, and then up.
 fn tenths(sum: u64) -> u8
     ensures { result ≡ rounded_up (hundred_thousandths (at_most_ten sum)) }
 {
@@ -185,7 +185,7 @@ fn tenths(sum: u64) -> u8
 }
 
 impl Base {
-    /// The score in tenths, from 0 to 100, by the equations of CVSS 3.1 in exact whole numbers.
+    /// Returns the score in tenths, from 0 to 100, by the equations of CVSS 3.1, section 7.1, in exact whole numbers.
     pub fn score_tenths(&self) -> u8
         ensures score { result ≡ score_tenths_of self.now }
         ensures exact { is_harmless self.now.c self.now.i self.now.a ≡ false → HasExactProducts self.now }

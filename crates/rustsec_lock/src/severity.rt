@@ -1,4 +1,4 @@
-//! Ratings by the scores of CVSS.
+//! Severity: ratings of CVSS scores.
 
 ghost use Rattle.std.specs.Prelude.{◌≡◌, Some};
 ghost use Rattle.rustsec_lock.specs.Score.{severity_cmp, severity_of, severity_text};
@@ -6,7 +6,7 @@ ghost use Rattle.rustsec_lock.specs.Score.{severity_cmp, severity_of, severity_t
 use rustsec_values::{ExactClone, ExactEq, StatedOrder};
 use std::fmt;
 
-/// The qualitative rating of a score: CVSS 3.1, section 5.
+/// The qualitative rating of a score (CVSS 3.1, section 5).
 #[derive(Clone, Copy, Debug, PartialEq, Eq, PartialOrd, Ord)]
 pub enum Severity {
     /// 0.0.
@@ -22,7 +22,7 @@ pub enum Severity {
 }
 
 impl Severity {
-    /// The rating of a score in tenths.
+    /// Returns the rating of a score in tenths.
     pub(crate) fn of_tenths(tenths: u8) -> Severity
         ensures { result ≡ severity_of tenths }
     {
@@ -39,7 +39,7 @@ impl Severity {
         }
     }
 
-    /// The rating's name, as `Display` prints it.
+    /// Returns the rating's name, as `Display` prints it.
     pub fn as_str(&self) -> &'static str
         ensures { result.now ≡ severity_text self.now }
     {

@@ -1,4 +1,4 @@
-// Where packages come from.
+//! Where packages come from.
 
 ghost use Rattle.std.specs.Prelude.{◌≡◌, ◌==◌, ◌<◌, IfErr, IfOk, None, Some, length};
 ghost use Rattle.std.specs.List.{before_first};
@@ -29,7 +29,7 @@ pub enum SourceKind {
 }
 
 impl SourceKind {
-    /// The word that stands before the first `+` of a source.
+    /// Returns the word before the first `+` of a source.
     pub(crate) fn word(self) -> &'static str
         ensures { result.now ≡ kind_word self }
     {
@@ -81,7 +81,7 @@ impl ExactEq for SourceKind {
 /// The words of the kinds, for a message.
 const KINDS: &str = "`registry`, `sparse`, `git`, `path`, `local-registry` or `directory`";
 
-/// What stands before the first place of a mark, or all if there is none.
+/// Returns the text before the first place of a mark, or all if the mark is missing.
 fn up_to(text: &str, mark: char) -> &str
     requires { mark < 128 }
     ensures { result.now ≡ before_first (λ b. b == mark) text.now }
@@ -92,14 +92,14 @@ fn up_to(text: &str, mark: char) -> &str
     }
 }
 
-/// What stands before the first question mark or number sign.
+/// Returns the text before the first question mark or number sign.
 fn without_reference(address: &str) -> &str
     ensures { result.now ≡ location_of SourceKind.Git address.now }
 {
     up_to(up_to(address, '?'), '#')
 }
 
-/// Where a source of this kind is found.
+/// Returns the address for `url`: of a git source without its reference.
 fn location(kind: SourceKind, address: &str) -> &str
     ensures { result.now ≡ location_of kind address.now }
 {
@@ -109,8 +109,8 @@ fn location(kind: SourceKind, address: &str) -> &str
     }
 }
 
-/// Where a package comes from: a kind and an address, as in
-/// `registry+https://github.com/rust-lang/crates.io-index`. It is compared by its text.
+/// Where a package comes from: a kind and an address, as in `registry+https://github.com/rust-lang/crates.io-index`
+/// (a source ID of Cargo). It is compared by its text.
 #[derive(Debug, Drop)]
 pub struct SourceId {
     pub(crate) kind: SourceKind,
@@ -129,12 +129,12 @@ impl Model for SourceId {
 }
 
 impl SourceId {
-    /// The source of a text: `KIND+ADDRESS`, cut at the first `+`. The kinds are `registry`, `sparse`,
-    /// `git`, `path`, `local-registry` and `directory`.
+    /// Parses a source: `KIND+ADDRESS`, cut at the first `+`. The kinds are `registry`, `sparse`, `git`,
+    /// `path`, `local-registry` and `directory`.
     ///
     /// # Errors
     ///
-    /// `Parse` if there is no `+`, the kind is none of these, or `url` would be empty; else
+    /// `Parse` if there is no `+`, the kind is not one of these, or `url` would be empty; else
     /// `OutOfMemory`.
     pub fn from_url(alloc: Global, text: &str) -> Result<SourceId>
         ensures ok { IfOk result (λ s. source_id_of text.now ≡ Some s) }
@@ -159,7 +159,7 @@ impl SourceId {
         Ok(SourceId { kind, address })
     }
 
-    /// The registry crates.io, by its index in git.
+    /// Returns the registry crates.io, by its index in git.
     ///
     /// # Errors
     ///
@@ -175,25 +175,25 @@ impl SourceId {
         })
     }
 
-    /// The kind.
+    /// Returns the kind.
     pub fn kind(&self) -> SourceKind
         ensures { result ≡ self.now.kind }
     {
         self.kind
     }
 
-    /// The address; of a git source the part before the first `?` or `#`. It is not empty.
+    /// Returns the address; for a git source, the part before the first `?` or `#`. It is not empty.
     pub fn url(&self) -> &str
         ensures url { result.now ≡ url_of self.now }
         ensures some { 0 < length result.now }
 
-        // The text of a source is read back as the same source.
+        // Parsing the text of a source gives the same source.
         ensures back { source_id_of (source_text self.now) ≡ Some self.now }
     {
         location(self.kind, self.address.as_str())
     }
 
-    /// Whether this is the registry crates.io, by its index in git or by the sparse one.
+    /// Returns whether this is the registry crates.io, by its index in git or by the sparse one.
     pub fn is_default_registry(&self) -> bool
         ensures { result ≡ is_default self.now }
     {
@@ -206,7 +206,7 @@ impl SourceId {
         }
     }
 
-    /// An equal source.
+    /// Returns an equal source.
     ///
     /// # Errors
     ///

@@ -1,4 +1,4 @@
-// Sources are compared by their texts.
+//! Compares sources by their texts.
 
 ghost use Rattle.std.specs.Prelude.{Some, refl};
 ghost use Rattle.std.specs.Cmp.{partial_equiv_from_equiv, po};

@@ -1,4 +1,4 @@
--- The trees of a member of `affected` are read as that member.
+-- Reading the trees of a member of `affected` gives that member.
 use Rattle.std.proofs.Common.{◌≡◌, ℕ, List, All, Option, Some, None, refl, ap}
 use Rattle.std.specs.Prelude.{⊤}
 use Rattle.rustsec_json.specs.Fields.{every, or_null, text}

@@ -1,4 +1,4 @@
--- Values that were sorted and of which neighbours were compared are the distinct ones, in order.
+-- Sorting values and comparing neighbours gives the distinct values, in order.
 use Rattle.std.proofs.Common.{◌≡◌, ◌∙◌, Bool, true, List, [], ◌∷◌, Ordering, map, refl, ap, IsPermutation}
 use Rattle.std.specs.Cmp.{IsEquivalence, IsTotalOrder, on_total}
 use Rattle.std.specs.List.{dedup}
@@ -33,7 +33,7 @@ map-same : {A : Type 0} (xs : List A) → map (λ x. x) xs ≡ xs
 map-same [] = refl
 map-same (x ∷ xs) = ap (λ ys. x ∷ ys) (map-same xs)
 
--- the same of values that are seen as they are
+-- likewise for values that are seen as they are
 pub are-distinct-values : {A : Type 0} (R : A → A → Ordering) (total : IsTotalOrder R) (E : A → A → Bool) (ties : (x y : A) → E x y ≡ eq_by_cmp R x y)
     (equiv : IsEquivalence E) (same : (x y : A) → E x y ≡ true → x ≡ y) (values sorted left : List A) → IsPermutation values sorted
     → IsSorted R sorted → IsFiltered (DiffersFromLast E) [] sorted left → AreDistinct R values left

@@ -1,4 +1,4 @@
--- The tree of a document is read as an equal document.
+-- Reading the tree of a document gives an equal document.
 use Rattle.std.proofs.Common.{◌≡◌, inl, inr, ℕ, List, All, Option, Some, None, refl}
 use Rattle.rustsec_json.specs.Fields.{every, text}
 use Rattle.rustsec_json.specs.Trees.{list_tree}
@@ -44,7 +44,7 @@ license-again m = rw (text-again m.license) refl
 ids-again : (ids : List IdValue) → All IsIdAgain ids → every (text id_of) (list_tree id_tree ids) ≡ Some ids
 ids-again = every-again (text id_of) id_tree IsIdAgain (λ id h. h)
 
--- a document with these two keys, each there or left out
+-- a document with these two keys, each present or left out
 abbrev pub keyed : Document → Option Parts → Option (List ℕ) → Document
 keyed d v w = record { schema_version = v; withdrawn = w; id = d.id; modified = d.modified; published = d.published; aliases = d.aliases; related = d.related; summary = d.summary; details = d.details; severity = d.severity; affected = d.affected; references = d.references; database_specific = d.database_specific }
 
@@ -89,6 +89,6 @@ keyed-again d (Some v) (Some w) h valid = rw (
   license-again d.database_specific,
 ) refl
 
--- a document is read again
+-- a document is read from its tree
 pub document-again : (d : Document) → IsDocumentAgain d → read_document (document_tree d) ≡ Some d
 document-again d h = keyed-again d d.schema_version d.withdrawn h h.schema_version

@@ -11,7 +11,7 @@ use Rattle.rustsec_osv.specs.DocumentEvents.{Event, event_of}
 use Rattle.rustsec_osv.specs.ReaderAffected.{read_event}
 use Rattle.rustsec_osv.specs.declared.timeline.OsvTimelineEvent.{OsvTimelineEvent}
 
--- a list seen twice
+-- a list mapped twice
 pub map_map : {A B C : Type 0} (f : A → B) (g : B → C) (xs : List A) → map g (map f xs) ≡ map (λ x. g (f x)) xs
 map_map f g [] = refl
 map_map f g (x ∷ xs) = ap (λ ys. g (f x) ∷ ys) (map_map f g xs)

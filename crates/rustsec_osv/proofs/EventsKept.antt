@@ -1,4 +1,4 @@
--- Whatever document is read of the tree of one with valid versions: its ranges, with their events, are the same.
+-- Printing a document with valid versions and reading it back preserves its ranges and events.
 use Rattle.std.proofs.Common.{◌≡◌, ◌∙◌, ℕ, List, [], ◌∷◌, All, map, Option, Some, None, codes, refl, ap, sym}
 use Rattle.std.proofs.lemmas.List.Elements.{All-head, All-tail}
 use Rattle.serde_json.specs.Data.{Members, object}
@@ -23,7 +23,7 @@ use Rattle.rustsec_osv.proofs.ReadLists.{every-again, list_of-items, null-again}
 some-same : {A : Type 0} (a b : A) → Some a ≡ Some b → a ≡ b
 some-same a b h = cc h
 
--- what the fourth of five steps gave, by what stands in the whole
+-- the result of the fourth of five steps, from the result of all
 fourth : {A B C D E Y : Type 0} (a : Option A) (b : Option B) (c : Option C) (d : Option D) (e : Option E) (make : A → B → C → D → E → Y) (y : Y) (part : Y → D)
     → ((a : A) (b : B) (c : C) (d : D) (e : E) → part (make a b c d e) ≡ d)
     → (a >>= λ a. b >>= λ b. c >>= λ c. d >>= λ d. e >>= λ e. Some (make a b c d e)) ≡ Some y → d ≡ Some (part y)
@@ -34,7 +34,7 @@ fourth (Some a) (Some b) (Some c) None e make y part is h = cc h
 fourth (Some a) (Some b) (Some c) (Some d) None make y part is h = cc h
 fourth (Some a) (Some b) (Some c) (Some d) (Some e) make y part is h = ap Some (sym (is a b c d e) ∙ ap part (some-same (make a b c d e) y h))
 
--- what the third of four steps gave
+-- the result of the third of four steps
 third : {A B C D Y : Type 0} (a : Option A) (b : Option B) (c : Option C) (d : Option D) (make : A → B → C → D → Y) (y : Y) (part : Y → C)
     → ((a : A) (b : B) (c : C) (d : D) → part (make a b c d) ≡ c)
     → (a >>= λ a. b >>= λ b. c >>= λ c. d >>= λ d. Some (make a b c d)) ≡ Some y → c ≡ Some (part y)
@@ -44,7 +44,7 @@ third (Some a) (Some b) None d make y part is h = cc h
 third (Some a) (Some b) (Some c) None make y part is h = cc h
 third (Some a) (Some b) (Some c) (Some d) make y part is h = ap Some (sym (is a b c d) ∙ ap part (some-same (make a b c d) y h))
 
--- what the last of three steps gave, and what of it stands in the whole
+-- the result of the last of three steps, and its part in the result of all
 last : {A B C Y Z : Type 0} (a : Option A) (b : Option B) (c : Option C) (make : A → B → C → Y) (y : Y) (part : Y → Z) (of : C → Z)
     → ((a : A) (b : B) (c : C) → part (make a b c) ≡ of c)
     → (a >>= λ a. b >>= λ b. c >>= λ c. Some (make a b c)) ≡ Some y → (x : C) × (c ≡ Some x) × (of x ≡ part y)
@@ -68,7 +68,7 @@ ranges-kept a b h e =
     (λ p x d r v. record { «package» = p; ecosystem_specific = x; database_specific = d; ranges = r; versions = v }) b ranges (λ p x d r v. refl) e in
     some-same b.ranges a.ranges (sym found ∙ again)
 
--- what a list's first value gave, and what the others did
+-- the results for a list's first value and for the others
 split : {A : Type 0} (o : Option A) (rest : Option (List A)) (ys : List A) → before o rest ≡ Some ys
     → (y : A) × (zs : List A) × (o ≡ Some y) × (rest ≡ Some zs) × (ys ≡ y ∷ zs)
 split None rest ys e = cc e
@@ -101,7 +101,7 @@ affected-read ms d e =
     let p = last (read_stamp ms) (read_content ms) (read_links ms) document_of d (λ (x : Document). x.affected) (λ (l : Links). l.affected) (λ s c l. refl) e in
     links-affected ms p.0 p.1 ∙ ap Some p.2
 
--- what stands at their key
+-- the value at their key
 affected-member : (d : Document) (v : Option Parts) (w : Option (List ℕ))
     → defaulted [] (every read_affected) (codes "affected") (document_members (keyed d v w)) ≡ every read_affected (list_tree affected_tree d.affected)
 affected-member d None None = refl
@@ -109,7 +109,7 @@ affected-member d None (Some w) = refl
 affected-member d (Some v) None = refl
 affected-member d (Some v) (Some w) = refl
 
--- the ranges of whatever is read are the same, in order
+-- any document that is read has the same ranges, in order
 pub ranges-same : (d read : Document) → AreEventsValid d → read_document (document_tree d) ≡ Some read → ranges_of read ≡ ranges_of d
 ranges-same d read h e =
     let found = affected-read (document_members d) read e in

@@ -1,4 +1,4 @@
--- The exported document of an advisory that a text is: its tree is read as an equal document.
+-- Reading the tree of an exported document gives an equal document, if the advisory is that of a text.
 use Rattle.std.proofs.Common.{◌≡◌, inl, inr, ℕ, List, [], All, map, Option, Some, None, codes, option_to_list, sym, subst}
 use Rattle.std.specs.Prelude.{Err, IfOk, Ok, Result}
 use Rattle.std.proofs.lemmas.List.Elements.{All-cons, All-head, All-nil}
@@ -53,7 +53,7 @@ affects-of (Some d) a h = subst (λ (x : Option Affected). IsAffectsAgain (affec
   functions = functions-read (get_member (codes "functions") h.0) h.1.functions h.2.1.0.functions;
 })
 
--- a document of such metadata and such a range
+-- a document with this metadata and this range
 made : (title description modified : List ℕ) (table : Members) (m : Metadata) (o : Option Data) (a : Option Affected) (references : List OsvReference) (range : JsonRange)
     → IsMetadata table title description m → IsAffectedAt o a → IsRangeAgain range → All IsReferenceAgain references
     → IsDocumentAgain (document_with m a modified references range)
@@ -82,7 +82,7 @@ made title description modified table m o a references range h w r refs =
       references = refs;
     }
 
--- the one member of its `affected`
+-- the only member of its `affected`
 abbrev exported-member : Metadata → Option Affected → JsonRange → OsvAffected
 exported-member m a range = member_of (package_of m.«package») (database_of (kinds_of m)) a range
 
@@ -92,7 +92,8 @@ exported-range : (m : Metadata) (a : Option Affected) (modified : List ℕ) (ref
 exported-range m a modified references range h =
     All-head IsRangeAgain range [] (All-head (λ (x : OsvAffected). IfThere (All IsRangeAgain) x.ranges) (exported-member m a range) [] h)
 
--- the parts of the document of an advisory that a text is are read again; each reference is, as each `Address`
+-- the parts of the document are parsed from their texts, if the advisory is that of a text; so is each reference, as
+-- each `Address` is
 pub export-again : (t : List ℕ) (a : Advisory) (modified : List ℕ) (d : Document) → IsAdvisory t a → IsDocument a modified d → AreEventsValid d
     → All IsReferenceAgain d.references → IsDocumentAgain d
 export-again t a modified d h x valid refs =
@@ -101,12 +102,12 @@ export-again t a modified d h x valid refs =
     subst IsDocumentAgain (sym same) (made _ _ modified of.advisory_table a.metadata (get_member (codes "affected") h.0) a.affected x.references x.range of.metadata of.affected
     (exported-range a.metadata a.affected modified x.references x.range (subst AreEventsValid same valid)) (subst (λ (y : Document). All IsReferenceAgain y.references) same refs))
 
--- its tree is read as an equal document
+-- reading its tree gives an equal document
 pub exported-again : (t : List ℕ) (a : Advisory) (modified : List ℕ) (d : Document) → IsAdvisory t a → IsDocument a modified d → AreEventsValid d
     → All IsReferenceAgain d.references → read_document (document_tree d) ≡ Some d
 exported-again t a modified d h x valid refs = document-again d (export-again t a modified d h x valid refs)
 
--- so it is with what the export answers, whose references are read again
+-- likewise for the result of the export, whose references are parsed from their texts
 pub exported-read : (a : Advisory) (modified : List ℕ) (r : Result Document Failure) → IfOk r (IsDocument a modified) → IfOk r AreEventsValid
     → IfOk r (λ d. All IsReferenceAgain d.references)
     → IfOk r (λ d. (t : List ℕ) → IsAdvisory t a → read_document (document_tree d) ≡ Some d)

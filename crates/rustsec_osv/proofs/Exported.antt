@@ -1,4 +1,4 @@
--- What was exported is the document of the definition, and its events are those of its one range.
+-- An exported document is the document of the definition, and its events are those of its one range.
 use Rattle.std.proofs.Common.{◌≡◌, ◌++◌, ◌⊎◌, ◌∷◌, ℕ, List, [], Option, Some, Ok, Err, append-nil, refl, sym, subst, inl, inr}
 use Rattle.std.specs.Prelude.{All, IfErr, IfOk, None, Result}
 use Rattle.std.proofs.lemmas.List.Elements.{All-cons, All-nil}
@@ -25,7 +25,7 @@ pub document-events : (m : Metadata) (a : Option Affected) (modified : List ℕ)
     → document_events (document_with m a modified references range) ≡ range.events
 document-events m a modified references range = three range.events
 
--- an advisory's parts
+-- the parts of an advisory
 abbrev pub AreParts : Advisory → Metadata × Option Affected × Lists → Type 0
 AreParts a parts = parts ≡ (a.metadata, a.affected, a.versions)
 
@@ -45,7 +45,7 @@ pub exported : (a : Advisory) (modified : List ℕ) (range : JsonRange) (r : Res
 exported a modified range (Ok d) parts e is_range made = one-exported a modified range d parts e is_range made
 exported a modified range (Err f) parts e is_range made = tt
 
--- what a refusal of the export means
+-- the meaning of an error of the export
 abbrev IsRefusedFor : Lists → Metadata → Failure → Type 0
 IsRefusedFor ls m e =
     IsRefusal kind.BadParam (HasUnboundedInterval ls) e ⊎ IsRefusal kind.Parse ((¬ HasUnboundedInterval ls) × (references_of m ≡ None)) e
@@ -62,7 +62,7 @@ refused a range (Err f) parts e is_range h =
     subst (λ (p : Metadata × Option Affected × Lists). IsRangeOf p.2 range → IsRefusal kind.Parse (references_of p.0 ≡ None) f
     → IsRefusedFor a.versions a.metadata f) (sym e) (λ is_range h. one-refused a.versions a.metadata f is_range.some h) is_range h
 
--- a refusal of the range
+-- an error of the range
 pub range-refused : (a : Advisory) (f : Failure) (parts : Metadata × Option Affected × Lists) → AreParts a parts
     → IsRefusal kind.BadParam (HasUnboundedInterval parts.2) f → IsRefusedFor a.versions a.metadata f
 range-refused a f parts e h = inl (subst (λ (p : Metadata × Option Affected × Lists). IsRefusal kind.BadParam (HasUnboundedInterval p.2) f) e h)

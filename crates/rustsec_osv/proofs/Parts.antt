@@ -1,4 +1,4 @@
--- A text has a part just where the part's bytes stand in it.
+-- A text contains a part exactly if the part's bytes are in it.
 use Rattle.std.proofs.Common.{◌≡◌, ◌++◌, ◌&&◌, ◌||◌, ℕ, Bool, true, false, List, [], ◌∷◌, ap, arith, refl, sym, inl, inr}
 use Rattle.std.specs.Prelude.{◌↔◌, nat_eq}
 use Rattle.std.specs.List.{starts_with}

@@ -1,4 +1,4 @@
--- Lists of trees, and trees that may be null, read again.
+-- Reading lists of trees, and trees that may be null.
 use Rattle.std.proofs.Common.{◌≡◌, List, [], ◌∷◌, All, map, Option, Some, None, refl, ap}
 use Rattle.std.proofs.lemmas.List.Elements.{All-head, All-tail}
 use Rattle.serde_json.specs.Data.{Data}
@@ -24,7 +24,7 @@ module _ {A : Type 0} (f : Data → Option A) (tree : A → Data) (P : A → Typ
   pub every-again : (xs : List A) → All P xs → every f (list_tree tree xs) ≡ Some xs
   every-again xs h = rw (list_of-items (map tree xs)) (all-again xs h)
 
-  -- a value that may be missing, none of whose trees is null
+  -- a value that may be missing, if no tree of a value is null
   pub null-again : ((x : A) → as_null (tree x) ≡ None) → (o : Option A) → IfThere P o → or_null f (optional_tree tree o) ≡ Some o
   null-again there None h = refl
   null-again there (Some x) h = rw (there x, again x h) refl

@@ -1,4 +1,4 @@
--- One reference more that is read again, after those that are.
+-- One more reference that is parsed from its text.
 use Rattle.std.proofs.Common.{◌≡◌, ◌++◌, ◌∷◌, All, List, [], Err, Ok, OnOk, sym, subst}
 use Rattle.std.specs.Prelude.{Result}
 use Rattle.std.specs.declared.alloc.AllocError.{AllocError}

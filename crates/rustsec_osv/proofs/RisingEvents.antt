@@ -1,4 +1,4 @@
--- The events of rising ranges say what the ranges say.
+-- The events of rising ranges mean the same as the ranges.
 use Rattle.std.proofs.Common.{◌≡◌, ◌&&◌, ◌++◌, Bool, true, false, cond, List, [], ◌∷◌, Option, Some, None, length, refl, sym, ◌∙◌, inl, inr}
 use Rattle.std.specs.Prelude.{filter}
 use Rattle.std.specs.List.{AllAdjacentBelow, list_all}
@@ -15,7 +15,7 @@ use Rattle.rustsec_osv.proofs.LeastVersion.{least-at_most}
 
 -- ---- events one by one
 
--- what the events behind an answer make of it
+-- the answer after some events, from the answer before them
 abbrev said : List Event → Parts → Bool → Bool
 said [] v before = before
 said (e ∷ es) v before = said es v (cond (is_till v e) (is_introduction e) before)
@@ -65,7 +65,7 @@ in_order-to : (rs : List Range) → list_all (λ r. is_in_order r.introduced r.f
 in_order-to [] h = tt
 in_order-to (r ∷ rs) h = (both-first _ _ h, in_order-to rs (both-second _ _ h))
 
--- whether the first range, where there is one, begins at or above a version
+-- whether the first range, if any, begins at or above a version
 abbrev Begins : Parts → List Range → Type 0
 Begins b [] = Unit {0}
 Begins b (r ∷ rs) = is_followed (Some b) r.introduced ≡ true
@@ -78,12 +78,12 @@ rest : (r : Range) (rs : List Range) → AllFollowed (r ∷ rs) → AllFollowed 
 rest r [] a = tt
 rest r (s ∷ rs) a = a.1
 
--- behind a range without a fix there is none
+-- after a range without a fix there is no range
 last : (r : Range) (rs : List Range) → r.fixed ≡ None → AllFollowed (r ∷ rs) → rs ≡ []
 last r [] e a = refl
 last r (s ∷ rs) e a = cc (rw e at a.0)
 
--- a version below where all ranges begin is in none, and their events change no answer
+-- a version below the beginning of all ranges is in none of them, and their events do not change an answer
 abbrev Above : List Range → Parts → Type 0
 Above rs v = ((before : Bool) → said (events_of rs) v before ≡ before) × (in_ranges rs v ≡ false)
 
@@ -154,7 +154,7 @@ says (r ∷ rs) v least o f =
     (λ w e low. above rs w v low (next r rs w e f) o.1 (rest r rs f))
     (says rs v least o.1 (rest r rs f))
 
--- the events of rising ranges call a valid version affected where a range has it
+-- the events of rising ranges call a valid version affected exactly if a range contains it
 pub events-say : (rs : List Range) (v : Parts) → IsVersion v → list_all (λ r. is_in_order r.introduced r.fixed) rs ≡ true
     → AllAdjacentBelow (λ r s. is_followed r.fixed s.introduced ≡ true) rs (length rs) → events_say (events_of rs) v ≡ in_ranges rs v
 events-say rs v valid o f = say-said (events_of rs) v ∙ says rs v (least-at_most v valid) (in_order-to rs o) (followed-to rs f)

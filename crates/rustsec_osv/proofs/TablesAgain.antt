@@ -1,4 +1,4 @@
--- What the tables of an advisory's document are read as is read again.
+-- The values of the tables of an advisory's document are parsed from their texts.
 use Rattle.std.proofs.Common.{◌≡◌, ℕ, List, [], ◌∷◌, All, map, Option, Some, None, refl, ap, sym, subst}
 use Rattle.std.proofs.lemmas.List.Elements.{All-cons, All-head, All-nil, All-tail}
 use Rattle.std.proofs.lemmas.Map.Views.{All-map-IsPermutation}
@@ -16,7 +16,7 @@ use Rattle.rustsec_osv.proofs.TextsAgain.{path-again}
 some-same : {A : Type 0} (a b : A) → Some a ≡ Some b → a ≡ b
 some-same a b h = cc h
 
--- what a second step gives
+-- the result of a second step
 pub through : {A B : Type 0} (o : Option A) (f : A → Option B) (P : B → Type 0) → ((a : A) (b : B) → f a ≡ Some b → P b) → (y : B) → (o >>= f) ≡ Some y → P y
 through None f P each y e = cc e
 through (Some a) f P each y e = each a y e

@@ -1,4 +1,4 @@
--- What a text is read as is read again from the text that it prints.
+-- A value that was parsed from a text is parsed from the text that it prints.
 use Rattle.std.proofs.Common.{◌≡◌, ◌∙◌, ◌==◌, ℕ, Bool, true, false, cond, List, [], ◌∷◌, length, Option, Some, None, codes, option_map, if◌then◌else◌, refl, ap, sym, subst}
 use Rattle.std.specs.Cmp.Lexicographic.{bytes_decides}
 use Rattle.std.specs.Prelude.{unwrap_or}

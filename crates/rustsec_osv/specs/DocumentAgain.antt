@@ -1,5 +1,5 @@
--- Documents whose parts are read again: each text that is a part's own is read as that part, and versions are valid
--- (SemVer 2.0). All parts that this workspace reads from texts are such.
+-- Documents whose parts are parsed from their texts: parsing the text that a part prints gives that part, and
+-- versions are valid (SemVer 2.0.0). This holds for all parts that this workspace parses from texts.
 use Rattle.std.specs.Prelude.{◌≡◌, ◌⊎◌, ℕ, List, All, Option, Some, None, ⊤}
 use Rattle.semver.specs.Grammar.{IsValid}
 use Rattle.rustsec_advisory.specs.Addresses.{address_of}
@@ -20,7 +20,7 @@ use Rattle.rustsec_osv.specs.declared.reference.OsvReference.{OsvReference}
 use Rattle.rustsec_osv.specs.declared.severity.OsvSeverity.{OsvSeverity}
 use Rattle.rustsec_osv.specs.declared.severity.OsvSeverity.TheVariants as severity
 
--- what holds of a value, if there is one
+-- a property of a value, if the value is present
 abbrev pub IfThere : {A : Type 0} → (A → Type 0) → Option A → Type 0
 IfThere P None = ⊤
 IfThere P (Some x) = P x
@@ -86,6 +86,6 @@ pub record IsDocumentAgain (d : Document) : Type 0 where
   pub affected : All IsAffectedAgain d.affected
   pub references : All IsReferenceAgain d.references
 
--- a document whose events have valid versions, whatever else stands in it
+-- a document whose events have valid versions, whatever its other parts are
 abbrev pub AreEventsValid : Document → Type 0
 AreEventsValid d = All (λ (a : OsvAffected). IfThere (All IsRangeAgain) a.ranges) d.affected

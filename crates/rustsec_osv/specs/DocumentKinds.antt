@@ -17,6 +17,6 @@ reference_kind_name kind.WEB = codes "WEB"
 abbrev pub reference_kinds : List OsvReferenceKind
 reference_kinds = kind.ADVISORY ∷ kind.ARTICLE ∷ kind.REPORT ∷ kind.FIX ∷ kind.PACKAGE ∷ kind.WEB ∷ []
 
--- the kind of a word, where it is one
+-- the kind of a word, if it is the word of one
 abbrev pub reference_kind_of : List ℕ → Option OsvReferenceKind
 reference_kind_of = value_named reference_kind_name reference_kinds

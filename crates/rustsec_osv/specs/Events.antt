@@ -1,6 +1,5 @@
--- What the events of a range say of a version (OSV schema, `affected[].ranges[].events`), and the events of a list of
--- ranges.
--- It carries meaning: public contracts cite it.
+-- The meaning of the events of a range for a version (OSV schema, `affected[].ranges[].events`), and the events of a
+-- list of ranges. It carries meaning: public contracts cite it.
 use Rattle.std.specs.Prelude.{Bool, true, false, List, [], ◌∷◌, Option, Some, None, filter, flat_map}
 use Rattle.semver.specs.Parse.{Parts}
 use Rattle.rustsec_versions.specs.Precedence.{is_at_most}
@@ -25,13 +24,13 @@ ends_introduced [] = false
 ends_introduced (e ∷ []) = is_introduction e
 ends_introduced (e ∷ f ∷ es) = ends_introduced (f ∷ es)
 
--- events call a version affected where the last one in the list that is at or below it is an introduction
+-- events call a version affected if the last event in the list that is at or below it is an introduction
 unfoldable pub events_say : List Event → Parts → Bool
 events_say es v = ends_introduced (filter (is_till v) es)
 
 -- ---- the events of ranges
 
--- where a range begins: at the least version, `0.0.0-0`, where its introduction is missing
+-- the version at which a range begins: the least version, `0.0.0-0`, if its introduction is missing
 abbrev pub beginning : Option Parts → Parts
 beginning None = least_of 0 0 0
 beginning (Some v) = v
@@ -40,7 +39,7 @@ abbrev pub fix : Option Parts → List Event
 fix None = []
 fix (Some v) = fixed v ∷ []
 
--- the introduction of a range, then its fix where it has one
+-- the introduction of a range, then its fix, if any
 abbrev pub events_of_range : Range → List Event
 events_of_range r = introduced (beginning r.introduced) ∷ fix r.fixed
 

@@ -34,7 +34,7 @@ noon date = date ++ codes "T12:00:00Z"
 abbrev pub package_of : List ℕ → OsvPackage
 package_of name = record { ecosystem = codes "crates.io"; name = name; purl = Some (codes "pkg:cargo/" ++ name) }
 
--- the platforms and the functions of an advisory, none where it names none
+-- the platforms and the functions of an advisory, none if it names none
 abbrev pub affects_of : Option Affected → OsvEcosystemSpecificAffected
 affects_of None = record { arch = []; os = []; functions = [] }
 affects_of (Some a) = record { arch = a.arch; os = a.os; functions = keys_of a.functions }
@@ -42,11 +42,11 @@ affects_of (Some a) = record { arch = a.arch; os = a.os; functions = keys_of a.f
 abbrev pub ecosystem_of : Option Affected → OsvEcosystemSpecific
 ecosystem_of a = record { affects = Some (affects_of a); affected_functions = None }
 
--- how an advisory sorts the vulnerability
+-- what the advisory database adds, from the classification of the advisory
 abbrev pub database_of : Kinds → OsvDatabaseSpecific
 database_of k = record { categories = k.categories; cvss = k.cvss; informational = k.informational }
 
--- an affected package with one range, and no version by itself
+-- an affected package with one range, and no version that is listed
 abbrev pub member_of : OsvPackage → OsvDatabaseSpecific → Option Affected → JsonRange → OsvAffected
 member_of p database a range = record {
   «package» = p;
@@ -56,7 +56,7 @@ member_of p database a range = record {
   versions = Some [];
 }
 
--- a vector by its version
+-- the severity of a vector, by its version
 abbrev pub severity_of : Cvss → OsvSeverity
 severity_of (cvss.CvssV30 b) = severity.CVSS_V3 b
 severity_of (cvss.CvssV31 b) = severity.CVSS_V3 b
@@ -82,7 +82,7 @@ document_with m a modified references range = record {
 
 -- ---- which ranges
 
--- a range that has the events of the ranges that the requirements leave, of which there is one at least
+-- a range with the events of the ranges that the requirements leave; there is at least one such range
 pub record IsRangeOf (ls : Lists) (range : JsonRange) : Type 0 where
   pub ranges : List Range
   pub are_ranges : AreMergedRanges ls ranges

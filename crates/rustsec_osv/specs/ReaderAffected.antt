@@ -1,5 +1,5 @@
--- Which trees are members of `affected` (OSV schema, `affected[]`), and which ones: a row for each key. Other keys say
--- nothing, but in an event.
+-- Which trees are members of `affected` (OSV schema, `affected[]`), and which ones: a row for each key. Other keys
+-- are ignored, except in an event.
 use Rattle.std.specs.Prelude.{ℕ, ◌==◌, ◌++◌, List, [], count_by, Option, Some, None, codes, if◌then◌else◌, option_map}
 use Rattle.serde_json.specs.Data.{Data, Members}
 use Rattle.serde_json.specs.Events.{members_len}
@@ -23,7 +23,7 @@ use Rattle.rustsec_osv.specs.declared.affected.OsvPackage.{OsvPackage}
 abbrev pub any_text : Data → Option (List ℕ)
 any_text = text (λ t. Some t)
 
--- the version of a text, as `semver` reads it
+-- the version of a text, as `semver` parses it
 abbrev pub version_of : List ℕ → Option Parts
 version_of t = value_of (version_parts t)
 
@@ -39,7 +39,7 @@ in_full t = if dots t == 0 then t ++ codes ".0.0" else (if dots t == 1 then t ++
 abbrev pub event_version : Data → Option Parts
 event_version = text (λ t. version_of (in_full t))
 
--- the event of what stands at a key, or another one where nothing does
+-- the event for the value at a key, or another event if the key is missing
 abbrev pub event_at : Option Data → (Parts → Event) → Option Event → Option Event
 event_at (Some d) event other = option_map event (event_version d)
 event_at None event other = other

@@ -1,4 +1,4 @@
--- Which trees are OSV documents (OSV schema, top level), and which ones: a row for each key. Other keys say nothing.
+-- Which trees are OSV documents (OSV schema, top level), and which ones: a row for each key. Other keys are ignored.
 use Rattle.std.specs.Prelude.{ℕ, List, [], Option, Some, None, codes, if◌then◌else◌}
 use Rattle.std.specs.Str.{bytes_eq}
 use Rattle.serde_json.specs.Data.{Data, Members}
@@ -21,19 +21,19 @@ use Rattle.rustsec_osv.specs.declared.reader.document.Content.{Content}
 use Rattle.rustsec_osv.specs.declared.reader.document.Links.{Links}
 use Rattle.rustsec_osv.specs.declared.reader.document.Stamp.{Stamp}
 
--- a vector of version 3
+-- the severity for a vector of version 3
 abbrev pub third_of : Cvss → Option OsvSeverity
 third_of (cvss.CvssV30 base) = Some (severity.CVSS_V3 base)
 third_of (cvss.CvssV31 base) = Some (severity.CVSS_V3 base)
 third_of (cvss.CvssV40 vector) = None
 
--- a vector of version 4
+-- the severity for a vector of version 4
 abbrev pub fourth_of : Cvss → Option OsvSeverity
 fourth_of (cvss.CvssV30 base) = None
 fourth_of (cvss.CvssV31 base) = None
 fourth_of (cvss.CvssV40 vector) = Some (severity.CVSS_V4 vector)
 
--- a vector of the version that a type names
+-- the severity for a vector, which must have the version that the type names
 abbrev pub severity_of : List ℕ → Cvss → Option OsvSeverity
 severity_of type vector =
     if bytes_eq type (codes "CVSS_V3") then third_of vector
@@ -62,7 +62,7 @@ read_license d =
     optional any_text (codes "license") ms >>= λ license.
     Some (record { license = license })
 
--- the keys that say which document it is, and of when
+-- the keys with the ID, the times and the version of the schema
 abbrev pub read_stamp : Members → Option Stamp
 read_stamp ms =
     optional (text version_of) (codes "schema_version") ms >>= λ schema_version.
@@ -72,7 +72,7 @@ read_stamp ms =
     optional any_text (codes "withdrawn") ms >>= λ withdrawn.
     Some (record { schema_version = schema_version; id = id; modified = modified; published = published; withdrawn = withdrawn })
 
--- the keys that tell of the fault
+-- the keys with the description of the vulnerability
 abbrev pub read_content : Members → Option Content
 read_content ms =
     required any_text (codes "summary") ms >>= λ summary.
@@ -81,7 +81,7 @@ read_content ms =
     defaulted (record { license = None }) read_license (codes "database_specific") ms >>= λ database_specific.
     Some (record { summary = summary; details = details; severity = severity; database_specific = database_specific })
 
--- the keys that lead elsewhere
+-- the keys with the affected packages and the references
 abbrev pub read_links : Members → Option Links
 read_links ms =
     defaulted [] (every (text id_of)) (codes "aliases") ms >>= λ aliases.

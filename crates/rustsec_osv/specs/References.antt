@@ -1,4 +1,4 @@
--- The references of an exported document: which addresses they are, and of which kind each is (OSV schema,
+-- The references of an exported document: their addresses, and the kind of each (OSV schema,
 -- `references[].type`).
 -- It carries meaning: public contracts cite it.
 use Rattle.std.specs.Prelude.{ℕ, Bool, ◌&&◌, ◌||◌, List, [], ◌∷◌, ◌++◌, Option, Some, codes, if◌then◌else◌, map, nat_eq, option_to_list}
@@ -10,12 +10,12 @@ use Rattle.rustsec_osv.specs.declared.reference.OsvReference.{OsvReference}
 use Rattle.rustsec_osv.specs.declared.reference.OsvReferenceKind.{OsvReferenceKind}
 use Rattle.rustsec_osv.specs.declared.reference.OsvReferenceKind.TheVariants as kind
 
--- whether a part stands somewhere in a text
+-- whether a text contains a part
 unfoldable pub has : List ℕ → List ℕ → Bool
 has part [] = starts_with nat_eq [] part
 has part (b ∷ bs) = starts_with nat_eq (b ∷ bs) part || has part bs
 
--- whether it is the address of a report at a forge
+-- whether it is the address of a report on a forge
 abbrev pub is_report : List ℕ → Bool
 is_report text = (has (codes "://github.com/") text || has (codes "://gitlab.") text) && has (codes "/issues/") text
 
@@ -25,7 +25,7 @@ is_advisory text = has (codes "/advisories/") text || has (codes "://cve.mitre.o
 abbrev pub is_package : List ℕ → Bool
 is_package text = has (codes "://crates.io/crates/") text
 
--- the kind of a reference, by the text that its address prints: that of the first test which holds
+-- the kind of a reference, by the text that its address prints: that of the first test that holds
 unfoldable pub kind_of : List ℕ → OsvReferenceKind
 kind_of text =
     if is_report text then kind.REPORT

@@ -30,7 +30,7 @@ reference_tree r = object_of ((codes "type", string (reference_kind_name r.kind)
 abbrev pub license_tree : MainOsvDatabaseSpecific → Data
 license_tree m = object_of ((codes "license", optional_tree text_tree m.license) ∷ [])
 
--- the keys with texts; `schema_version` and `withdrawn` are left out where there is none
+-- the keys with texts; `schema_version` and `withdrawn` are left out if missing
 abbrev pub text_rows : Document → List Row
 text_rows d = (codes "id", id_tree d.id) ∷ (codes "modified", text_tree d.modified) ∷ (codes "published", text_tree d.published)
     ∷ (codes "summary", text_tree d.summary) ∷ (codes "details", text_tree d.details)

@@ -1,4 +1,4 @@
-// Packages that an advisory affects.
+//! The affected packages of an OSV document (OSV schema, `affected[]`).
 
 ghost use Rattle.std.specs.Prelude.{◌≡◌, IfErr, IfOk};
 ghost use Rattle.rustsec_versions.specs.Failure.{IsMemory};
@@ -11,18 +11,18 @@ use rustsec_values::{ExactClone, Items, Text};
 use rustsec_versions::Result;
 use std::alloc::{AllocError, Global};
 
-/// A package.
+/// A package (OSV schema, `affected[].package`).
 #[derive(Debug)]
 pub struct OsvPackage {
-    /// Where the package comes from, as `crates.io`.
+    /// The ecosystem of the package, such as `crates.io`.
     pub ecosystem: Text,
-    /// Its name there.
+    /// Its name in the ecosystem.
     pub name: Text,
-    /// Its package URL, if there is one.
+    /// Its package URL, if any.
     pub purl: Option<Text>,
 }
 
-/// One place drops the fields, so that the end of an owner's life is one step of its proof.
+/// Hand-written: a derived `Drop` is proved again, field by field, at every exit of every owner.
 impl Drop for OsvPackage {
     fn drop(self) {
         let OsvPackage {
@@ -34,7 +34,7 @@ impl Drop for OsvPackage {
 }
 
 impl OsvPackage {
-    /// An equal package.
+    /// Returns an equal package.
     ///
     /// # Errors
     ///
@@ -70,15 +70,15 @@ impl ExactClone for OsvPackage {
 /// The platforms and functions that are affected.
 #[derive(Debug)]
 pub struct OsvEcosystemSpecificAffected {
-    /// The architectures; none means all.
+    /// The architectures; an empty list means all.
     pub arch: Items<Arch>,
-    /// The systems; none means all.
+    /// The systems; an empty list means all.
     pub os: Items<OS>,
     /// The paths of the affected functions.
     pub functions: Items<FunctionPath>,
 }
 
-/// One place drops the fields, so that the end of an owner's life is one step of its proof.
+/// Hand-written: a derived `Drop` is proved again, field by field, at every exit of every owner.
 impl Drop for OsvEcosystemSpecificAffected {
     fn drop(self) {
         let OsvEcosystemSpecificAffected {
@@ -90,7 +90,7 @@ impl Drop for OsvEcosystemSpecificAffected {
 }
 
 impl OsvEcosystemSpecificAffected {
-    /// An equal value.
+    /// Returns an equal value.
     ///
     /// # Errors
     ///
@@ -123,16 +123,16 @@ impl ExactClone for OsvEcosystemSpecificAffected {
     ghost exact = { λ x y e. e };
 }
 
-/// What the ecosystem of Rust adds of an affected package.
+/// What Rust's ecosystem adds about an affected package (OSV schema, `ecosystem_specific`).
 #[derive(Debug)]
 pub struct OsvEcosystemSpecific {
     /// The platforms and functions that are affected.
     pub affects: Option<OsvEcosystemSpecificAffected>,
-    /// The affected functions, where an older form of documents has them.
+    /// The affected functions, in an older form of documents.
     pub affected_functions: Option<Items<FunctionPath>>,
 }
 
-/// One place drops the fields, so that the end of an owner's life is one step of its proof.
+/// Hand-written: a derived `Drop` is proved again, field by field, at every exit of every owner.
 impl Drop for OsvEcosystemSpecific {
     fn drop(self) {
         let OsvEcosystemSpecific {
@@ -143,7 +143,7 @@ impl Drop for OsvEcosystemSpecific {
 }
 
 impl OsvEcosystemSpecific {
-    /// An equal value.
+    /// Returns an equal value.
     ///
     /// # Errors
     ///
@@ -174,18 +174,18 @@ impl ExactClone for OsvEcosystemSpecific {
     ghost exact = { λ x y e. e };
 }
 
-/// What the advisory database adds of an affected package.
+/// What the advisory database adds about an affected package (OSV schema, `database_specific`).
 #[derive(Debug)]
 pub struct OsvDatabaseSpecific {
     /// The categories of the advisory.
     pub categories: Items<Category>,
-    /// The vector of the advisory, if it has one.
+    /// The CVSS vector of the advisory, if any.
     pub cvss: Option<Cvss>,
-    /// What the advisory informs of, if it is no vulnerability.
+    /// The concern, if the advisory is informational.
     pub informational: Option<Informational>,
 }
 
-/// One place drops the fields, so that the end of an owner's life is one step of its proof.
+/// Hand-written: a derived `Drop` is proved again, field by field, at every exit of every owner.
 impl Drop for OsvDatabaseSpecific {
     fn drop(self) {
         let OsvDatabaseSpecific {
@@ -197,7 +197,7 @@ impl Drop for OsvDatabaseSpecific {
 }
 
 impl OsvDatabaseSpecific {
-    /// An equal value.
+    /// Returns an equal value.
     ///
     /// # Errors
     ///
@@ -230,7 +230,7 @@ impl ExactClone for OsvDatabaseSpecific {
     ghost exact = { λ x y e. e };
 }
 
-/// A package, and which versions of it are affected.
+/// A package and its affected versions (OSV schema, `affected[]`).
 #[derive(Debug)]
 pub struct OsvAffected {
     /// The package.
@@ -241,11 +241,11 @@ pub struct OsvAffected {
     pub database_specific: OsvDatabaseSpecific,
     /// The ranges of affected versions.
     pub ranges: Option<Items<OsvJsonRange>>,
-    /// Affected versions, each by itself.
+    /// The affected versions that are listed one by one.
     pub versions: Option<Items<Text>>,
 }
 
-/// One place drops the fields, so that the end of an owner's life is one step of its proof.
+/// Hand-written: a derived `Drop` is proved again, field by field, at every exit of every owner.
 impl Drop for OsvAffected {
     fn drop(self) {
         let OsvAffected {
@@ -259,7 +259,7 @@ impl Drop for OsvAffected {
 }
 
 impl OsvAffected {
-    /// An equal member.
+    /// Returns an equal member.
     ///
     /// # Errors
     ///

@@ -1,4 +1,4 @@
-// OSV documents.
+//! OSV documents (OSV schema, top level).
 
 ghost use Rattle.std.specs.Prelude.{◌≡◌, IfErr, IfOk, None, is_some};
 ghost use Rattle.rustsec_versions.specs.Failure.{IsMemory};
@@ -13,14 +13,14 @@ use semver::Version;
 use std::alloc::{AllocError, Global};
 use std::marker::Model;
 
-/// What the advisory database adds of a document.
+/// What the advisory database adds to a document.
 #[derive(Debug)]
 pub struct MainOsvDatabaseSpecific {
-    /// The license of the advisory, as SPDX names it.
+    /// The license of the advisory, by its SPDX identifier.
     pub license: Option<Text>,
 }
 
-/// One place drops the fields, so that the end of an owner's life is one step of its proof.
+/// Hand-written: a derived `Drop` is proved again, field by field, at every exit of every owner.
 impl Drop for MainOsvDatabaseSpecific {
     fn drop(self) {
         let MainOsvDatabaseSpecific { license: _ } = self;
@@ -28,7 +28,7 @@ impl Drop for MainOsvDatabaseSpecific {
 }
 
 impl MainOsvDatabaseSpecific {
-    /// An equal value.
+    /// Returns an equal value.
     ///
     /// # Errors
     ///
@@ -56,7 +56,7 @@ impl ExactClone for MainOsvDatabaseSpecific {
 }
 
 impl MainOsvDatabaseSpecific {
-    /// The value without a license.
+    /// Returns the value without a license.
     pub fn default() -> MainOsvDatabaseSpecific
         ensures { result.license ≡ None }
     {
@@ -67,17 +67,17 @@ impl MainOsvDatabaseSpecific {
 /// An OSV document.
 #[derive(Debug)]
 pub struct OsvAdvisory {
-    /// The version of the schema, if the document names one.
+    /// The version of the schema, if the document gives one.
     pub schema_version: Option<Version>,
     /// The ID of the advisory.
     pub id: Id,
-    /// When the document was last changed.
+    /// When the document was last changed, as the caller gave it.
     pub modified: Text,
     /// When the advisory was published.
     pub published: Text,
     /// When the advisory was withdrawn, if it was.
     pub withdrawn: Option<Text>,
-    /// Other IDs of the same fault.
+    /// Other IDs of the same vulnerability.
     pub aliases: Items<Id>,
     /// IDs of related vulnerabilities.
     pub related: Items<Id>,
@@ -85,11 +85,11 @@ pub struct OsvAdvisory {
     pub summary: Text,
     /// The description.
     pub details: Text,
-    /// How severe the fault is.
+    /// The severity of the vulnerability.
     pub severity: Items<OsvSeverity>,
     /// The affected packages.
     pub affected: Items<OsvAffected>,
-    /// Where more can be read.
+    /// References to more information.
     pub references: Items<OsvReference>,
     /// What the advisory database adds.
     pub database_specific: MainOsvDatabaseSpecific,
@@ -119,7 +119,7 @@ impl Model for OsvAdvisory {
     } };
 }
 
-/// One place drops the fields, so that the end of an owner's life is one step of its proof.
+/// Hand-written: a derived `Drop` is proved again, field by field, at every exit of every owner.
 impl Drop for OsvAdvisory {
     fn drop(self) {
         let OsvAdvisory {
@@ -141,7 +141,7 @@ impl Drop for OsvAdvisory {
 }
 
 impl OsvAdvisory {
-    /// An equal document.
+    /// Returns an equal document.
     ///
     /// # Errors
     ///
@@ -195,28 +195,28 @@ impl ExactClone for OsvAdvisory {
 }
 
 impl OsvAdvisory {
-    /// The ID of the advisory.
+    /// Returns the ID of the advisory.
     pub fn id(&self) -> &Id
         ensures { result.now ≡ self.now.id }
     {
         &self.id
     }
 
-    /// When the advisory was published.
+    /// Returns when the advisory was published.
     pub fn published(&self) -> &str
         ensures { result.now ≡ self.now.published }
     {
         self.published.as_str()
     }
 
-    /// Whether the advisory was withdrawn.
+    /// Returns whether the advisory was withdrawn.
     pub fn withdrawn(&self) -> bool
         ensures { result ≡ is_some self.now.withdrawn }
     {
         self.withdrawn.is_some()
     }
 
-    /// Other IDs of the same fault.
+    /// Returns the other IDs of the same vulnerability.
     pub fn aliases(&self) -> &[Id]
         ensures { result.now ≡ self.now.aliases }
     {

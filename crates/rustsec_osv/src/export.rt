@@ -1,4 +1,4 @@
-// The export of advisories as OSV documents, and what other programs read out of a document.
+//! The export of advisories as OSV documents, and what other programs extract from a document.
 
 mod document;
 mod events;

@@ -1,4 +1,4 @@
-//! OSV documents of advisories: their trees, and the reader of such trees.
+//! OSV documents of advisories: the export, their JSON trees, and the reader of such trees.
 #![tactic(auto)]
 
 mod affected;

@@ -1,4 +1,4 @@
-// Ranges of affected versions.
+//! Ranges of affected versions (OSV schema, `affected[].ranges[]`).
 
 ghost use Rattle.std.specs.Prelude.{◌≡◌, IfErr, IfOk};
 ghost use Rattle.rustsec_versions.specs.Failure.{IsMemory};
@@ -9,10 +9,10 @@ use rustsec_versions::Result;
 use std::alloc::{AllocError, Global};
 use std::marker::Model;
 
-/// A range of affected versions, by its events.
+/// A range of affected versions, given by its events.
 #[derive(Debug)]
 pub struct OsvJsonRange {
-    /// How its versions are ordered, as `SEMVER`; the key is `type`.
+    /// The type of its versions, such as `SEMVER`; the key is `type`.
     pub kind: Text,
     /// Its events, in order.
     pub events: Vec<OsvTimelineEvent>,
@@ -27,7 +27,7 @@ impl Model for OsvJsonRange {
     ghost view = { λ r. record { kind = r.kind; events = map event_of r.events.items } };
 }
 
-/// One place drops the fields, so that the end of an owner's life is one step of its proof.
+/// Hand-written: a derived `Drop` is proved again, field by field, at every exit of every owner.
 impl Drop for OsvJsonRange {
     fn drop(self) {
         let OsvJsonRange { kind: _, events: _ } = self;
@@ -35,7 +35,7 @@ impl Drop for OsvJsonRange {
 }
 
 impl OsvJsonRange {
-    /// An equal range.
+    /// Returns an equal range.
     ///
     /// # Errors
     ///

@@ -1,4 +1,4 @@
-// The reader of documents' trees.
+//! The reader of documents from JSON trees.
 
 mod affected;
 mod document;

@@ -1,4 +1,4 @@
-// References of a document.
+//! References of a document (OSV schema, `references`).
 
 ghost use Rattle.std.specs.Prelude.{◌≡◌, IfErr, IfOk, None, Some};
 ghost use Rattle.rustsec_osv.specs.DocumentKinds.{reference_kind_name, reference_kind_of};
@@ -9,16 +9,16 @@ use rustsec_values::{ExactClone, Named, value_named};
 use rustsec_versions::{ErrorKind, Result, refused_text};
 use std::alloc::{AllocError, Global};
 
-/// What a reference leads to.
+/// The kind of the page that a reference leads to.
 #[derive(Clone, Copy, PartialEq, Eq, Debug)]
 pub enum OsvReferenceKind {
     /// An advisory.
     ADVISORY,
     /// An article.
     ARTICLE,
-    /// A report of the fault.
+    /// A report of the vulnerability.
     REPORT,
-    /// A change that corrects the fault.
+    /// A change that fixes the vulnerability.
     FIX,
     /// The page of the package.
     PACKAGE,
@@ -27,7 +27,7 @@ pub enum OsvReferenceKind {
 }
 
 impl OsvReferenceKind {
-    /// The word of the kind.
+    /// Returns the word of the kind.
     pub fn as_str(&self) -> &'static str
         ensures { result.now ≡ reference_kind_name self.now }
     {
@@ -41,16 +41,16 @@ impl OsvReferenceKind {
         }
     }
 
-    /// The kind of a word.
+    /// Parses the word of a kind.
     ///
     /// # Errors
     ///
-    /// `Parse` if no kind has the word; `OutOfMemory` in its place if there is no memory for the message.
+    /// `Parse` if no kind has the word; `OutOfMemory` instead if there is no memory for the message.
     pub fn from_str(alloc: Global, text: &str) -> Result<OsvReferenceKind>
         ensures ok { IfOk result (λ k. reference_kind_of text.now ≡ Some k) }
         ensures err { IfErr result (IsRefusal ErrorKind.Parse (reference_kind_of text.now ≡ None)) }
 
-        // Any error, of memory too, means that the text is none of the words.
+        // Success takes no memory, so any error means that the text is not one of the words.
         ensures none { IfErr result (λ e. reference_kind_of text.now ≡ None) }
     {
         match value_named(text) {
@@ -95,13 +95,13 @@ impl ExactClone for OsvReferenceKind {
 /// A reference.
 #[derive(Debug)]
 pub struct OsvReference {
-    /// What it leads to; the key is `type`.
+    /// The kind of its page; the key is `type`.
     pub kind: OsvReferenceKind,
     /// Its address.
     pub url: Address,
 }
 
-/// One place drops the fields, so that the end of an owner's life is one step of its proof.
+/// Hand-written: a derived `Drop` is proved again, field by field, at every exit of every owner.
 impl Drop for OsvReference {
     fn drop(self) {
         let OsvReference { kind: _, url: _ } = self;
@@ -109,7 +109,7 @@ impl Drop for OsvReference {
 }
 
 impl OsvReference {
-    /// An equal reference.
+    /// Returns an equal reference.
     ///
     /// # Errors
     ///

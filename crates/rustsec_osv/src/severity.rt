@@ -1,4 +1,4 @@
-// How severe a fault is.
+//! The severity of a vulnerability (OSV schema, `severity`).
 
 ghost use Rattle.std.specs.Prelude.{◌≡◌, IfErr, IfOk};
 ghost use Rattle.rustsec_versions.specs.Failure.{IsMemory};
@@ -8,7 +8,7 @@ use rustsec_values::{ExactClone, Text};
 use rustsec_versions::Result;
 use std::alloc::{AllocError, Global};
 
-/// A vector of CVSS, by its version.
+/// A CVSS vector, by its version.
 #[derive(Debug, Drop)]
 pub enum OsvSeverity {
     /// A vector of version 3.0 or 3.1.
@@ -18,7 +18,7 @@ pub enum OsvSeverity {
 }
 
 impl OsvSeverity {
-    /// An equal vector.
+    /// Returns an equal vector.
     ///
     /// # Errors
     ///

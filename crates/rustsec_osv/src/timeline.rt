@@ -1,4 +1,4 @@
-// Events of a range.
+//! Events of a range (OSV schema, `affected[].ranges[].events`).
 
 ghost use Rattle.std.specs.Prelude.{◌≡◌, IfErr, IfOk};
 ghost use Rattle.rustsec_osv.specs.DocumentEvents.{event_of};
@@ -8,7 +8,7 @@ use rustsec_versions::Result;
 use semver::Version;
 use std::alloc::{AllocError, Global};
 
-/// Where a range begins, or where it ends.
+/// An event: a version at which a range begins or ends.
 #[derive(Debug, Drop)]
 pub enum OsvTimelineEvent {
     /// The first affected version.
@@ -20,7 +20,7 @@ pub enum OsvTimelineEvent {
 }
 
 impl OsvTimelineEvent {
-    /// An equal event.
+    /// Returns an equal event.
     ///
     /// # Errors
     ///

@@ -1,4 +1,4 @@
-// The trees of documents and of their parts.
+//! The JSON trees of documents and of their parts.
 
 mod affected;
 mod document;

@@ -11,15 +11,15 @@ use Rattle.rustsec_query.specs.declared.vulnerability.Vulnerability.{Vulnerabili
 abbrev pub matches_some : Parts → List (List Held) → Bool
 matches_some v rs = list_any (λ r. matches_views r v) rs
 
--- the paths of the functions of which a version matches some requirement, in their order
+-- the paths of the functions with a requirement that a version matches, in their order
 abbrev pub matching : Parts → List Function → List (List (List ℕ))
 matching v fs = map (λ (f : Function). f.0) (filter (λ (f : Function). matches_some v f.1) fs)
 
--- the same of a table `affected` that may be missing, or may list no function
+-- likewise for a table `affected` that may be missing, or may list no function
 abbrev pub functions_at : Parts → Option Affected → Option (List (List (List ℕ)))
 functions_at v None = None
 functions_at v (Some a) = if length a.functions == 0 then None else Some (matching v a.functions)
 
--- the affected functions of a vulnerability: none where no function is listed
+-- the affected functions of a vulnerability: none if no function is listed
 abbrev pub functions_of : Vulnerability → Option (List (List (List ℕ)))
 functions_of v = functions_at v.«package».version v.affected

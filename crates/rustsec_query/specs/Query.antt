@@ -1,4 +1,4 @@
--- A query: what it asks for, field by field. A field that is not set asks for nothing.
+-- A query, field by field. A field that is not set has no effect.
 use Rattle.std.specs.Prelude.{ℕ, Bool, false, List, [], Option, Some, None}
 use Rattle.semver.specs.Parse.{Parts}
 use Rattle.rustsec_lock.specs.Package.{PackageValue}
@@ -20,7 +20,7 @@ pub record Asked : Type 0 where
   pub package_source : Option Source
   -- the least severity
   pub severity : Option Severity
-  -- the architectures, of which one is enough; none asks for nothing
+  -- the architectures, an advisory must affect one; an empty list has no effect
   pub target_arch : List Arch
   -- the systems, likewise
   pub target_os : List OS
@@ -31,7 +31,7 @@ pub record Asked : Type 0 where
   -- whether informational ones are asked for, or the others
   pub informational : Option Bool
 
--- the query that asks for nothing
+-- the query without any field set
 abbrev pub unset : Asked
 unset = record {
   collection = None;

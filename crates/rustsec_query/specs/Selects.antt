@@ -1,4 +1,4 @@
--- Which advisories a query selects: ten tests, all of which must hold.
+-- Which advisories a query selects: ten tests, it must pass all.
 use Rattle.std.specs.Prelude.{◌&&◌, ◌||◌, ◌==◌, not, ℕ, Bool, true, List, Option, Some, None, is_some, length, nat_eq, option_and_then, unwrap_or}
 use Rattle.std.specs.Bool.{beq}
 use Rattle.std.specs.Cmp.Lexicographic.{pointwise}
@@ -22,12 +22,12 @@ use Rattle.rustsec_advisory.specs.declared.advisory.Advisory.{Advisory}
 use Rattle.rustsec_advisory.specs.declared.affected.Affected.{Affected}
 use Rattle.rustsec_query.specs.Query.{Asked}
 
--- a test of a value that may be missing, which holds where it is
+-- a test of a value that may be missing; it holds if the value is missing
 abbrev pub if_there : {A : Type 0} → (A → Bool) → Option A → Bool
 if_there test None = true
 if_there test (Some x) = test x
 
--- the source of an advisory: the default one where it names none
+-- the source of an advisory: the default one if it names none
 abbrev pub source_of : Advisory → Source
 source_of a = unwrap_or a.metadata.source default_source
 
@@ -35,7 +35,7 @@ source_of a = unwrap_or a.metadata.source default_source
 abbrev pub is_place : SourceKind → List ℕ → Source → Bool
 is_place kind url s = sameb source_kind s.kind kind && pointwise nat_eq (url_of s) url
 
--- the severity of an advisory, by its CVSS vector, where it has one of version 3
+-- the severity of an advisory, by its CVSS vector, if that is one of version 3
 abbrev pub severity_of : Advisory → Option Severity
 severity_of a = option_and_then cvss_severity a.metadata.cvss
 
@@ -77,7 +77,7 @@ on_arch q a = if_there (λ (f : Affected). shares_arch q.target_arch f.arch) a.a
 abbrev pub on_os : Asked → Advisory → Bool
 on_os q a = if_there (λ (f : Affected). shares_os q.target_os f.os) a.affected
 
--- the ID is of the asked year, or of none
+-- the ID is of the asked year, or without a year
 abbrev pub of_year : Asked → Advisory → Bool
 of_year q a = if_there (λ y. if_there (λ x. y == x) a.metadata.id.year) q.year
 
@@ -89,7 +89,7 @@ as_withdrawn q a = if_there (λ w. beq w (is_some a.metadata.withdrawn)) q.withd
 abbrev pub as_informational : Asked → Advisory → Bool
 as_informational q a = if_there (λ i. beq i (is_some a.metadata.informational)) q.informational
 
--- a query selects an advisory where all ten hold
+-- a query selects an advisory if all ten hold
 unfoldable pub selects : Asked → Advisory → Bool
 selects q a =
     in_collection q a

@@ -1,4 +1,4 @@
-// The affected functions of a vulnerability.
+//! The affected functions of a vulnerability.
 
 ghost use Rattle.std.specs.Prelude.{◌≡◌, IfErr, IfOk, List, map, option_map};
 ghost use Rattle.std.specs.List.{list_any};
@@ -15,14 +15,14 @@ use rustsec_versions::Requirements;
 use semver::{Version, VersionReq};
 use std::alloc::{AllocError, Global};
 
-/// Whether a version matches a requirement, by Cargo's rule.
+/// Returns whether a version matches a requirement, by Cargo's rule of matching.
 fn matches_one(req: &VersionReq, version: &Version) -> bool
     ensures { result ≡ matches_views (comparators_of req.now) (parts_of version.now) }
 {
     req.matches(version)
 }
 
-/// Whether a version matches some requirement.
+/// Returns whether a version matches some requirement.
 fn matches_some(reqs: &[VersionReq], version: &Version) -> bool
     ensures { result ≡ matches_some (parts_of version.now) (map comparators_of reqs.now) }
 {
@@ -34,7 +34,7 @@ fn matches_some(reqs: &[VersionReq], version: &Version) -> bool
     false
 }
 
-/// The paths of the functions of which a version matches some requirement, in their order.
+/// Returns the paths of the functions with a requirement that a version matches, in their order.
 fn matching(
     alloc: Global,
     functions: &SortedMap<FunctionPath, Requirements>,
@@ -52,8 +52,9 @@ fn matching(
 }
 
 impl Vulnerability {
-    /// The paths of the listed functions of which some requirement matches the package's version, by
-    /// Cargo's rule of matching, in the order of paths. It answers none if no function is listed.
+    /// Returns the paths of the listed functions with a requirement that the package's version matches, by Cargo's
+    /// rule
+    /// of matching, in the order of paths. The result is `None` if no function is listed.
     ///
     /// # Errors
     ///

@@ -1,4 +1,4 @@
-//! Which advisories a query selects, and the vulnerabilities of packages.
+//! Queries for advisories, and the vulnerabilities of packages.
 #![tactic(auto)]
 
 mod functions;

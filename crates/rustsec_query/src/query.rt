@@ -1,4 +1,4 @@
-// Queries.
+//! Queries for advisories.
 
 ghost use Rattle.std.specs.Prelude.{◌≡◌, IfErr, IfOk, None, Some, option_map};
 ghost use Rattle.semver.specs.Identifiers.{parts_of};
@@ -21,8 +21,7 @@ use semver::Version;
 use std::alloc::{AllocError, Global};
 use std::marker::Model;
 
-/// What is asked of advisories. An advisory matches a query where it passes the test of each field
-/// that is set.
+/// A query for advisories. An advisory matches if it passes the test of each field that is set.
 #[derive(Debug)]
 pub struct Query {
     collection: Option<Collection>,
@@ -58,7 +57,7 @@ impl Model for Query {
     } };
 }
 
-/// One place drops the fields, so that the end of an owner's life is one step of its proof.
+/// Hand-written: a derived `Drop` is proved again, field by field, at every exit of every owner.
 impl Drop for Query {
     fn drop(self) {
         let Query {
@@ -77,7 +76,7 @@ impl Drop for Query {
 }
 
 impl Query {
-    /// The query with no field set, which every advisory matches. It takes no memory.
+    /// Returns the query with no field set, which every advisory matches. It takes no memory.
     pub fn new(alloc: Global) -> Query
         ensures { result ≡ unset }
     {
@@ -95,8 +94,8 @@ impl Query {
         }
     }
 
-    /// The query for vulnerabilities of published packages: the collection of crates, no withdrawn and
-    /// no informational advisory. It takes no memory.
+    /// Returns the query for vulnerabilities of published packages: the collection of crates, no withdrawn and no
+    /// informational advisory. It takes no memory.
     pub fn crate_scope(alloc: Global) -> Query
         ensures { result ≡ crate_scope }
     {
@@ -106,7 +105,7 @@ impl Query {
             .informational(false)
     }
 
-    /// The same as `crate_scope`.
+    /// Returns `crate_scope()`.
     pub fn default(alloc: Global) -> Query
         ensures { result ≡ crate_scope }
     {
@@ -121,8 +120,8 @@ impl Query {
         self
     }
 
-    /// Asks for the name, the version and the source of a package, by copies. Where the package has no
-    /// source, the source is left unset.
+    /// Asks for the name, the version and the source of a package, and copies them. If the package has no
+    /// source, the source is unset.
     ///
     /// # Errors
     ///
@@ -156,7 +155,7 @@ impl Query {
         self
     }
 
-    /// Asks for packages of a source. An advisory that names no source is one of the default registry.
+    /// Asks for packages of a source. An advisory without a source is one of the default registry.
     pub fn package_source(mut self, source: SourceId) -> Query
         ensures { result ≡ record self { package_source = Some source } }
     {
@@ -188,7 +187,7 @@ impl Query {
         self
     }
 
-    /// Asks for advisories whose ID is of this year. One whose ID names no year matches too.
+    /// Asks for advisories whose ID is of this year. An ID without a year matches too.
     pub fn year(mut self, year: u32) -> Query
         ensures { result ≡ record self { year = Some year } }
     {
@@ -212,35 +211,35 @@ impl Query {
         self
     }
 
-    /// The collection that is asked for.
+    /// Returns the collection of the query, if set.
     pub fn asked_collection(&self) -> Option<Collection>
         ensures { result ≡ self.now.collection }
     {
         self.collection
     }
 
-    /// The name that is asked for.
+    /// Returns the name of the query, if set.
     pub fn asked_name(&self) -> Option<&Name>
         ensures { option_map (λ n. n.now) result ≡ self.now.package_name }
     {
         self.package_name.as_ref()
     }
 
-    /// The version that is asked for.
+    /// Returns the version of the query, if set.
     pub fn asked_version(&self) -> Option<&Version>
         ensures { option_map (λ v. parts_of v.now) result ≡ self.now.package_version }
     {
         self.package_version.as_ref()
     }
 
-    /// The source that is asked for.
+    /// Returns the source of the query, if set.
     pub fn asked_source(&self) -> Option<&SourceId>
         ensures { option_map (λ s. s.now) result ≡ self.now.package_source }
     {
         self.package_source.as_ref()
     }
 
-    /// Whether an advisory passes all tests, with these in place of the asked name, version and source.
+    /// Returns whether an advisory passes all tests, with these instead of the query's name, version and source.
     #[tactic(auto, unfolding(crate::specs::Selects::selects))]
     fn passes(
         &self,
@@ -267,8 +266,8 @@ impl Query {
             && as_informational(self.informational, advisory)
     }
 
-    /// Whether an advisory matches: whether it passes the test of each field that is set. The test of
-    /// the version is `is_vulnerable` of the advisory's versions.
+    /// Returns whether an advisory matches: whether it passes the test of each field that is set. The version is
+    /// tested by `is_vulnerable` of the advisory's versions.
     pub fn matches(&self, advisory: &Advisory) -> bool
         ensures { result ≡ selects self.now advisory.now }
     {
@@ -277,7 +276,8 @@ impl Query {
         self.passes(self.package_name.as_ref(), version, source, advisory)
     }
 
-    /// Whether an advisory matches the query that `package` would make of this one. It takes no memory.
+    /// Returns whether an advisory matches this query after `package` is called on it with a package. It takes no
+    /// memory.
     pub fn matches_package(&self, package: &Package, advisory: &Advisory) -> bool
         ensures { result ≡ selects (of_package self.now «package».now) advisory.now }
     {
@@ -286,7 +286,7 @@ impl Query {
         self.passes(Some(&package.name), version, source, advisory)
     }
 
-    /// An equal query.
+    /// Returns an equal query.
     ///
     /// # Errors
     ///

@@ -1,4 +1,4 @@
-// The ten tests of a query, one by one. A value that is not asked for passes each test of it.
+//! The ten tests of a query, one by one. If a field is not set, every advisory passes its test.
 
 ghost use Rattle.std.specs.Prelude.{◌≡◌, ◌==◌, ◌||◌, length, option_map};
 ghost use Rattle.std.specs.List.{list_any};
@@ -16,7 +16,7 @@ use rustsec_lock::{Severity, SourceId, SourceKind};
 use rustsec_texts::Collection;
 use semver::Version;
 
-/// Whether the collection is the asked one.
+/// Returns whether the collection is the asked one.
 pub(crate) fn in_collection(asked: Option<Collection>, advisory: &Advisory) -> bool
     ensures { result ≡ in_collection (record unset { collection = asked }) advisory.now }
 {
@@ -26,7 +26,7 @@ pub(crate) fn in_collection(asked: Option<Collection>, advisory: &Advisory) -> b
     }
 }
 
-/// Whether the package has the asked name.
+/// Returns whether the package has the asked name.
 pub(crate) fn has_name(asked: Option<&Name>, advisory: &Advisory) -> bool
     ensures { result ≡ has_name (record unset { package_name = option_map (λ n. n.now) asked.entry }) advisory.now }
 {
@@ -36,7 +36,7 @@ pub(crate) fn has_name(asked: Option<&Name>, advisory: &Advisory) -> bool
     }
 }
 
-/// Whether the asked version is affected.
+/// Returns whether the asked version is affected.
 pub(crate) fn has_version(asked: Option<&Version>, advisory: &Advisory) -> bool
     ensures { result ≡ has_version (record unset { package_version = option_map (λ v. parts_of v.now) asked.entry }) advisory.now }
 {
@@ -46,7 +46,7 @@ pub(crate) fn has_version(asked: Option<&Version>, advisory: &Advisory) -> bool
     }
 }
 
-/// Whether an advisory's source, or the default one where it names none, has a kind and an address.
+/// Returns whether an advisory's source, or the default one if it names none, has this kind and address.
 fn is_from(kind: SourceKind, url: &str, advisory: &Advisory) -> bool
     ensures { result ≡ is_place kind url.now (source_of advisory.now) }
 {
@@ -58,7 +58,7 @@ fn is_from(kind: SourceKind, url: &str, advisory: &Advisory) -> bool
     }
 }
 
-/// Whether the package comes from the asked source.
+/// Returns whether the package comes from the asked source.
 pub(crate) fn has_source(asked: Option<&SourceId>, advisory: &Advisory) -> bool
     ensures { result ≡ has_source (record unset { package_source = option_map (λ s. s.now) asked.entry }) advisory.now }
 {
@@ -68,7 +68,7 @@ pub(crate) fn has_source(asked: Option<&SourceId>, advisory: &Advisory) -> bool
     }
 }
 
-/// Whether the severity is at least the asked one. An advisory without a severity passes.
+/// Returns whether the severity is at least the asked one. An advisory without a severity passes.
 pub(crate) fn is_severe(asked: Option<Severity>, advisory: &Advisory) -> bool
     ensures { result ≡ is_severe (record unset { severity = asked }) advisory.now }
 {
@@ -78,49 +78,49 @@ pub(crate) fn is_severe(asked: Option<Severity>, advisory: &Advisory) -> bool
     }
 }
 
-/// Whether an architecture is listed.
+/// Returns whether an architecture is listed.
 fn lists_arch(listed: &[Arch], asked: Arch) -> bool
     ensures { result ≡ list_any (sameb arch_type asked) listed.now }
 {
     listed.iter().any(|arch| asked == *arch)
 }
 
-/// Whether a system is listed.
+/// Returns whether a system is listed.
 fn lists_os(listed: &[OS], asked: OS) -> bool
     ensures { result ≡ list_any (sameb os_type asked) listed.now }
 {
     listed.iter().any(|os| asked == *os)
 }
 
-/// Whether some asked architecture is listed.
+/// Returns whether some asked architecture is listed.
 fn lists_some_arch(listed: &[Arch], asked: &[Arch]) -> bool
     ensures { result ≡ list_any (λ x. list_any (sameb arch_type x) listed.now) asked.now }
 {
     asked.iter().any(|arch| lists_arch(listed, *arch))
 }
 
-/// Whether some asked architecture is listed, or either list is empty.
+/// Returns whether some asked architecture is listed, or either list is empty.
 fn shares_arch(asked: &[Arch], listed: &[Arch]) -> bool
     ensures { result ≡ shares_arch asked.now listed.now }
 {
     asked.is_empty() || listed.is_empty() || lists_some_arch(listed, asked)
 }
 
-/// Whether some asked system is listed.
+/// Returns whether some asked system is listed.
 fn lists_some_os(listed: &[OS], asked: &[OS]) -> bool
     ensures { result ≡ list_any (λ x. list_any (sameb os_type x) listed.now) asked.now }
 {
     asked.iter().any(|os| lists_os(listed, *os))
 }
 
-/// Whether some asked system is listed, or either list is empty.
+/// Returns whether some asked system is listed, or either list is empty.
 fn shares_os(asked: &[OS], listed: &[OS]) -> bool
     ensures { result ≡ shares_os asked.now listed.now }
 {
     asked.is_empty() || listed.is_empty() || lists_some_os(listed, asked)
 }
 
-/// Whether an asked architecture is affected.
+/// Returns whether an asked architecture is affected.
 pub(crate) fn on_arch(asked: &[Arch], advisory: &Advisory) -> bool
     ensures { result ≡ on_arch (record unset { target_arch = asked.now }) advisory.now }
 {
@@ -130,7 +130,7 @@ pub(crate) fn on_arch(asked: &[Arch], advisory: &Advisory) -> bool
     }
 }
 
-/// Whether an asked system is affected.
+/// Returns whether an asked system is affected.
 pub(crate) fn on_os(asked: &[OS], advisory: &Advisory) -> bool
     ensures { result ≡ on_os (record unset { target_os = asked.now }) advisory.now }
 {
@@ -140,7 +140,7 @@ pub(crate) fn on_os(asked: &[OS], advisory: &Advisory) -> bool
     }
 }
 
-/// Whether the ID is of the asked year, or of none.
+/// Returns whether the ID is of the asked year, or without a year.
 pub(crate) fn of_year(asked: Option<u32>, advisory: &Advisory) -> bool
     ensures { result ≡ of_year (record unset { year = asked }) advisory.now }
 {
@@ -150,7 +150,7 @@ pub(crate) fn of_year(asked: Option<u32>, advisory: &Advisory) -> bool
     }
 }
 
-/// Whether the advisory is withdrawn, or not, as asked.
+/// Returns whether the advisory is withdrawn, or not, as asked.
 pub(crate) fn as_withdrawn(asked: Option<bool>, advisory: &Advisory) -> bool
     ensures { result ≡ as_withdrawn (record unset { withdrawn = asked }) advisory.now }
 {
@@ -160,7 +160,7 @@ pub(crate) fn as_withdrawn(asked: Option<bool>, advisory: &Advisory) -> bool
     }
 }
 
-/// Whether the advisory is informational, or not, as asked.
+/// Returns whether the advisory is informational, or not, as asked.
 pub(crate) fn as_informational(asked: Option<bool>, advisory: &Advisory) -> bool
     ensures { result ≡ as_informational (record unset { informational = asked }) advisory.now }
 {

@@ -1,4 +1,4 @@
-//! Calls that leave nothing changed: their answers as texts.
+//! Calls that change nothing: their answers as texts.
 
 use crate::databases;
 use crate::files::{advisory, requirements, text_of};
@@ -10,7 +10,7 @@ use rustsec_texts::Parts;
 use rustsec_versions::{Result, Versions};
 use std::alloc::Global;
 
-/// The answer of `Versions::new`.
+/// Returns the answer of `Versions::new`.
 fn versions(rt: &HostRuntime, patched: &str, unaffected: &str) -> Result<String> {
     let patched = requirements(rt, patched)?;
     let unaffected = requirements(rt, unaffected)?;
@@ -23,7 +23,7 @@ fn versions(rt: &HostRuntime, patched: &str, unaffected: &str) -> Result<String>
     }
 }
 
-/// The answer of `Parts::parse`.
+/// Returns the answer of `Parts::parse`.
 fn parts(rt: &HostRuntime, path: &str) -> Result<String> {
     let text = text_of(rt, path)?;
     opens(rt);
@@ -35,13 +35,13 @@ fn parts(rt: &HostRuntime, path: &str) -> Result<String> {
     }
 }
 
-/// Whether a text has an advisory that is equal to another.
+/// Returns whether parsing a text gives an advisory equal to another.
 fn is_of(alloc: Global, advisory: &Advisory, text: &str) -> Result<bool> {
     let other = Advisory::from_str(alloc, text)?;
     Ok(*advisory == other)
 }
 
-/// The answer of `Advisory::from_str`: whether the advisory is the one that ample memory gives.
+/// Returns the answer of `Advisory::from_str`: whether the advisory is the one that ample memory gives.
 fn advisory_of(rt: &HostRuntime, path: &str) -> Result<String> {
     let text = text_of(rt, path)?;
     opens(rt);
@@ -56,13 +56,13 @@ fn advisory_of(rt: &HostRuntime, path: &str) -> Result<String> {
     }
 }
 
-/// The text of a document.
+/// Returns the text of a document.
 fn document_text(alloc: Global, document: &OsvAdvisory) -> Result<String> {
     let tree = document.to_value(alloc)?;
     Ok(tree.to_string(alloc)?)
 }
 
-/// The answer of `OsvAdvisory::from_rustsec`.
+/// Returns the answer of `OsvAdvisory::from_rustsec`.
 fn document_of(rt: &HostRuntime, path: &str) -> Result<String> {
     let advisory = advisory(rt, path)?;
     opens(rt);
@@ -74,7 +74,7 @@ fn document_of(rt: &HostRuntime, path: &str) -> Result<String> {
     }
 }
 
-/// What `answer` gave and wrote: for want of memory no more than that, where nothing was written.
+/// Returns the result of `answer` and its output; just the text for out of memory if there is no output.
 fn status_text(
     alloc: Global,
     status: std::result::Result<u8, Fault>,
@@ -87,7 +87,7 @@ fn status_text(
     }
 }
 
-/// The answer of `answer`, over a writer that takes no memory.
+/// Returns the answer of `answer`, over a writer that takes no memory.
 fn status_of(rt: &HostRuntime, path: &str) -> Result<String> {
     let text = text_of(rt, path)?;
     let mut input = text.as_bytes();
@@ -98,7 +98,7 @@ fn status_of(rt: &HostRuntime, path: &str) -> Result<String> {
     status_text(rt.alloc(), status, output.as_slice())
 }
 
-/// The answer of the call that the words name; nothing for other words.
+/// Returns the answer of the call that the arguments name; none for other arguments.
 pub fn answer_of(rt: &HostRuntime, words: &[&str]) -> Result<Option<String>> {
     let text = match words {
         ["versions", patched, unaffected] => versions(rt, patched, unaffected)?,

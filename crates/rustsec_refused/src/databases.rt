@@ -11,7 +11,7 @@ use rustsec_values::Items;
 use rustsec_versions::Result;
 use std::alloc::{AllocError, Global};
 
-/// How many advisories of a database are those of another, place by place.
+/// Returns how many advisories of a database are equal to those of another at the same place.
 fn shared(database: &Database, other: &Database) -> usize {
     let mut count = 0usize;
     for (a, b) in database.iter().zip(other.iter()) {
@@ -22,14 +22,14 @@ fn shared(database: &Database, other: &Database) -> usize {
     count
 }
 
-/// How many advisories a database has, and how many of them are those that ample memory gives.
+/// Returns how many advisories a database has, and how many of them are those that ample memory gives.
 fn database_text(alloc: Global, database: &Database, files: &[SourceFile]) -> Result<String> {
     let ample = Database::load(alloc, files)?;
     let (count, shared) = (database.iter().count(), shared(database, &ample));
     Ok(format!(in alloc; "{count} advisories, the same: {shared}")?)
 }
 
-/// The answer of `Database::load`.
+/// Returns the answer of `Database::load`.
 pub fn load(rt: &HostRuntime, paths: &[&str]) -> Result<String> {
     let files = source_files(rt, paths)?;
     opens(rt);
@@ -41,7 +41,7 @@ pub fn load(rt: &HostRuntime, paths: &[&str]) -> Result<String> {
     }
 }
 
-/// Settings that ask for all warnings.
+/// Returns settings that ask for all warnings.
 fn settings(alloc: Global) -> std::result::Result<Settings, AllocError> {
     let kinds = vec![in alloc;
         Informational::Notice,
@@ -53,13 +53,13 @@ fn settings(alloc: Global) -> std::result::Result<Settings, AllocError> {
     Ok(settings)
 }
 
-/// The text of a report's tree.
+/// Returns the text of a report's tree.
 fn report_text(alloc: Global, report: &Report) -> Result<String> {
     let tree = report.to_value(alloc)?;
     Ok(tree.to_string(alloc)?)
 }
 
-/// The answer of `Report::generate`.
+/// Returns the answer of `Report::generate`.
 fn report_of(rt: &HostRuntime, database: &Database, lockfile: &Lockfile) -> Result<String> {
     let settings = settings(rt.alloc())?;
     opens(rt);
@@ -71,7 +71,7 @@ fn report_of(rt: &HostRuntime, database: &Database, lockfile: &Lockfile) -> Resu
     }
 }
 
-/// The same, over a lockfile and a database of files.
+/// Returns the answer of `Report::generate`, over a lockfile and the files of a database.
 pub fn report(rt: &HostRuntime, lock: &str, paths: &[&str]) -> Result<String> {
     let files = source_files(rt, paths)?;
     let database = Database::load(rt.alloc(), &files)?;

@@ -1,4 +1,4 @@
-//! The files that the calls are made over.
+//! Reads the files for the calls.
 
 use rustsec_advisory::Advisory;
 use rustsec_folders::SourceFile;
@@ -8,7 +8,7 @@ use semver::VersionReq;
 use std::alloc::{AllocError, Global};
 use std::fs;
 
-/// The text of a file.
+/// Returns the text of a file.
 pub fn text_of(rt: &HostRuntime, path: &str) -> Result<String> {
     match fs::read_to_string(rt, path) {
         Ok(text) => Ok(text),
@@ -16,7 +16,7 @@ pub fn text_of(rt: &HostRuntime, path: &str) -> Result<String> {
     }
 }
 
-/// A file of a database.
+/// Returns a file of a database.
 fn source_file(rt: &HostRuntime, path: &str) -> Result<SourceFile> {
     let text = text_of(rt, path)?;
     let path = Text::from_str(rt.alloc(), path)?;
@@ -26,7 +26,7 @@ fn source_file(rt: &HostRuntime, path: &str) -> Result<SourceFile> {
     })
 }
 
-/// Files of a database.
+/// Returns the files of a database.
 pub fn source_files(rt: &HostRuntime, paths: &[&str]) -> Result<Vec<SourceFile>> {
     let mut files = Vec::new(rt.alloc());
     for path in paths {
@@ -36,7 +36,7 @@ pub fn source_files(rt: &HostRuntime, paths: &[&str]) -> Result<Vec<SourceFile>>
     Ok(files)
 }
 
-/// A requirement of a line.
+/// Parses the requirement of a line.
 fn requirement(alloc: Global, line: &str) -> Result<VersionReq> {
     match VersionReq::parse(alloc, line) {
         Ok(req) => Ok(req),
@@ -44,7 +44,7 @@ fn requirement(alloc: Global, line: &str) -> Result<VersionReq> {
     }
 }
 
-/// The requirements of a file, one a line.
+/// Returns the requirements of a file, one on each line.
 pub fn requirements(rt: &HostRuntime, path: &str) -> Result<Vec<VersionReq>> {
     let text = text_of(rt, path)?;
     let mut reqs = Vec::new(rt.alloc());
@@ -55,7 +55,7 @@ pub fn requirements(rt: &HostRuntime, path: &str) -> Result<Vec<VersionReq>> {
     Ok(reqs)
 }
 
-/// The advisory of a file.
+/// Parses the advisory of a file.
 pub fn advisory(rt: &HostRuntime, path: &str) -> Result<Advisory> {
     let text = text_of(rt, path)?;
     Advisory::from_str(rt.alloc(), &text)

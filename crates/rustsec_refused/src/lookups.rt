@@ -1,4 +1,4 @@
-//! The call `CachedIndex::find_yanked`, over a look-up that answers something else each time it is asked.
+//! The call `CachedIndex::find_yanked`, over a look-up that answers differently each time.
 
 use crate::files::text_of;
 use crate::window::{closes, opens, refusal};
@@ -10,17 +10,17 @@ use rustsec_versions::{Error, Result};
 use std::alloc::Global;
 use std::cell::Cell;
 
-/// The versions that the registry has under each name.
+/// The versions that the registry lists for each name.
 const VERSIONS: &[&str] = &["1.0.0", "2.0.0", "3.0.0", "4.0.0", "5.0.0"];
 
-/// A registry that has all names. At the first asking it says that the first version is yanked and no
-/// other, at the second asking the second one, and so on.
+/// A registry that has all names. At the first look-up only the first version is yanked, at the second look-up only
+/// the second one, and so on.
 #[derive(Drop)]
 struct Counting<'a> {
     asked: &'a Cell<usize>,
 }
 
-/// All versions, of which one is yanked.
+/// Returns all versions, one of them yanked.
 fn listed(alloc: Global, yanked: usize) -> Result<Items<IndexVersion>> {
     let mut versions = Items::new(alloc);
     for (i, text) in VERSIONS.iter().enumerate() {
@@ -46,7 +46,7 @@ impl<'a> Lookup for Counting<'a> {
     }
 }
 
-/// The text of answers, with a space behind each: the yanked packages, and refusals.
+/// Returns the text of answers, each followed by a space: the yanked packages, and errors.
 fn answers_text(alloc: Global, answers: &[std::result::Result<&Package, Error>]) -> Result<String> {
     let mut text = String::new(alloc);
     for answer in answers {
@@ -58,7 +58,7 @@ fn answers_text(alloc: Global, answers: &[std::result::Result<&Package, Error>])
     Ok(text)
 }
 
-/// The same where the call may be refused.
+/// Returns the text of answers, or the error of the call.
 fn answer_text(
     alloc: Global,
     answers: &Result<Vec<std::result::Result<&Package, Error>>>,
@@ -73,7 +73,7 @@ fn answer_text(
     }
 }
 
-/// Writes what a call answered, and how often the registry was asked since the beginning.
+/// Writes the answer of a call, and the number of look-ups so far.
 fn write_answers(
     rt: &HostRuntime,
     word: &str,
@@ -86,7 +86,7 @@ fn write_answers(
     Ok(())
 }
 
-/// Asks about the first package, then about all, and then about all twice more.
+/// Looks up the first package, then all, and then all twice more.
 fn write_calls(rt: &HostRuntime, packages: &[Package]) -> Result<()> {
     let alloc = rt.alloc();
     let asked = Cell::new(0);
@@ -101,7 +101,7 @@ fn write_calls(rt: &HostRuntime, packages: &[Package]) -> Result<()> {
     write_answers(rt, "third", &index.find_yanked(alloc, packages), &asked)
 }
 
-/// The same, over the packages of a lockfile.
+/// Writes the answers over the packages of a lockfile.
 pub fn write_find_yanked(rt: &HostRuntime, lock: &str) -> Result<()> {
     let lock = text_of(rt, lock)?;
     let lockfile = Lockfile::from_str(rt.alloc(), &lock)?;

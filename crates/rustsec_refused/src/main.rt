@@ -1,6 +1,6 @@
 //! The program `rustsec_refused`: makes one call of the library between two lines of its output, `call` and
-//! `done`, so that each request for memory that the call makes can be refused from outside. It then
-//! writes what the call answered, what it left where it changes something, and the answer of the same
+//! `done`, so that each request for memory of the call can be refused from outside. It then writes the
+//! answer of the call, the state after the call if the call changes something, and the answer of the same
 //! call made again.
 //!
 //!     rustsec_refused versions PATCHED UNAFFECTED     files with a requirement a line
@@ -11,8 +11,7 @@
 //!     rustsec_refused find_yanked LOCK
 //!     rustsec_refused answer INPUT
 //!
-//! Its status is 0, 2 for other words, and 1 where a file is not there or what stands before the call is
-//! refused.
+//! Its status is 0, 2 for other arguments, and 1 if a file is missing or an earlier call fails.
 #![tactic(auto)]
 
 mod answers;
@@ -27,7 +26,7 @@ use std::alloc::Global;
 use std::env;
 use std::process::ExitCode;
 
-/// Makes the call that the words name, and writes what it gives; nothing for other words.
+/// Makes the call that the arguments name, and writes its answer; none for other arguments.
 fn carry_out(rt: &HostRuntime, words: &[&str]) -> Result<Option<()>> {
     match words {
         ["load_text", stored, new] => stored::write_load_text(rt, stored, new)?,
@@ -45,7 +44,7 @@ fn carry_out(rt: &HostRuntime, words: &[&str]) -> Result<Option<()>> {
     Ok(Some(()))
 }
 
-/// The words behind the program's name, where they are texts.
+/// Returns the arguments after the program's name, if they are UTF-8.
 fn words(rt: &HostRuntime) -> Option<Vec<String>> {
     let mut words = Vec::new(rt.alloc());
     for word in env::args(rt).ok()?.skip(1) {
@@ -54,7 +53,7 @@ fn words(rt: &HostRuntime) -> Option<Vec<String>> {
     Some(words)
 }
 
-/// The words as texts.
+/// Returns the arguments as `&str`.
 fn texts(alloc: Global, words: &[String]) -> Option<Vec<&str>> {
     let mut texts = Vec::new(alloc);
     for word in words {

@@ -7,7 +7,7 @@ use rustsec_texts::Id;
 use rustsec_versions::Result;
 use std::alloc::Global;
 
-/// The IDs of the stored advisories, in order, and what is found of an ID.
+/// Returns the IDs of the stored advisories, in order, and the result of the look-up of an ID.
 fn state(alloc: Global, entries: &Entries, id: &Id) -> Result<String> {
     let mut text = String::new(alloc);
     for advisory in entries.iter() {
@@ -20,7 +20,7 @@ fn state(alloc: Global, entries: &Entries, id: &Id) -> Result<String> {
     Ok(text)
 }
 
-/// Writes what entries have.
+/// Writes the state of entries.
 fn write_state(rt: &HostRuntime, word: &str, entries: &Entries, id: &Id) -> Result<()> {
     let text = state(rt.alloc(), entries, id)?;
     let _ = println!(rt; "{word} {text}");
@@ -37,7 +37,7 @@ fn write_answer(rt: &HostRuntime, word: &str, answer: &Result<Option<Slot>>) -> 
     Ok(())
 }
 
-/// Stores the advisory of a file whose ID this is, and then once more.
+/// Stores the advisory of a file with this ID, and then once more.
 fn store_twice(
     rt: &HostRuntime,
     entries: &mut Entries,
@@ -56,7 +56,7 @@ fn store_twice(
     write_state(rt, "stored", entries, id)
 }
 
-/// The advisory of one file, stored.
+/// Returns entries with the advisory of one file.
 fn one_stored(rt: &HostRuntime, path: &str) -> Result<Entries> {
     let text = text_of(rt, path)?;
     let mut entries = Entries::new(rt.alloc());
@@ -64,7 +64,7 @@ fn one_stored(rt: &HostRuntime, path: &str) -> Result<Entries> {
     Ok(entries)
 }
 
-/// Stores the advisory of a file behind another, and then once more.
+/// Stores the advisory of a file after another, and then once more.
 pub fn write_load_text(rt: &HostRuntime, stored: &str, new: &str) -> Result<()> {
     let advisory = advisory(rt, new)?;
     let text = text_of(rt, new)?;

@@ -1,19 +1,19 @@
-//! The two lines between which a call is made, and what is written of a refusal.
+//! Writes the two lines between which a call is made, and the text of an error.
 
 use rustsec_versions::{Error, ErrorKind, Result};
 use std::alloc::Global;
 
-/// Says that the call comes now. The line is a literal, so that it takes no memory.
+/// Writes the line before the call. It is a literal, so that it takes no memory.
 pub fn opens(rt: &HostRuntime) {
     let _ = println!(rt; "call");
 }
 
-/// Says that the call is over.
+/// Writes the line after the call.
 pub fn closes(rt: &HostRuntime) {
     let _ = println!(rt; "done");
 }
 
-/// The text of a refusal: for want of memory no more than that.
+/// Returns the text of an error; just the text for out of memory.
 pub fn refusal(alloc: Global, error: &Error) -> Result<String> {
     if error.kind() == ErrorKind::OutOfMemory {
         return Ok(String::from_str(alloc, "out of memory")?);

@@ -1,4 +1,4 @@
--- What stands at a text in a map that is ordered by texts.
+-- The value at a text in a map that is ordered by texts.
 use Rattle.std.proofs.Common.{◌≡◌, ◌∙◌, ℕ, Bool, true, false, cond, List, [], ◌∷◌, Some, Ordering, Less, Equal, Greater, nat_eq, refl, sym, ap}
 use Rattle.std.specs.BTreeMap.{insert_entry, is_at}
 use Rattle.std.specs.Cmp.{tied_itself}
@@ -7,7 +7,7 @@ use Rattle.std.specs.Map.{lookup}
 use Rattle.std.specs.Ordering.{is_eq, match_ordering, nat_cmp}
 use Rattle.rustsec_registry.specs.Lookups.{at}
 
--- texts by their bytes
+-- texts are ordered by their bytes
 abbrev pub texts : List ℕ → List ℕ → Ordering
 texts = slice_cmp nat_cmp
 
@@ -24,7 +24,7 @@ cond-swap false false x y z apart = refl
 tied-same : (a b : List ℕ) → texts a b ≡ Equal → a ≡ b
 tied-same a b h = (bytes_decides a b).0 (texts_ties a b ∙ ap is_eq h)
 
--- a text is not equal to two texts of which one is above the other
+-- a text is not equal to both of two texts that differ
 apart : (q k e : List ℕ) → texts k e ≡ Greater → pointwise nat_eq q e ≡ true → pointwise nat_eq q k ≡ true → ⊥
 apart q k e above a b =
     let same : k ≡ e = sym ((bytes_decides q k).0 b) ∙ (bytes_decides q e).0 a in
@@ -40,7 +40,7 @@ module _ {A : Type 0} where
   placed Greater q k v e es rest is more =
       rw more (cond-swap (pointwise nat_eq q e.0) (pointwise nat_eq q k) (Some e.1) (Some v) (at q es) (apart q k e.0 is))
 
-  -- an entry that was put into the map stands at its text, and the others stand where they stood
+  -- an entry that was put into the map is at its text, and the others are unchanged
   pub at_insert : (es : List (List ℕ × A)) (q k : List ℕ) (v : A) → at q (insert_entry texts es k v) ≡ cond (pointwise nat_eq q k) (Some v) (at q es)
   at_insert [] q k v = refl
   at_insert (e ∷ es) q k v = placed (texts k e.0) q k v e es (insert_entry texts es k v) refl (at_insert es q k v)

@@ -66,7 +66,7 @@ grows-both ps qs old mid new a b = record {
   others = λ name h. b.others name (unnamed-both name ps qs h).1 ∙ a.others name (unnamed-both name ps qs h).0;
 }
 
--- of packages that are among others
+-- for packages that are among others
 pub grows-among : (ps qs : List PackageValue) (old new : List (List ℕ × Kept)) → ((p : PackageValue) → Contains ps p → Contains qs p) → Grows ps old new → Grows qs old new
 grows-among ps qs old new among g = record { same = g.same; others = λ name h. g.others name (unnamed-among ps qs name among h) }
 
@@ -131,7 +131,7 @@ given-new answers name key old new kept is put this all q k h =
       | inr other ↦ all q k (sym (are q ∙ rw other refl) ∙ h)
     ]
 
--- what is kept of an answer that was given
+-- the cached form of an answer that was given
 pub was-given : (answers : Answer → Type 0) (a : Answer) (k : Kept) → IfOk a (λ v. answers (Ok v))
     → IfErr a (λ (e : Failure). e.kind ≢ kind.OutOfMemory → answers (Err e)) → IsKeptOf a k → IsKeptOfSome answers k
 was-given answers (Ok v) k ok err h = (Ok v, ok, h)

@@ -1,4 +1,4 @@
--- What a list says of a version's text, entry by entry.
+-- The entry of a list for a version's text, entry by entry.
 use Rattle.std.proofs.Common.{◌≡◌, ◌∙◌, ◌++◌, ℕ, Bool, true, false, cond, List, [], ◌∷◌, Option, Some, nat_eq, refl, ap}
 use Rattle.std.specs.Prelude.{find, option_map}
 use Rattle.std.specs.Cmp.Lexicographic.{pointwise}

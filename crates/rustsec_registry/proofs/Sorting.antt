@@ -1,4 +1,4 @@
--- Packages that were sorted and of which neighbours were compared are the distinct ones, in order.
+-- Sorting packages and comparing neighbours gives the distinct packages, in order.
 use Rattle.std.proofs.Common.{◌≡◌, ◌∙◌, List, [], map, sym, ap, IsPermutation}
 use Rattle.std.specs.Borrow.{Bor}
 use Rattle.std.specs.Cmp.{on_total}

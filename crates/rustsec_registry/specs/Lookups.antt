@@ -1,4 +1,4 @@
--- What a registry answers about a name, and what is kept of its answers.
+-- The answers of a registry for a name, and their cached form.
 use Rattle.std.specs.Prelude.{◌≡◌, ◌≢◌, ℕ, Bool, List, Option, Some, None, Result, Ok, Err, find, nat_eq, option_map, reverse}
 use Rattle.std.specs.Cmp.Lexicographic.{pointwise}
 use Rattle.std.specs.Map.{lookup}
@@ -6,28 +6,28 @@ use Rattle.rustsec_versions.specs.Failure.{Failure}
 use Rattle.rustsec_versions.specs.declared.error.ErrorKind.TheVariants as kind
 use Rattle.rustsec_registry.specs.declared.lookup.IndexVersion.{IndexVersion}
 
--- what a registry answers about a name: the versions that it lists, none where the name is not there, or a failure
+-- a registry's answer for a name: the versions that it lists, none if the name is missing, or an error
 abbrev pub Answer : Type 0
 Answer = Result (Option (List IndexVersion)) Failure
 
--- what a list of versions says of a version's text: whether it is yanked, or nothing where it is not listed.
--- Of a version that is listed twice the last entry counts
+-- the entry of a list of versions for a version's text: whether it is yanked, or none if it is not listed. For a
+-- version that is listed twice the last entry counts
 abbrev pub listed : List ℕ → List IndexVersion → Option Bool
 listed text versions = option_map (λ (v : IndexVersion). v.yanked) (find (λ (v : IndexVersion). pointwise nat_eq text v.version) (reverse versions))
 
--- ---- answers as they are kept
+-- ---- cached answers
 
--- a kept answer: the versions that were listed, each by its text with whether it is yanked; none where the name
--- was not there; or the failure
+-- a cached answer: the versions that were listed, each by its text with whether it is yanked; none if the name was
+-- missing; or the error
 abbrev pub Kept : Type 0
 Kept = Result (Option (List (List ℕ × Bool))) Failure
 
--- what stands at a text
+-- the value at a text
 abbrev pub at : {A : Type 0} → List ℕ → List (List ℕ × A) → Option A
 at text entries = lookup (pointwise nat_eq text) entries
 
--- what is kept of an answer: of each version what its list says of it; a missing name as one; a failure as it is,
--- unless it is out of memory, of which nothing is kept
+-- the cached form of an answer: for each version its entry in the list; a missing name as such; an error as it is,
+-- unless it is out of memory, which is not cached
 abbrev pub IsKeptOf : Answer → Kept → Type 0
 IsKeptOf (Ok None) (Ok None) = Unit {0}
 IsKeptOf (Ok (Some versions)) (Ok (Some entries)) = (text : List ℕ) → at text entries ≡ listed text versions
@@ -37,15 +37,15 @@ IsKeptOf (Ok (Some versions)) (Ok None) = ⊥
 IsKeptOf (Ok o) (Err f) = ⊥
 IsKeptOf (Err e) (Ok o) = ⊥
 
--- what is kept of some answer that may be given
+-- the cached form of some answer that may be given
 abbrev pub IsKeptOfSome : (Answer → Type 0) → Kept → Type 0
 IsKeptOfSome answers kept = (a : Answer) × answers a × IsKeptOf a kept
 
--- each answer that is kept is one that may be given about its name
+-- each cached answer is one that may be given for its name
 abbrev pub AreAnswers : (List ℕ → Answer → Type 0) → List (List ℕ × Kept) → Type 0
 AreAnswers answers entries = (name : List ℕ) (kept : Kept) → at name entries ≡ Some kept → IsKeptOfSome (answers name) kept
 
--- a look-up, and the answers that are kept, each at its name
+-- a look-up, and the cached answers, each at its name
 pub record Cached (I : Type 0) : Type 0 where
   pub index : I
   pub kept : List (List ℕ × Kept)

@@ -5,7 +5,7 @@ use Rattle.std.specs.List.{list_any}
 use Rattle.std.specs.List.Sorted.{IsStrictlySortedBy}
 use Rattle.rustsec_lock.specs.Package.{PackageValue, package_cmp}
 
--- the distinct ones of some packages, in the order of packages: they rise, and are the same packages
+-- the distinct packages of a list, in the order of packages: they rise, and are the same packages
 pub record AreDistinct (packages distinct : List PackageValue) : Type 0 where
   pub rise : IsStrictlySortedBy package_cmp distinct
   pub same : (p : PackageValue) → Contains distinct p ↔ Contains packages p

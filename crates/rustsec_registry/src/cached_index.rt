@@ -1,4 +1,4 @@
-//! A look-up with the answers that it gave.
+//! A look-up that keeps its answers.
 
 ghost use Rattle.std.specs.Prelude.{◌≡◌, [], IfErr, IfOk, List, OnOk, map};
 ghost use Rattle.rustsec_versions.specs.Failure.{IsMemory};
@@ -17,7 +17,7 @@ use rustsec_versions::{Error, Result};
 use std::alloc::Global;
 use std::marker::Model;
 
-/// A look-up with the answers that it gave, of which each name has one at most. The first is kept for good.
+/// A look-up with its answers, at most one for each name. The first answer for a name is kept for good.
 #[derive(Debug, Drop)]
 pub struct CachedIndex<I: Lookup> {
     index: I,
@@ -34,7 +34,7 @@ impl<I: Lookup> Model for CachedIndex<I> {
     ghost invariant = { λ c. AreAnswers (I.answers c.index) c.kept };
 }
 
-/// The same over a look-up and the answers that are kept of it.
+/// Finds yanked packages as `find_yanked` does, over a look-up and its kept answers.
 fn find<'a, I: Lookup>(
     alloc: Global,
     index: &I,
@@ -54,7 +54,7 @@ fn find<'a, I: Lookup>(
 }
 
 impl<I: Lookup> CachedIndex<I> {
-    /// A look-up that was not asked yet.
+    /// Returns a look-up without kept answers.
     pub fn new(alloc: Global, index: I) -> CachedIndex<I>
         ensures index { result.index ≡ index }
         ensures none { result.kept ≡ [] }
@@ -65,17 +65,16 @@ impl<I: Lookup> CachedIndex<I> {
         }
     }
 
-    /// Which of some packages are yanked: for each distinct package, in their order, the package itself
-    /// where it is yanked, nothing where it is not, `NotFound` where the registry has no such name or
-    /// version, and the look-up's failure where that is what it answered. Of a version that is listed
-    /// twice the last entry counts.
+    /// Returns which of some packages are yanked: for each distinct package, in their order, the package itself if
+    /// it is yanked, nothing if it is not, `NotFound` if the registry has no such name or version, and the
+    /// look-up's error if that was its answer. For a version that is listed twice the last entry counts.
     ///
-    /// Each name is asked about once, and its answer is kept for good.
+    /// Each name is looked up once, and its answer is kept for good.
     ///
     /// # Errors
     ///
-    /// `OutOfMemory` alone, also where the look-up answers that. The answers that are kept stay, and
-    /// those that came before the refusal stay with them.
+    /// `OutOfMemory` alone, also if the look-up answers that. The kept answers stay, and
+    /// so do those that came before the error.
     pub fn find_yanked<'a>(
         &mut self,
         alloc: Global,
@@ -85,10 +84,10 @@ impl<I: Lookup> CachedIndex<I> {
             × (map seen v.items ≡ yanked_answers self.new.kept distinct)) }
         ensures asked { OnOk result (AreKept packages.now self.new.kept) }
 
-        // Also where the call is refused, no kept answer is changed, and a new one is of a name of the packages.
+        // Even if the call fails, no kept answer is changed, and a new one is for a name of the packages.
         ensures grown { Grows packages.now self.old.kept self.new.kept }
 
-        // Each kept answer is one that the look-up may give about its name.
+        // Each kept answer is one that the look-up may give for its name.
         ensures given { AreAnswers (I.answers self.new.index) self.new.kept }
         ensures index { self.new.index ≡ self.old.index }
         ensures err { IfErr result IsMemory }

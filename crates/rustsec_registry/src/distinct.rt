@@ -1,4 +1,4 @@
-//! The distinct ones of some packages.
+//! The distinct packages of a list.
 
 ghost use Rattle.std.specs.Prelude.{◌≡◌, IfOk, map};
 ghost use Rattle.rustsec_registry.specs.Packages.{AreDistinct};
@@ -6,14 +6,14 @@ ghost use Rattle.rustsec_registry.specs.Packages.{AreDistinct};
 use rustsec_lock::package::Package;
 use std::alloc::{AllocError, Global};
 
-/// References to packages.
+/// Returns references to packages.
 fn references(alloc: Global, packages: &[Package]) -> std::result::Result<Vec<&Package>, AllocError>
     ensures { IfOk result (λ v. map (λ p. p.now) v.items ≡ packages.now) }
 {
     packages.iter().collect(alloc)
 }
 
-/// References to the distinct ones of some packages, in their order.
+/// Returns references to the distinct packages, in their order.
 pub(crate) fn distinct(
     alloc: Global,
     packages: &[Package],

@@ -1,4 +1,4 @@
-//! What is kept of a registry's answers.
+//! The cache of a registry's answers.
 
 ghost use Rattle.std.specs.Prelude.{◌≡◌, ◌∷◌, [], if◌then◌else◌, ℕ, List, IfErr, IfOk, IsSome, OnErr, OnOk, Some, is_some, map, nat_eq};
 ghost use Rattle.std.specs.Cmp.Lexicographic.{pointwise};
@@ -13,10 +13,10 @@ use rustsec_values::{Items, SortedMap, Text};
 use rustsec_versions::{Error, ErrorKind, Result};
 use std::alloc::{AllocError, Global};
 
-/// What is kept of an answer: which of the listed versions are yanked.
+/// The cached form of an answer: for each listed version, whether it is yanked.
 pub(crate) type Kept = Result<Option<SortedMap<Text, bool>>>;
 
-/// The versions of a list, by their texts. Of a version that is listed twice the last entry counts.
+/// Returns the versions of a list, by their texts. For a version that is listed twice the last entry counts.
 fn by_text(
     alloc: Global,
     versions: Items<IndexVersion>,
@@ -31,7 +31,7 @@ fn by_text(
     Ok(entries)
 }
 
-/// What is kept of an answer.
+/// Returns the cached form of an answer.
 fn kept_of(alloc: Global, answer: Result<Option<Items<IndexVersion>>>) -> Result<Kept>
     ensures ok { IfOk result (IsKeptOf answer) }
     ensures err { IfErr result IsMemory }
@@ -51,14 +51,14 @@ fn kept_of(alloc: Global, answer: Result<Option<Items<IndexVersion>>>) -> Result
     }
 }
 
-/// What is kept at a name.
+/// Returns the cached answer for a name, if any.
 pub(crate) fn at_name<'a>(kept: &'a SortedMap<Name, Kept>, name: &Name) -> Option<&'a Kept>
     ensures { option_copied result ≡ at name.now kept.now }
 {
     kept.get(name)
 }
 
-/// Whether an answer is kept at a name.
+/// Returns whether an answer is cached for a name.
 fn is_kept(kept: &SortedMap<Name, Kept>, name: &Name) -> bool
     ensures { result ≡ is_some (at name.now kept.now) }
 {
@@ -68,7 +68,7 @@ fn is_kept(kept: &SortedMap<Name, Kept>, name: &Name) -> bool
     }
 }
 
-/// Keeps an answer at a name, or changes nothing.
+/// Caches an answer for a name, or changes nothing.
 fn keep(
     kept: &mut SortedMap<Name, Kept>,
     name: Name,
@@ -80,7 +80,7 @@ fn keep(
     kept.insert(name, answer)
 }
 
-/// Asks about a package's name, unless an answer is kept already.
+/// Looks up a package's name, unless an answer is cached.
 fn ask<I: Lookup>(
     alloc: Global,
     index: &I,
@@ -101,8 +101,8 @@ fn ask<I: Lookup>(
     Ok(())
 }
 
-/// Asks once about each name of some packages of which no answer is kept. A refusal leaves the answers
-/// that were kept, and those that came before it.
+/// Looks up each name of some packages that has no cached answer, once. An error leaves the cached answers, and those
+/// that came before it.
 pub(crate) fn ask_all<I: Lookup>(
     alloc: Global,
     index: &I,

@@ -1,4 +1,4 @@
-//! Which packages of a registry are yanked, asked once for each name; and signatures of commits.
+//! Which packages of a registry are yanked, with one look-up for each name; and signatures of commits.
 #![tactic(auto)]
 
 mod cached_index;

@@ -10,7 +10,7 @@ use rustsec_versions::Result;
 use std::alloc::{AllocError, Global};
 use std::marker::Model;
 
-/// The signature of a commit, in the format of OpenPGP: its bytes, which are not looked into.
+/// The signature of a commit, in the format of OpenPGP: its bytes, which are not parsed.
 #[derive(Debug, Drop)]
 pub struct Signature {
     bytes: Vec<u8>,
@@ -25,7 +25,7 @@ impl Model for Signature {
 }
 
 impl Signature {
-    /// The signature of these bytes.
+    /// Returns the signature with these bytes.
     ///
     /// # Errors
     ///
@@ -38,14 +38,14 @@ impl Signature {
         Ok(Signature { bytes })
     }
 
-    /// The bytes.
+    /// Returns the bytes.
     pub fn as_ref(&self) -> &[u8]
         ensures { result.now ≡ self.now }
     {
         self.bytes.as_slice()
     }
 
-    /// An equal signature.
+    /// Returns an equal signature.
     ///
     /// # Errors
     ///

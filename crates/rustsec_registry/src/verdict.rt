@@ -1,4 +1,4 @@
-//! What the kept answers say of packages.
+//! Which packages are yanked, by the cached answers.
 
 ghost use Rattle.std.specs.Prelude.{◌≡◌, IfErr, IfOk, Some, map, option_map};
 ghost use Rattle.rustsec_versions.specs.Failure.{IsMemory};
@@ -12,17 +12,17 @@ use rustsec_values::{Items, SortedMap, Text};
 use rustsec_versions::{Error, ErrorKind, Result};
 use std::alloc::Global;
 
-/// What is answered about one package, where it is not passed over: itself, or why it is not known.
+/// The answer for one package, unless it is skipped: the package, or the error of its look-up.
 type Verdict<'a> = std::result::Result<&'a Package, Error>;
 
-/// What stands at a text.
+/// Returns the value at a text, if any.
 fn at_text(entries: &SortedMap<Text, bool>, text: &Text) -> Option<bool>
     ensures { result ≡ at text.now entries.now }
 {
     entries.get(text).copied()
 }
 
-/// A refusal of kind `NotFound` with this message.
+/// Returns an error of kind `NotFound` with this message.
 fn not_found(alloc: Global, message: &str) -> Result<Error>
     ensures ok { IfOk result (λ e. e ≡ not_found message.now) }
     ensures err { IfErr result IsMemory }
@@ -34,7 +34,7 @@ fn not_found(alloc: Global, message: &str) -> Result<Error>
     Ok(error)
 }
 
-/// That a package's name is not there.
+/// Returns the error for a package whose name is missing.
 fn missing_name(alloc: Global, package: &Package) -> Result<Error>
     ensures ok { IfOk result (λ e. e ≡ not_found (missing_name «package».now)) }
     ensures err { IfErr result IsMemory }
@@ -43,7 +43,7 @@ fn missing_name(alloc: Global, package: &Package) -> Result<Error>
     not_found(alloc, message.as_str())
 }
 
-/// That a package's version is not there.
+/// Returns the error for a package whose version is missing.
 fn missing_version(alloc: Global, package: &Package) -> Result<Error>
     ensures ok { IfOk result (λ e. e ≡ not_found (missing_version «package».now)) }
     ensures err { IfErr result IsMemory }
@@ -55,8 +55,8 @@ fn missing_version(alloc: Global, package: &Package) -> Result<Error>
     not_found(alloc, message.as_str())
 }
 
-/// Whether the list of a name says that a package's version is yanked, or nothing of it. The version is
-/// looked up by its printed text.
+/// Returns whether the list of a name marks a package's version as yanked, or none if the version is not listed. The
+/// version is looked up by its printed text.
 fn listed(alloc: Global, entries: &SortedMap<Text, bool>, package: &Package) -> Result<Option<bool>>
     ensures ok { IfOk result (λ yanked. yanked ≡ at (parts_text «package».now.version) entries.now) }
     ensures err { IfErr result IsMemory }
@@ -65,7 +65,7 @@ fn listed(alloc: Global, entries: &SortedMap<Text, bool>, package: &Package) -> 
     Ok(at_text(entries, &text))
 }
 
-/// What the list of a name says of a package.
+/// Returns the answer for a package by the list of its name.
 fn by_version<'a>(
     alloc: Global,
     entries: &SortedMap<Text, bool>,
@@ -84,7 +84,7 @@ fn by_version<'a>(
     }
 }
 
-/// What is kept at a package's name says of it.
+/// Returns the answer for a package by the cached answer for its name.
 fn by_name<'a>(
     alloc: Global,
     kept: Option<&Kept>,
@@ -106,7 +106,7 @@ fn by_name<'a>(
     }
 }
 
-/// What the kept answers say of a package.
+/// Returns the answer for a package by the cached answers.
 fn verdict<'a>(
     alloc: Global,
     kept: &SortedMap<Name, Kept>,
@@ -118,7 +118,7 @@ fn verdict<'a>(
     by_name(alloc, at_name(kept, &package.name), package)
 }
 
-/// What the kept answers say of each package, in order.
+/// Returns the answers for packages, in order, by the cached answers.
 pub(crate) fn verdicts<'a>(
     alloc: Global,
     kept: &SortedMap<Name, Kept>,

@@ -1,4 +1,4 @@
--- What is filtered once is not changed by the same filter.
+-- The same filter twice gives the same as once.
 use Rattle.std.proofs.Common.{◌≡◌, Bool, true, false, cond, List, [], ◌∷◌, map, refl, ap}
 use Rattle.std.specs.List.{filter}
 use Rattle.rustsec_texts.specs.declared.warning_kind.WarningKind.{WarningKind}
@@ -18,7 +18,7 @@ module _ {X : Type 0} (p : X → Bool) where
   filter-again [] = refl
   filter-again (x ∷ xs) = head_again x (filter p xs) (p x) refl (filter-again xs)
 
--- a kind with those of its warnings that pass
+-- a kind with the warnings of its list that pass
 abbrev passing : (Warning → Bool) → WarningKind × List Warning → WarningKind × List Warning
 passing p e = (e.0, filter p e.1)
 

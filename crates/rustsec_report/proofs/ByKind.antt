@@ -1,4 +1,4 @@
--- Warnings that are gathered kind by kind are each kind with its warnings, in the order of kinds.
+-- Gathering warnings kind by kind gives each kind with its warnings, in the order of kinds.
 use Rattle.std.proofs.Common.{◌≡◌, ◌≤◌, ◌∙◌, ℕ, List, [], ◌∷◌, ap, drop, length, refl, sym}
 use Rattle.std.proofs.lemmas.List.{drop_all}
 use Rattle.rustsec_texts.specs.WarningKinds.{warning_kinds}

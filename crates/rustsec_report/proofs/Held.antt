@@ -1,5 +1,5 @@
--- A report holds no withdrawn and no ignored advisory; its vulnerabilities are by no informational one, and its warnings
--- by such ones alone.
+-- A report contains no withdrawn and no ignored advisory; the advisories of its vulnerabilities are not
+-- informational, and those of its warnings are.
 use Rattle.std.proofs.Common.{◌≡◌, Bool, true, false, not, List, [], ◌∷◌, map, Option, Some, None, option_and_then, refl, ap, subst, sym, is_some, if◌then◌else◌}
 use Rattle.std.proofs.lemmas.List.Elements.{All-nil, All-append, All-filter, All-map, All-weaker, filter_passes}
 use Rattle.std.specs.Bool.{beq}
@@ -29,7 +29,7 @@ last_tests : (q : Asked) (a : Advisory) → selects q a ≡ true → (as_withdra
 unfolding selects
 last_tests q a h = (second_so _ (as_withdrawn q a) (first_so _ (as_informational q a) h), second_so _ (as_informational q a) h)
 
--- what holds of each package and advisory that it selects holds of all pairs
+-- what holds for each package and advisory that a query selects holds for all pairs
 module _ (P : Pair → Type 0) (advisories : List Advisory) (q : Asked)
     (each : (p : PackageValue) (a : Advisory) → selects (of_package q p) a ≡ true → P (record { of = p; by = a })) where
   pairs_of-all : (p : PackageValue) → All P (pairs_of advisories q p)
@@ -51,7 +51,7 @@ not_false : (b : Bool) → not b ≡ true → b ≡ false
 not_false true h = cc h
 not_false false h = refl
 
--- of what is found, that which is not ignored
+-- matches, without ignored advisories
 module _ (s : Settings) (P : Vulnerability → Type 0) (vs : List Vulnerability) (all : All P vs) where
   counted : Vulnerability → Bool
   counted v = not (is_among s.ignore v.advisory.id)
@@ -135,6 +135,6 @@ warnings-all advisories packages s =
 pub report-held : (advisories : List Advisory) (packages : List PackageValue) (s : Settings) → ListsWhatIsInForce (report_of advisories packages s)
 report-held advisories packages s = record { vulnerabilities = vulnerabilities-all advisories packages s; warnings = warnings-all advisories packages s }
 
--- the same of a report that is this one
+-- likewise for a report that is this one
 pub held-of : (r : Report) (advisories : List Advisory) (packages : List PackageValue) (s : Settings) → r ≡ report_of advisories packages s → ListsWhatIsInForce r
 held-of r advisories packages s e = subst ListsWhatIsInForce (sym e) (report-held advisories packages s)

@@ -1,4 +1,4 @@
--- What stands in a list that was filtered, mapped or joined.
+-- The elements of a list that was filtered, mapped or joined.
 use Rattle.std.proofs.Common.{◌≡◌, ◌∙◌, ◌⊎◌, ◌+◌, ◌<◌, ◌++◌, ℕ, zero, suc, Bool, true, false, cond, Contains, List, [], ◌∷◌, get_or, inl, inr, length, map, refl, sym, ap, subst, arith, ⊎_elim}
 use Rattle.std.specs.List.{AllZip, filter, flat_map}
 
@@ -58,7 +58,7 @@ module _ {X : Type 0} (p : X → Bool) where
   kept (x ∷ xs) y (inl is) holds = kept-head x (filter p xs) (p x) y refl holds (inl is)
   kept (x ∷ xs) y (inr h) holds = kept-head x (filter p xs) (p x) y refl holds (inr (kept xs y h holds))
 
--- of what is made of each
+-- of the images of all elements
 module _ {X Y : Type 0} where
   pub made : (f : X → Y) (xs : List X) (x : X) → Among xs x → Among (map f xs) (f x)
   made f [] x h = absurd h

@@ -19,7 +19,7 @@ use Rattle.rustsec_report.specs.declared.report.Report.{Report}
 use Rattle.rustsec_report.specs.declared.settings.Settings.{Settings}
 use Rattle.rustsec_report.specs.declared.warning.Warning.{Warning}
 
--- an advisory that one of these files is filed as, and that is no placeholder
+-- an advisory that one of these files is loaded as, and whose ID is not the placeholder
 abbrev pub IsHeld : List SourceFile → Advisory → Type 0
 IsHeld files a = (file : SourceFile) × Contains files file × IsFiled file.path file.text a × (is_stored a ≡ true)
 
@@ -40,12 +40,13 @@ pub record IsWarned (files : List SourceFile) (packages : List PackageValue) (s 
   pub is_given : gives s k pair ≡ true
   pub is : w ≡ as_warning k pair
 
--- warnings by kind, of which one stands under a kind
+-- warnings by kind, with one of them under a kind
 abbrev pub Holds : List (WarningKind × List Warning) → WarningKind → Warning → Type 0
 Holds es k w = (ws : List Warning) × Contains es (k, ws) × Contains ws w
 
--- the report of files that load and of a table that holds packages: its two lists go by package in the table's order and
--- then by advisory in the files', with each pair as often as it stands, and hold exactly the pairs that the settings select
+-- the report of files that load and of a table that holds packages: its two lists go by package in the table's order
+-- and then by advisory in the files', with each pair as often as it occurs, and contain exactly the pairs that the
+-- settings select
 pub record IsReportOf (files : List SourceFile) (table : Members) (s : Settings) (r : Report) : Type 0 where
   pub advisories : List Advisory
   pub packages : List PackageValue

@@ -1,4 +1,4 @@
--- What of a report applies to a compiled program, by the format of its file.
+-- Which parts of a report apply to a compiled program, by the format of its file.
 use Rattle.std.specs.Prelude.{◌==◌, ◌&&◌, ◌||◌, Bool, true, not, List, [], ◌∷◌, length, map, Option, Some, None}
 use Rattle.std.specs.List.{filter, list_any}
 use denote.Enum.Bare.{sameb}
@@ -25,12 +25,12 @@ windows = os.Windows ∷ []
 abbrev pub apple : List OS
 apple = os.iOS ∷ os.MacOS ∷ os.TvOS ∷ os.VisionOS ∷ os.WatchOS ∷ []
 
--- what stands for no system
+-- the values of `OS` that are not a system
 abbrev pub no_system : List OS
 no_system = os.Unknown ∷ os.None ∷ []
 
--- whether a system may run programs of a format: PE is that of Windows, Mach-O that of Apple, ELF that of all others;
--- WebAssembly has no system; a format that is not known may be any
+-- whether a system may run programs of a format: Windows runs PE, Apple's systems run Mach-O, all others run ELF;
+-- WebAssembly needs no system; an unknown format may be any of them
 abbrev pub runs : BinaryFormat → OS → Bool
 runs format.Elf32 s = not (is_one_of windows s) && not (is_one_of apple s)
 runs format.Elf64 s = not (is_one_of windows s) && not (is_one_of apple s)
@@ -39,12 +39,13 @@ runs format.PE s = is_one_of windows s
 runs format.Wasm s = is_one_of no_system s
 runs format.Unknown s = true
 
--- whether what is affected applies to a format: some listed system may run it; where none is listed, all are affected
+-- whether an advisory with this table `affected` applies to a format: some listed system may run it; if none is
+-- listed, all are affected
 abbrev pub applicable : BinaryFormat → Option Affected → Bool
 applicable f None = true
 applicable f (Some a) = (length a.os == 0) || list_any (runs f) a.os
 
--- a report without what doesn't apply; each kind of warnings stays, with no warning too
+-- a report without what does not apply; each kind of warnings stays, even without warnings
 unfoldable pub filtered : BinaryFormat → Report → Report
 filtered f r = record r {
   vulnerabilities = info_of (filter (λ (v : Vulnerability). applicable f v.affected) r.vulnerabilities.list);

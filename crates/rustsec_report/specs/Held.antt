@@ -1,4 +1,4 @@
--- What the vulnerabilities and the warnings of a report come from.
+-- The advisories of a report's vulnerabilities and warnings.
 use Rattle.std.specs.Prelude.{◌≡◌, false, Some, None}
 use Rattle.std.specs.List.{All}
 use Rattle.rustsec_texts.specs.Informational.{kind_of_warnings}
@@ -16,12 +16,12 @@ pub record IsInForce (s : Settings) (m : Metadata) : Type 0 where
   pub stands : m.withdrawn ≡ None
   pub counts : is_among s.ignore m.id ≡ false
 
--- a vulnerability by an advisory in force that is not informational
+-- a vulnerability whose advisory is in force and not informational
 pub record IsVulnerability (s : Settings) (v : Vulnerability) : Type 0 where
   pub in_force : IsInForce s v.advisory
   pub not_informational : v.advisory.informational ≡ None
 
--- a warning of this kind by an advisory in force, whose informational kind gives this kind of warnings
+-- a warning of this kind whose advisory is in force, with an informational kind that gives this kind of warnings
 pub record IsWarning (s : Settings) (k : WarningKind) (w : Warning) : Type 0 where
   pub advisory : Metadata
   pub by : w.advisory ≡ Some advisory
@@ -31,7 +31,7 @@ pub record IsWarning (s : Settings) (k : WarningKind) (w : Warning) : Type 0 whe
   pub gives : kind_of_warnings informational ≡ Some k
   pub has_kind : w.kind ≡ k
 
--- a report all of whose vulnerabilities and warnings are such
+-- a report with only such vulnerabilities and warnings
 pub record ListsWhatIsInForce (r : Report) : Type 0 where
   pub vulnerabilities : All (IsVulnerability r.settings) r.vulnerabilities.list
   pub warnings : All (λ e. All (IsWarning r.settings e.0) e.1) r.warnings

@@ -5,7 +5,7 @@ use Rattle.rustsec_texts.specs.declared.warning_kind.WarningKind.{WarningKind}
 use Rattle.rustsec_texts.specs.contracts.warning_kind.WarningKindOrd.TheImpl.{ghosts as kind_order}
 use Rattle.rustsec_report.specs.declared.warning.Warning.{Warning}
 
--- warnings with those of one more kind, where there are any
+-- warnings with those of one more kind, unless there are none
 abbrev pub with_kind : List (WarningKind × List Warning) → WarningKind → List Warning → List (WarningKind × List Warning)
 with_kind es k [] = es
 with_kind es k (w ∷ ws) = insert_entry kind_order.cmp es k (w ∷ ws)

@@ -1,4 +1,4 @@
--- The report of a lockfile: which pairs of a package and an advisory it lists, and what it says of them.
+-- The report of a lockfile: which pairs of a package and an advisory it lists, and what it contains about them.
 use Rattle.std.specs.Prelude.{◌==◌, Bool, true, false, not, if◌then◌else◌, List, [], ◌∷◌, length, map, nat_eq, Option, Some, None, option_and_then}
 use Rattle.std.specs.Cmp.Lexicographic.{pointwise}
 use Rattle.std.specs.List.{filter, list_any}
@@ -36,7 +36,7 @@ informational_query s = record (query_of s) { informational = Some true }
 abbrev pub is_among : List IdValue → IdValue → Bool
 is_among ids id = list_any (λ i. id_eq i id) ids
 
--- whether two informational kinds are the same; other kinds are told apart by their texts
+-- whether two informational kinds are the same; other kinds are compared by their texts
 abbrev pub same_kind : Informational → Informational → Bool
 same_kind informational.Notice informational.Notice = true
 same_kind informational.Unmaintained informational.Unmaintained = true
@@ -48,7 +48,7 @@ same_kind _ _ = false
 abbrev pub is_wanted : Settings → Informational → Bool
 is_wanted s kind = list_any (λ w. same_kind w kind) s.informational_warnings
 
--- the kind of the warnings that an informational kind gives, where they are asked for; another kind gives none
+-- the kind of the warnings that an informational kind gives, if the settings ask for it; another kind gives none
 abbrev pub wanted_kind : Settings → Informational → Option WarningKind
 wanted_kind s kind = if is_wanted s kind then kind_of_warnings kind else None
 
@@ -58,7 +58,7 @@ wanted_kind s kind = if is_wanted s kind then kind_of_warnings kind else None
 abbrev pub found : List Advisory → List PackageValue → Asked → List Vulnerability
 found advisories packages q = map as_vulnerability (pairs advisories packages q)
 
--- those whose advisory is none of the ignored ones
+-- those whose advisory is not ignored
 abbrev pub without : List IdValue → List Vulnerability → List Vulnerability
 without ignored vs = filter (λ v. not (is_among ignored v.advisory.id)) vs
 
@@ -95,7 +95,7 @@ has_some (w ∷ ws) = true
 abbrev pub present : List (WarningKind × List Warning) → List (WarningKind × List Warning)
 present es = filter (λ e. has_some e.1) es
 
--- each kind with its warnings, by the order of kinds; a kind without any is left out
+-- each kind with its warnings, by the order of kinds; a kind without warnings is left out
 unfoldable pub warnings_by_kind : Settings → List Vulnerability → List (WarningKind × List Warning)
 warnings_by_kind s vs = present (map (λ k. (k, warnings_of_kind s vs k)) warning_kinds)
 
@@ -105,7 +105,7 @@ warnings advisories packages s = warnings_by_kind s (without s.ignore (found adv
 
 -- ---- the report
 
--- a list of vulnerabilities with its length, and whether there is any
+-- a list of vulnerabilities with its length, and whether there are any
 abbrev pub info_of : List Vulnerability → VulnerabilityInfo
 info_of list = record { found = not (length list == 0); count = length list; list = list }
 

@@ -1,4 +1,4 @@
--- The JSON tree of a report. Each object is a map, so its keys stand in the order of their bytes.
+-- The JSON tree of a report. Each object is a map, so its keys are in the order of their bytes.
 use Rattle.std.specs.Prelude.{ℕ, List, [], ◌∷◌, ◌++◌, map, codes}
 use Rattle.semver.specs.Identifiers.{parts_text}
 use Rattle.semver.specs.Parse.{Held}
@@ -55,7 +55,7 @@ requirements_tree rs = list_tree (λ r. string (requirement_text r)) rs
 abbrev pub functions : List Function → List Entry
 functions fs = map (λ (f : Function). (path_text f.0, requirements_tree f.1)) fs
 
--- ---- what an advisory says
+-- ---- advisories
 
 abbrev pub affected_entries : Affected → List Entry
 affected_entries a =
@@ -86,7 +86,7 @@ subject m =
     ∷ (codes "related", ids_tree m.related)
     ∷ []
 
--- how it is sorted
+-- its classification
 abbrev pub kinds : Metadata → List Entry
 kinds m =
     (codes "categories", list_tree (λ x. string (category_name x)) m.categories)
@@ -96,7 +96,7 @@ kinds m =
     ∷ (codes "keywords", list_tree (λ x. string x) m.keywords)
     ∷ []
 
--- where more is found
+-- references, source and address
 abbrev pub origin : Metadata → List Entry
 origin m =
     (codes "references", list_tree (λ x. string x) m.references)
@@ -104,7 +104,7 @@ origin m =
     ∷ (codes "url", optional_tree (λ x. string x) m.url)
     ∷ []
 
--- its texts and its terms
+-- its texts, license and expectation of deletion
 abbrev pub terms : Metadata → List Entry
 terms m =
     (codes "description", string m.description)
@@ -187,7 +187,7 @@ info_entries i =
 abbrev pub vulnerabilities_tree : VulnerabilityInfo → Data
 vulnerabilities_tree i = object_of (info_entries i)
 
--- one key a kind of warnings
+-- one key for each kind of warnings
 abbrev pub kinds_of_warnings : List (WarningKind × List Warning) → List Entry
 kinds_of_warnings ws = map (λ e. (warning_kind_name e.0, list_tree warning_tree e.1)) ws
 

@@ -1,4 +1,4 @@
-// The JSON trees of what advisories and packages hold.
+//! Builds the JSON trees of advisories and packages.
 
 ghost use Rattle.std.specs.Prelude.{◌≡◌, IfOk, OnOk};
 ghost use Rattle.serde_json.specs.View.{members_view, view};
@@ -31,7 +31,7 @@ fn put_functions(
     Ok(())
 }
 
-/// The tree of functions.
+/// Builds the tree of functions.
 fn functions_tree(
     alloc: Global,
     list: &SortedMap<FunctionPath, Requirements>,
@@ -43,7 +43,7 @@ fn functions_tree(
     Ok(Value::from(members))
 }
 
-/// Sets the keys of what is affected.
+/// Sets the keys of the table `affected`.
 #[tactic(auto, unfolding(crate::specs::Trees::with_members))]
 fn put_affected(alloc: Global, members: &mut Members, affected: &Affected) -> Result<(), AllocError>
     ensures { OnOk result (members_view members.new.entries
@@ -55,7 +55,7 @@ fn put_affected(alloc: Global, members: &mut Members, affected: &Affected) -> Re
     put_value(alloc, members, "os", &affected.os)
 }
 
-/// The tree of what is affected, null where nothing is said.
+/// Builds the tree of the table `affected`, null if the table is missing.
 pub(crate) fn affected_tree(alloc: Global, affected: &Option<Affected>) -> Result<Value, AllocError>
     ensures { IfOk result (λ v. view v ≡ optional_tree affected_tree affected.now) }
 {
@@ -79,7 +79,7 @@ fn put_versions(alloc: Global, members: &mut Members, versions: &Versions) -> Re
     put_tree(alloc, members, "unaffected", unaffected)
 }
 
-/// The tree of two lists of requirements.
+/// Builds the tree of two lists of requirements.
 pub(crate) fn versions_tree(alloc: Global, versions: &Versions) -> Result<Value, AllocError>
     ensures { IfOk result (λ v. view v ≡ versions_tree versions.now) }
 {
@@ -101,7 +101,7 @@ fn put_subject(alloc: Global, members: &mut Members, metadata: &Metadata) -> Res
     put_value(alloc, members, "related", &metadata.related)
 }
 
-/// Sets the keys of how an advisory is sorted.
+/// Sets the keys of an advisory's classification.
 #[tactic(auto, unfolding(crate::specs::Trees::with_members))]
 fn put_kinds(alloc: Global, members: &mut Members, metadata: &Metadata) -> Result<(), AllocError>
     ensures { OnOk result (members_view members.new.entries
@@ -114,7 +114,7 @@ fn put_kinds(alloc: Global, members: &mut Members, metadata: &Metadata) -> Resul
     put_value(alloc, members, "keywords", &metadata.keywords)
 }
 
-/// Sets the keys of where more is found.
+/// Sets the keys of an advisory's references, source and address.
 #[tactic(auto, unfolding(crate::specs::Trees::with_members))]
 fn put_origin(alloc: Global, members: &mut Members, metadata: &Metadata) -> Result<(), AllocError>
     ensures { OnOk result (members_view members.new.entries
@@ -125,7 +125,7 @@ fn put_origin(alloc: Global, members: &mut Members, metadata: &Metadata) -> Resu
     put_value(alloc, members, "url", &metadata.url)
 }
 
-/// Sets the keys of an advisory's texts and terms.
+/// Sets the keys of an advisory's texts, license and expectation of deletion.
 #[tactic(auto, unfolding(crate::specs::Trees::with_members))]
 fn put_terms(alloc: Global, members: &mut Members, metadata: &Metadata) -> Result<(), AllocError>
     ensures { OnOk result (members_view members.new.entries
@@ -143,7 +143,7 @@ fn put_terms(alloc: Global, members: &mut Members, metadata: &Metadata) -> Resul
     put_value(alloc, members, "withdrawn", &metadata.withdrawn)
 }
 
-/// Sets all keys of what an advisory says of itself.
+/// Sets all keys of an advisory's metadata.
 #[tactic(auto, unfolding(crate::specs::Trees::with_members, crate::specs::Trees::metadata_entries))]
 fn put_metadata(alloc: Global, members: &mut Members, metadata: &Metadata) -> Result<(), AllocError>
     ensures { OnOk result (members_view members.new.entries
@@ -155,7 +155,7 @@ fn put_metadata(alloc: Global, members: &mut Members, metadata: &Metadata) -> Re
     put_terms(alloc, members, metadata)
 }
 
-/// The tree of what an advisory says of itself.
+/// Builds the tree of an advisory's metadata.
 #[tactic(auto, unfolding(crate::specs::Trees::metadata_tree))]
 pub(crate) fn metadata_tree(alloc: Global, metadata: &Metadata) -> Result<Value, AllocError>
     ensures { IfOk result (λ v. view v ≡ metadata_tree metadata.now) }
@@ -178,7 +178,7 @@ fn put_package(alloc: Global, members: &mut Members, package: &Package) -> Resul
     put_tree(alloc, members, "version", Value::from(version))
 }
 
-/// The tree of a package.
+/// Builds the tree of a package.
 pub(crate) fn package_tree(alloc: Global, package: &Package) -> Result<Value, AllocError>
     ensures { IfOk result (λ v. view v ≡ package_tree «package».now) }
 {

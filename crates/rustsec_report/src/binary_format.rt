@@ -1,4 +1,4 @@
-// Formats of compiled programs.
+//! Formats of compiled programs.
 
 use rustsec_values::{ExactClone, ExactEq};
 
@@ -15,7 +15,7 @@ pub enum BinaryFormat {
     PE,
     /// WebAssembly.
     Wasm,
-    /// A format that is not known.
+    /// An unknown format.
     Unknown,
 }
 

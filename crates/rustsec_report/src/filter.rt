@@ -1,4 +1,4 @@
-// What of a report applies to a compiled program.
+//! Filters a report by binary format.
 
 ghost use Rattle.std.specs.Prelude.{◌≡◌, length};
 ghost use Rattle.std.specs.List.{filter, list_any};
@@ -14,28 +14,28 @@ use rustsec_lock::platforms::OS;
 use rustsec_query::Vulnerability;
 use rustsec_values::Test;
 
-/// Whether a system is Windows.
+/// Returns whether a system is Windows.
 fn is_windows(os: OS) -> bool
     ensures { result ≡ is_one_of windows os }
 {
     [OS::Windows].contains(&os)
 }
 
-/// Whether a system is one of Apple's.
+/// Returns whether a system is one of Apple's.
 fn is_apple(os: OS) -> bool
     ensures { result ≡ is_one_of apple os }
 {
     [OS::iOS, OS::MacOS, OS::TvOS, OS::VisionOS, OS::WatchOS].contains(&os)
 }
 
-/// Whether what is named is no system.
+/// Returns whether a value of `OS` is not an operating system: `unknown` or `none`.
 fn is_no_system(os: OS) -> bool
     ensures { result ≡ is_one_of no_system os }
 {
     [OS::Unknown, OS::None].contains(&os)
 }
 
-/// Whether a system may run programs of a format.
+/// Returns whether a system may run programs of a format.
 fn runs(format: BinaryFormat, os: OS) -> bool
     ensures { result ≡ runs format os }
 {
@@ -48,14 +48,14 @@ fn runs(format: BinaryFormat, os: OS) -> bool
     }
 }
 
-/// Whether some of these systems may run programs of a format.
+/// Returns whether some of these systems may run programs of a format.
 fn some_runs(format: BinaryFormat, systems: &[OS]) -> bool
     ensures { result ≡ list_any (runs format) systems.now }
 {
     systems.iter().any(|os| runs(format, *os))
 }
 
-/// Whether what is affected applies to programs of a format.
+/// Returns whether an advisory with this table `affected` applies to programs of a format.
 fn is_applicable(format: BinaryFormat, affected: &Option<Affected>) -> bool
     ensures { result ≡ applicable format affected.now }
 {
@@ -65,7 +65,7 @@ fn is_applicable(format: BinaryFormat, affected: &Option<Affected>) -> bool
     }
 }
 
-/// The test whether something applies to programs of a format.
+/// The predicate of what applies to programs of a format.
 #[derive(Drop)]
 struct Applicable {
     format: BinaryFormat,
@@ -91,7 +91,7 @@ impl Test<Warning> for Applicable {
     }
 }
 
-/// Keeps the vulnerabilities that apply to programs of a format, and counts them anew.
+/// Keeps the vulnerabilities that apply to programs of a format, and updates their number.
 fn filter_vulnerabilities(info: &mut VulnerabilityInfo, test: &Applicable)
     ensures { info.new ≡ info_of (filter (λ v. applicable test.now.format v.affected) info.old.list) }
 {
@@ -100,16 +100,17 @@ fn filter_vulnerabilities(info: &mut VulnerabilityInfo, test: &Applicable)
     info.found = !info.list.is_empty();
 }
 
-/// Takes out of a report what doesn't apply to programs of a format: an advisory that lists systems
-/// none of which runs such programs. The number of vulnerabilities, and whether there is any, are set
-/// anew. A kind of warnings stays, also where its list becomes empty. This takes no memory.
+/// Removes from a report what does not apply to programs of a format: an advisory applies if it lists no system, or
+/// one
+/// that runs such programs. The number of vulnerabilities, and whether there are any, are updated. A kind of warnings
+/// stays, even if its list becomes empty. This takes no memory.
 ///
 /// The number of vulnerabilities must be that of the list.
 pub fn filter_report_by_binary_type(binary_type: &BinaryFormat, report: &mut Report)
     requires { report.old.vulnerabilities.count ≡ length report.old.vulnerabilities.list }
     ensures value { report.new ≡ filtered binary_type.now report.old }
 
-    // The condition holds again, and what a second call leaves is the same.
+    // The condition holds again, and a second call changes nothing.
     ensures count { report.new.vulnerabilities.count ≡ length report.new.vulnerabilities.list }
     ensures again { filtered binary_type.now report.new ≡ report.new }
 {

@@ -1,4 +1,4 @@
-// How a report is made from a database and a lockfile.
+//! Generates a report from a database and a lockfile.
 
 ghost use Rattle.std.specs.Prelude.{◌≡◌, IfErr, IfOk, List, Some};
 ghost use Rattle.toml.specs.Data.{Members};
@@ -20,8 +20,8 @@ use rustsec_values::Items;
 use rustsec_versions::Result;
 use std::alloc::Global;
 
-/// The warnings about a lockfile's packages that settings ask for: kind by kind, each list by package in
-/// the lockfile's order, then by advisory in the database's.
+/// Returns the warnings about a lockfile's packages that settings ask for: kind by kind, each list by package in the
+/// lockfile's order, then by advisory in the database's order.
 ///
 /// # Errors
 ///
@@ -40,7 +40,7 @@ pub fn find_warnings(
     warnings_of(alloc, Items::from(found), settings)
 }
 
-/// The vulnerabilities of a lockfile's packages that settings ask for, less those of ignored advisories.
+/// Returns the vulnerabilities of a lockfile's packages that settings ask for, without those of ignored advisories.
 fn find_vulnerabilities(
     alloc: Global,
     database: &Database,
@@ -57,10 +57,13 @@ fn find_vulnerabilities(
 }
 
 impl Report {
-    /// The report of a lockfile by a database: the pairs of a package and an advisory that the settings
-    /// select, less ignored advisories, as vulnerabilities and, of informational advisories, as
-    /// warnings. Each list goes by package in the lockfile's order, then by advisory in the database's;
-    /// a package that stands twice gives its pairs twice.
+    /// Returns the report of a lockfile by a database. The settings select pairs of a package and an advisory, and
+    /// ignored
+    /// advisories are left out. A pair is a warning if its advisory is informational, and a vulnerability if not.
+    /// Each list
+    /// goes by package in the lockfile's order, then by advisory in the database's order; a package that occurs twice
+    /// gives
+    /// its pairs twice.
     ///
     /// # Errors
     ///
@@ -73,11 +76,11 @@ impl Report {
     ) -> Result<Report>
         ensures ok { IfOk result (λ r. r ≡ report_of database.now lockfile.now.packages settings.now) }
 
-        // No advisory in it is withdrawn or ignored; those of vulnerabilities are not informational,
-        // those of warnings are.
+        // No advisory in it is withdrawn or ignored; advisories of vulnerabilities are not informational, and those
+        // of warnings are.
         ensures holds { IfOk result ListsWhatIsInForce }
 
-        // It is the report of whatever files the database is loaded from and whatever table holds the packages.
+        // It is the report of any files that give this database and any table that gives these packages.
         ensures chain { IfOk result (λ r. (files : List SourceFile) (table : Members) → AreLoaded files database.now
             → packages_of table ≡ Some lockfile.now.packages → IsReportOf files table settings.now r) }
         ensures err { IfErr result IsMemory }

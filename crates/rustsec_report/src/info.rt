@@ -1,4 +1,4 @@
-// What a report says of its lockfile and of its vulnerabilities.
+//! What a report contains about its lockfile and its vulnerabilities.
 
 ghost use Rattle.std.specs.Prelude.{◌≡◌, [], IfErr, IfOk, length};
 ghost use Rattle.rustsec_versions.specs.Failure.{IsMemory};
@@ -10,7 +10,7 @@ use rustsec_values::{ExactClone, Items};
 use rustsec_versions::Result;
 use std::alloc::{AllocError, Global};
 
-/// What a report says of its lockfile.
+/// What a report contains about its lockfile.
 #[derive(Clone, Copy, Debug)]
 pub struct LockfileInfo {
     /// The number of packages.
@@ -18,7 +18,7 @@ pub struct LockfileInfo {
 }
 
 impl LockfileInfo {
-    /// What is said of a lockfile. This takes no memory.
+    /// Returns the number of packages of a lockfile. This takes no memory.
     pub fn new(lockfile: &Lockfile) -> LockfileInfo
         ensures { result.dependency_count ≡ length lockfile.now.packages }
     {
@@ -35,7 +35,7 @@ impl ExactClone for LockfileInfo {
 /// The vulnerabilities of a report.
 #[derive(Debug, Drop)]
 pub struct VulnerabilityInfo {
-    /// Whether there is any.
+    /// Whether there are any.
     pub found: bool,
     /// Their number.
     pub count: usize,
@@ -44,14 +44,14 @@ pub struct VulnerabilityInfo {
 }
 
 impl VulnerabilityInfo {
-    /// These vulnerabilities, with their number, and whether there is any. This takes no memory.
+    /// Returns these vulnerabilities, with their number and whether there are any. This takes no memory.
     pub fn new(list: Vec<Vulnerability>) -> VulnerabilityInfo
         ensures { result ≡ info_of list.items }
     {
         VulnerabilityInfo::of_items(Items::from(list))
     }
 
-    /// The same of a list of this workspace.
+    /// As `new`, from `Items`.
     pub(crate) fn of_items(list: Items<Vulnerability>) -> VulnerabilityInfo
         ensures { result ≡ info_of list }
     {
@@ -62,14 +62,14 @@ impl VulnerabilityInfo {
         }
     }
 
-    /// No vulnerability. This takes no memory.
+    /// Returns an empty list of vulnerabilities. This takes no memory.
     pub fn default(alloc: Global) -> VulnerabilityInfo
         ensures { result ≡ info_of [] }
     {
         VulnerabilityInfo::of_items(Items::new(alloc))
     }
 
-    /// An equal value.
+    /// Returns an equal value.
     ///
     /// # Errors
     ///

@@ -1,5 +1,5 @@
-//! Reports: the vulnerabilities of a lockfile's packages and the warnings about them, what of a report
-//! applies to a compiled program, and the JSON tree of a report.
+//! Reports: the vulnerabilities of a lockfile's packages and the warnings about them, the filter by binary format,
+//! and the JSON tree of a report.
 #![tactic(auto)]
 
 mod advisory_tree;

@@ -1,4 +1,4 @@
-// Objects of JSON trees, key by key.
+//! Builds objects of JSON trees, key by key.
 
 ghost use Rattle.std.specs.Prelude.{◌≡◌, [], ◌∷◌, IfOk, OnOk, map, string_bytes};
 ghost use Rattle.serde_json.specs.Data.{string};
@@ -45,7 +45,7 @@ pub(crate) fn put_value<T: ToTree>(
     put_tree(alloc, members, key, tree)
 }
 
-/// The tree of a requirement: its text.
+/// Builds the tree of a requirement: its text.
 fn requirement_tree(alloc: Global, req: &VersionReq) -> Result<Value, AllocError>
     ensures { IfOk result (λ v. view v ≡ string (requirement_text (comparators_of req.now))) }
 {
@@ -55,7 +55,7 @@ fn requirement_tree(alloc: Global, req: &VersionReq) -> Result<Value, AllocError
     }
 }
 
-/// The tree of requirements: a list of their texts.
+/// Builds the tree of requirements: a list of their texts.
 pub(crate) fn requirements_tree(alloc: Global, reqs: &[VersionReq]) -> Result<Value, AllocError>
     ensures { IfOk result (λ v. view v ≡ requirements_tree (map comparators_of reqs.now)) }
 {

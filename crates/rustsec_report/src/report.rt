@@ -1,4 +1,4 @@
-// Reports.
+//! Reports.
 
 ghost use Rattle.std.specs.Prelude.{◌≡◌, IfErr, IfOk};
 ghost use Rattle.rustsec_versions.specs.Failure.{IsMemory};
@@ -10,12 +10,12 @@ use rustsec_values::ExactClone;
 use rustsec_versions::Result;
 use std::alloc::{AllocError, Global};
 
-/// What is found for a lockfile.
+/// The report of a lockfile.
 #[derive(Debug, Drop)]
 pub struct Report {
     /// The lockfile.
     pub lockfile: LockfileInfo,
-    /// What was asked for.
+    /// The settings of the report.
     pub settings: Settings,
     /// The vulnerabilities of its packages.
     pub vulnerabilities: VulnerabilityInfo,
@@ -24,7 +24,7 @@ pub struct Report {
 }
 
 impl Report {
-    /// An equal report.
+    /// Returns an equal report.
     ///
     /// # Errors
     ///

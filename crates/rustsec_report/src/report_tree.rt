@@ -1,4 +1,4 @@
-// The JSON tree of a report.
+//! Builds the JSON tree of a report.
 
 ghost use Rattle.std.specs.Prelude.{◌≡◌, [], ◌∷◌, IfErr, IfOk, OnOk};
 ghost use Rattle.serde_json.specs.View.{members_view, view};
@@ -41,7 +41,7 @@ fn put_vulnerability(
     put_tree(alloc, members, "versions", versions)
 }
 
-/// The tree of a vulnerability.
+/// Builds the tree of a vulnerability.
 #[tactic(auto, unfolding(crate::specs::Trees::vulnerability_tree))]
 fn vulnerability_tree(
     alloc: Global,
@@ -54,7 +54,7 @@ fn vulnerability_tree(
     Ok(Value::from(members))
 }
 
-/// The tree of vulnerabilities: a list of theirs.
+/// Builds the tree of a list of vulnerabilities.
 fn list_tree(alloc: Global, list: &[Vulnerability]) -> std::result::Result<Value, AllocError>
     ensures { IfOk result (λ v. view v ≡ list_tree vulnerability_tree list.now) }
 {
@@ -65,7 +65,7 @@ fn list_tree(alloc: Global, list: &[Vulnerability]) -> std::result::Result<Value
     Ok(Value::from(trees))
 }
 
-/// The tree of what a warning's advisory says of itself, null where there is none.
+/// Builds the tree of the metadata of a warning's advisory, null without an advisory.
 fn optional_metadata_tree(
     alloc: Global,
     metadata: &Option<Metadata>,
@@ -78,7 +78,7 @@ fn optional_metadata_tree(
     }
 }
 
-/// The tree of a warning's lists of requirements, null where there are none.
+/// Builds the tree of a warning's lists of requirements, null without them.
 fn optional_versions_tree(
     alloc: Global,
     versions: &Option<Versions>,
@@ -126,7 +126,7 @@ impl ToTree for Warning {
     }
 }
 
-/// Sets the key of each kind of warnings to their list.
+/// Sets a key for each kind of warnings, with the list of its warnings.
 #[tactic(auto, unfolding(crate::specs::Trees::with_members))]
 fn put_warnings(
     alloc: Global,
@@ -142,7 +142,7 @@ fn put_warnings(
     Ok(())
 }
 
-/// The tree of warnings: an object from each kind to its list.
+/// Builds the tree of warnings: an object from each kind to its list.
 fn warnings_tree(alloc: Global, warnings: &WarningInfo) -> std::result::Result<Value, AllocError>
     ensures { IfOk result (λ v. view v ≡ object_of (kinds_of_warnings warnings.now)) }
 {
@@ -151,7 +151,7 @@ fn warnings_tree(alloc: Global, warnings: &WarningInfo) -> std::result::Result<V
     Ok(Value::from(members))
 }
 
-/// The tree of a severity, null where there is none.
+/// Builds the tree of a severity, null if it is missing.
 fn severity_tree(
     alloc: Global,
     severity: Option<Severity>,
@@ -183,7 +183,7 @@ fn put_settings(
     put_value(alloc, members, "target_os", &settings.target_os)
 }
 
-/// The tree of settings.
+/// Builds the tree of settings.
 fn settings_tree(alloc: Global, settings: &Settings) -> std::result::Result<Value, AllocError>
     ensures { IfOk result (λ v. view v ≡ settings_tree settings.now) }
 {
@@ -192,7 +192,7 @@ fn settings_tree(alloc: Global, settings: &Settings) -> std::result::Result<Valu
     Ok(Value::from(members))
 }
 
-/// The tree of what is said of a lockfile.
+/// Builds the tree of what a report contains about its lockfile.
 #[tactic(auto, unfolding(crate::specs::Trees::with_members))]
 fn lockfile_tree(alloc: Global, info: LockfileInfo) -> std::result::Result<Value, AllocError>
     ensures { IfOk result (λ v. view v ≡ lockfile_tree info) }
@@ -219,7 +219,7 @@ fn put_info(
     put_tree(alloc, members, "list", list)
 }
 
-/// The tree of the vulnerabilities.
+/// Builds the tree of the vulnerabilities.
 fn vulnerabilities_tree(
     alloc: Global,
     info: &VulnerabilityInfo,
@@ -252,7 +252,7 @@ fn put_report(
 }
 
 impl Report {
-    /// The report as a JSON tree, as documents of reports have it.
+    /// Builds the JSON tree of the report.
     ///
     /// # Errors
     ///

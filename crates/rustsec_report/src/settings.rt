@@ -1,4 +1,4 @@
-// What a report is made with.
+//! The settings of a report.
 
 ghost use Rattle.std.specs.Prelude.{◌≡◌, [], IfErr, IfOk, None};
 ghost use Rattle.rustsec_versions.specs.Failure.{IsMemory};
@@ -12,10 +12,10 @@ use rustsec_values::{ExactClone, Items};
 use rustsec_versions::Result;
 use std::alloc::{AllocError, Global};
 
-/// What a report is asked for.
+/// The settings of a report.
 #[derive(Debug)]
 pub struct Settings {
-    /// The architectures, of which an advisory must affect one; any where there is none.
+    /// The architectures; an advisory must affect one of them. An empty list means any.
     pub target_arch: Items<Arch>,
     /// The systems, likewise.
     pub target_os: Items<OS>,
@@ -27,7 +27,7 @@ pub struct Settings {
     pub informational_warnings: Items<Informational>,
 }
 
-/// One place drops the fields, so that the end of an owner's life is one step of its proof.
+/// Hand-written: a derived `Drop` is proved again, field by field, at every exit of every owner.
 impl Drop for Settings {
     fn drop(self) {
         let Settings {
@@ -41,8 +41,8 @@ impl Drop for Settings {
 }
 
 impl Settings {
-    /// Settings that ask for nothing: any platform and severity, nothing ignored, no warnings. This
-    /// takes no memory.
+    /// Returns settings without restrictions: any platform and severity, no ignored advisory, no warnings. This takes
+    /// no memory.
     pub fn new(alloc: Global) -> Settings
         ensures { result ≡ record {
           target_arch = [];
@@ -61,8 +61,8 @@ impl Settings {
         }
     }
 
-    /// The query for vulnerabilities: that of published packages, with the platforms and the severity.
-    /// No query leaves out ignored advisories.
+    /// Returns the query for vulnerabilities: that of published packages, with the platforms and the severity. A
+    /// query cannot leave out ignored advisories.
     ///
     /// # Errors
     ///
@@ -82,7 +82,7 @@ impl Settings {
         }
     }
 
-    /// Equal settings.
+    /// Returns equal settings.
     ///
     /// # Errors
     ///

@@ -1,4 +1,4 @@
-// Warnings about packages.
+//! Warnings about packages.
 
 ghost use Rattle.std.specs.Prelude.{◌≡◌, ◌↔◌, IfErr, IfOk, IsTrue};
 ghost use Rattle.rustsec_versions.specs.Failure.{IsMemory};
@@ -10,22 +10,22 @@ use rustsec_values::ExactClone;
 use rustsec_versions::{Result, Versions};
 use std::alloc::{AllocError, Global};
 
-/// A warning about a package, with the advisory that it comes from, where there is one.
+/// A warning about a package, with its advisory, if any.
 #[derive(Debug)]
 pub struct Warning {
-    /// What it is about.
+    /// The kind of the warning.
     pub kind: WarningKind,
     /// The package.
     pub package: Package,
-    /// What the advisory says of itself.
+    /// The advisory's metadata.
     pub advisory: Option<Metadata>,
-    /// Which platforms and functions are affected, where the advisory says so.
+    /// The affected platforms and functions, if the advisory lists them.
     pub affected: Option<Affected>,
-    /// The requirements that tell which versions are affected.
+    /// The requirements that determine the affected versions.
     pub versions: Option<Versions>,
 }
 
-/// One place drops the fields, so that the end of an owner's life is one step of its proof.
+/// Hand-written: a derived `Drop` is proved again, field by field, at every exit of every owner.
 impl Drop for Warning {
     fn drop(self) {
         let Warning {
@@ -39,7 +39,7 @@ impl Drop for Warning {
 }
 
 impl Warning {
-    /// A warning of a kind about a copy of a package.
+    /// Returns a warning of a kind about a copy of a package.
     ///
     /// # Errors
     ///
@@ -71,35 +71,35 @@ impl Warning {
         })
     }
 
-    /// Whether it is a notice.
+    /// Returns whether it is a notice.
     pub fn is_notice(&self) -> bool
         ensures { IsTrue result ↔ (self.now.kind ≡ WarningKind.Notice) }
     {
         self.kind == WarningKind::Notice
     }
 
-    /// Whether it is about a package that nobody maintains.
+    /// Returns whether it is about a package that nobody maintains.
     pub fn is_unmaintained(&self) -> bool
         ensures { IsTrue result ↔ (self.now.kind ≡ WarningKind.Unmaintained) }
     {
         self.kind == WarningKind::Unmaintained
     }
 
-    /// Whether it is about a package that is not sound.
+    /// Returns whether it is about a package that is not sound.
     pub fn is_unsound(&self) -> bool
         ensures { IsTrue result ↔ (self.now.kind ≡ WarningKind.Unsound) }
     {
         self.kind == WarningKind::Unsound
     }
 
-    /// Whether it is about a version that was withdrawn from its registry.
+    /// Returns whether it is about a version that was yanked from its registry.
     pub fn is_yanked(&self) -> bool
         ensures { IsTrue result ↔ (self.now.kind ≡ WarningKind.Yanked) }
     {
         self.kind == WarningKind::Yanked
     }
 
-    /// An equal warning.
+    /// Returns an equal warning.
     ///
     /// # Errors
     ///
@@ -113,7 +113,7 @@ impl Warning {
     }
 }
 
-/// A copy of a value that may be missing.
+/// Returns a copy of a value that may be missing.
 fn copy_of<T: ExactClone>(value: &Option<T>) -> std::result::Result<Option<T>, AllocError>
     ensures { IfOk result (λ copy. copy ≡ value.now) }
 {

@@ -1,4 +1,4 @@
-// The warnings that informational advisories give, and advisories that are ignored.
+//! The warnings of informational advisories, and the removal of ignored advisories.
 
 ghost use Rattle.std.specs.Prelude.{◌≡◌, IfErr, IfOk, OnOk, option_and_then};
 ghost use Rattle.rustsec_versions.specs.Failure.{IsMemory};
@@ -13,10 +13,10 @@ use rustsec_values::{Items, Named, SortedMap, Test};
 use rustsec_versions::Result;
 use std::alloc::Global;
 
-/// Warnings by their kinds. A kind without any need not be there.
+/// Warnings by their kinds. A kind without warnings may be missing.
 pub type WarningInfo = SortedMap<WarningKind, Items<Warning>>;
 
-/// The test whether an advisory is none of these.
+/// The predicate that an advisory is not among these.
 #[derive(Drop)]
 struct NotAmong<'a> {
     ids: &'a Items<Id>,
@@ -33,7 +33,7 @@ impl<'a> Test<Vulnerability> for NotAmong<'a> {
     }
 }
 
-/// The vulnerabilities whose advisory is none of the ignored ones, in order. This takes no memory.
+/// Returns the vulnerabilities whose advisory is not ignored, in order. This takes no memory.
 pub(crate) fn without_ignored(
     mut found: Items<Vulnerability>,
     ignored: &Items<Id>,
@@ -45,14 +45,14 @@ pub(crate) fn without_ignored(
     found
 }
 
-/// Whether settings ask for warnings of an informational kind.
+/// Returns whether settings ask for warnings of an informational kind.
 fn is_wanted(settings: &Settings, kind: &Informational) -> bool
     ensures { result ≡ is_wanted settings.now kind.now }
 {
     settings.informational_warnings.as_slice().contains(kind)
 }
 
-/// The kind of the warning that an advisory gives, where one is asked for.
+/// Returns the kind of the warning that an advisory gives, if the settings ask for it.
 fn wanted_kind(settings: &Settings, kind: &Option<Informational>) -> Option<WarningKind>
     ensures { result ≡ option_and_then (wanted_kind settings.now) kind.now }
 {
@@ -62,7 +62,7 @@ fn wanted_kind(settings: &Settings, kind: &Option<Informational>) -> Option<Warn
     }
 }
 
-/// What was found, as a warning of a kind.
+/// Returns a vulnerability as a warning of a kind.
 fn as_warning(alloc: Global, kind: WarningKind, found: &Vulnerability) -> Result<Warning>
     ensures ok { IfOk result (λ w. w ≡ as_warning kind found.now) }
     ensures err { IfErr result IsMemory }
@@ -80,7 +80,7 @@ fn as_warning(alloc: Global, kind: WarningKind, found: &Vulnerability) -> Result
     )
 }
 
-/// The warnings of a kind, in order.
+/// Returns the warnings of a kind, in order.
 fn warnings_of_kind(
     alloc: Global,
     found: &[Vulnerability],
@@ -99,7 +99,7 @@ fn warnings_of_kind(
     Ok(warnings)
 }
 
-/// Sets the warnings of a kind, where there are any.
+/// Sets the warnings of a kind, unless there are none.
 fn add_kind(
     alloc: Global,
     warnings: &mut WarningInfo,
@@ -117,7 +117,7 @@ fn add_kind(
     Ok(())
 }
 
-/// The warnings that settings ask for, kind by kind, of what was found.
+/// Returns the warnings that settings ask for, kind by kind, from the pairs of a query.
 fn warnings_by_kind(
     alloc: Global,
     found: &[Vulnerability],
@@ -133,7 +133,7 @@ fn warnings_by_kind(
     Ok(warnings)
 }
 
-/// The warnings that settings ask for, of what a query for informational advisories found.
+/// Returns the warnings that settings ask for, from the pairs of a query for informational advisories.
 pub(crate) fn warnings_of(
     alloc: Global,
     found: Items<Vulnerability>,

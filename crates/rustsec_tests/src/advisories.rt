@@ -1,4 +1,4 @@
-// Licenses and withdrawal of advisories, drafts by their paths, files that cannot be read.
+//! Licenses and withdrawal of advisories, drafts by their paths, files that cannot be read.
 
 use rustsec_advisory::Advisory;
 use rustsec_fixtures::{VALID, acceptance, changed};
@@ -9,14 +9,14 @@ use std::rt::Files;
 use std::test::Fail;
 use std::{fs, str};
 
-/// Whether an advisory's license prints so, and whether it is the one that is known beside the default.
+/// Returns whether an advisory's license prints so, and whether it is the one that is known beside the default.
 fn text_has_license(alloc: Global, text: &str, spdx: &str, known: bool) -> Result<bool, Fail> {
     let advisory = Advisory::from_str(alloc, text)?;
     let license = &advisory.metadata.license;
     Ok(license.spdx() == spdx && (*license == License::CcBy40) == known)
 }
 
-/// Whether the valid advisory with this license has it.
+/// Returns whether the valid advisory with this license has it.
 fn has_license(alloc: Global, spdx: &str, known: bool) -> Result<bool, Fail> {
     let line = format!(in alloc; "license = \"{spdx}\"\ndate = ")?;
     let text = changed(alloc, VALID, "date = ", &line)?;
@@ -30,7 +30,7 @@ fn advisory_licenses(rt: HostRuntime) -> Result<(), Fail> {
     Ok(())
 }
 
-/// Whether a text is an advisory that is withdrawn and has no severity.
+/// Returns whether a text is an advisory that is withdrawn and has no severity.
 fn is_withdrawn(alloc: Global, text: &str) -> Result<bool, Fail> {
     let advisory = Advisory::from_str(alloc, text)?;
     Ok(advisory.withdrawn() && advisory.severity().is_none())
@@ -45,7 +45,7 @@ fn advisory_withdrawn(rt: HostRuntime) -> Result<(), Fail> {
     Ok(())
 }
 
-/// Whether a file is refused with this kind and this message, and with a cause or none.
+/// Returns whether a file is refused with this kind and this message, and with a cause or none.
 fn is_refused<T: Files + AllocGlobal>(
     rt: &T,
     path: &str,

@@ -1,4 +1,4 @@
-// Keys of advisory files that may be missing, and how deep a front matter nests.
+//! Keys of advisory files that may be missing, and how deep a front matter nests.
 
 use rustsec_fixtures::acceptance_with;
 use std::alloc::Global;
@@ -6,13 +6,13 @@ use std::process::Abort;
 use std::str;
 use std::test::Fail;
 
-/// Whether the valid advisory is one still with a line put before its date.
+/// Returns whether the valid advisory is still one with a line put before its date.
 fn acceptance_with_line(alloc: Global, line: &str) -> Result<Option<bool>, Fail> {
     let new = format!(in alloc; "{line}\ndate = ")?;
     acceptance_with(alloc, "date = ", &new)
 }
 
-/// Checks whether the valid advisory is one still with each of these lines put before its date.
+/// Checks whether the valid advisory is still one with each of these lines put before its date.
 fn expect_lines<T: AllocGlobal + Abort>(
     rt: &T,
     lines: &[&str],
@@ -68,7 +68,7 @@ fn advisory_keys_that_may_be_missing(rt: HostRuntime) -> Result<(), Fail> {
     expect_lines(&rt, REFUSED_LINES, false)
 }
 
-/// Whether the valid advisory is one still with so many arrays in one another.
+/// Returns whether the valid advisory is still one with this many nested arrays.
 fn acceptance_of_nested(alloc: Global, depth: usize) -> Result<Option<bool>, Fail> {
     let open = "[".repeat(alloc, depth)?;
     let close = "]".repeat(alloc, depth)?;

@@ -1,4 +1,4 @@
-// Categories, kinds of warnings, licenses and keywords by their texts.
+//! Categories, kinds of warnings, licenses and keywords by their texts.
 
 use rustsec_fixtures::kind_of;
 use rustsec_texts::{Category, Keyword, License, WarningKind};
@@ -7,19 +7,19 @@ use std::alloc::Global;
 use std::cmp::Ordering;
 use std::test::Fail;
 
-/// Whether a category prints as a text.
+/// Returns whether a category prints as a text.
 fn category_prints(alloc: Global, category: &Category, text: &str) -> Result<bool, Fail> {
     let printed = category.to_string(alloc)?;
     Ok(printed.as_str() == text && category.name() == text)
 }
 
-/// Whether a copy of a category is equal to it.
+/// Returns whether a copy of a category is equal to it.
 fn category_is_copied(alloc: Global, category: &Category) -> Result<bool, Fail> {
     let copy = category.clone(alloc)?;
     Ok(copy == *category)
 }
 
-/// Whether a text is read as a category, printed and copied.
+/// Returns whether a text is read as a category, printed and copied.
 fn is_category(alloc: Global, text: &str, expected: &Category) -> Result<bool, Fail> {
     let category = Category::from_str(alloc, text)?;
     Ok(
@@ -29,7 +29,7 @@ fn is_category(alloc: Global, text: &str, expected: &Category) -> Result<bool, F
     )
 }
 
-/// Whether a text is read as a category of its own, printed and copied.
+/// Returns whether a text is read as a category of its own, printed and copied.
 fn is_other_category(alloc: Global, text: &str) -> Result<bool, Fail> {
     let category = Category::from_str(alloc, text)?;
     Ok(matches!(category, Category::Other(_)) && is_category(alloc, text, &category)?)
@@ -65,7 +65,7 @@ fn categories_of_other_texts(rt: HostRuntime) -> Result<(), Fail> {
     Ok(())
 }
 
-/// How the categories of two texts stand.
+/// Compares the categories of two texts.
 fn order_of_categories(alloc: Global, low: &str, high: &str) -> Result<Ordering, Fail> {
     let low = Category::from_str(alloc, low)?;
     let high = Category::from_str(alloc, high)?;
@@ -90,7 +90,7 @@ fn categories_in_order(rt: HostRuntime) -> Result<(), Fail> {
     Ok(())
 }
 
-/// Whether a text is read as a kind of warning, and that prints as the text.
+/// Returns whether a text is read as a kind of warning, and that prints as the text.
 fn is_warning_kind(alloc: Global, text: &str, kind: WarningKind) -> Result<bool, Fail> {
     let printed = kind.to_string(alloc)?;
     Ok(
@@ -123,7 +123,7 @@ fn warning_kinds_in_order(rt: HostRuntime) {
     }
 }
 
-/// Whether a text is refused as a kind of warning.
+/// Returns whether a text is refused as a kind of warning.
 fn is_no_warning_kind(alloc: Global, text: &str) -> bool {
     kind_of(WarningKind::from_str(alloc, text)) == Some(ErrorKind::Parse)
 }
@@ -135,20 +135,20 @@ fn warning_kinds_refused(rt: HostRuntime) {
     }
 }
 
-/// Whether a license prints as a text.
+/// Returns whether a license prints as a text.
 fn license_prints(alloc: Global, license: &License, text: &str) -> Result<bool, Fail> {
     let printed = license.to_string(alloc)?;
     Ok(printed.as_str() == text && license.spdx() == text)
 }
 
-/// Whether a text is read as a license, printed and copied.
+/// Returns whether a text is read as a license, printed and copied.
 fn is_license(alloc: Global, text: &str) -> Result<bool, Fail> {
     let license = License::from_str(alloc, text)?;
     let copy = license.clone(alloc)?;
     Ok(copy == license && license_prints(alloc, &copy, text)?)
 }
 
-/// Whether a text is read as this license.
+/// Returns whether a text is read as this license.
 fn is_this_license(alloc: Global, text: &str, expected: &License) -> Result<bool, Fail> {
     let license = License::from_str(alloc, text)?;
     Ok(license == *expected)
@@ -165,20 +165,20 @@ fn licenses(rt: HostRuntime) -> Result<(), Fail> {
     Ok(())
 }
 
-/// Whether a keyword prints as a text.
+/// Returns whether a keyword prints as a text.
 fn keyword_prints(alloc: Global, keyword: &Keyword, text: &str) -> Result<bool, Fail> {
     let printed = keyword.to_string(alloc)?;
     Ok(printed.as_str() == text && keyword.as_str() == text)
 }
 
-/// Whether a text is read as a keyword, printed and copied.
+/// Returns whether a text is read as a keyword, printed and copied.
 fn is_keyword(alloc: Global, text: &str) -> Result<bool, Fail> {
     let keyword = Keyword::from_str(alloc, text)?;
     let copy = keyword.clone(alloc)?;
     Ok(copy == keyword && keyword_prints(alloc, &copy, text)?)
 }
 
-/// How the keywords of two texts stand, and whether they are equal.
+/// Compares the keywords of two texts, and returns whether they are equal.
 fn order_of_keywords(alloc: Global, low: &str, high: &str) -> Result<(Ordering, bool), Fail> {
     let low = Keyword::from_str(alloc, low)?;
     let high = Keyword::from_str(alloc, high)?;

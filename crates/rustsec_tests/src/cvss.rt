@@ -1,4 +1,4 @@
-// Vectors of CVSS made by hand, their versions and copies; names of ratings and their order.
+//! Vectors of CVSS made by hand, their versions and copies; names of ratings and their order.
 
 use rustsec_fixtures::{base_of, prints, score};
 use rustsec_lock::{Base, Cvss, Severity};
@@ -6,7 +6,7 @@ use std::alloc::Global;
 use std::process::Abort;
 use std::test::Fail;
 
-/// The minor version of a vector, 4 for one of version 4, where its parts say the same; else nothing.
+/// Returns the minor version of a vector, 4 for one of version 4, where its parts say the same; else nothing.
 fn minor_version(alloc: Global, text: &str) -> Result<Option<u8>, Fail> {
     let vector = Cvss::from_str(alloc, text)?;
     Ok(match &vector {
@@ -39,7 +39,7 @@ fn cvss_versions(rt: HostRuntime) -> Result<(), Fail> {
     )
 }
 
-/// The base metrics of a text with another minor version.
+/// Returns the base metrics of a text with another minor version.
 fn base_by_hand(alloc: Global, text: &str, minor_version: usize) -> Result<Base, Fail> {
     let vector = Cvss::from_str(alloc, text)?;
     let base = base_of(&vector).ok_or("no vector of version 3")?;
@@ -49,7 +49,7 @@ fn base_by_hand(alloc: Global, text: &str, minor_version: usize) -> Result<Base,
     })
 }
 
-/// Whether such a vector has a score and prints as a text.
+/// Returns whether such a vector has a score and prints as a text.
 fn is_by_hand(alloc: Global, text: &str, tenths: u8, printed: &str) -> Result<bool, Fail> {
     let base = base_by_hand(alloc, text, 7)?;
     Ok(base.score_tenths() == tenths && prints(alloc, &Cvss::CvssV31(base), printed)?)
@@ -63,14 +63,14 @@ fn cvss_by_hand(rt: HostRuntime) -> Result<(), Fail> {
     Ok(())
 }
 
-/// Whether a copy of a text's vector is equal to it.
+/// Returns whether a copy of a text's vector is equal to it.
 fn is_copied(alloc: Global, text: &str) -> Result<bool, Fail> {
     let vector = Cvss::from_str(alloc, text)?;
     let copy = vector.clone(alloc)?;
     Ok(copy == vector)
 }
 
-/// Whether the vectors of two texts are equal.
+/// Returns whether the vectors of two texts are equal.
 fn are_equal(alloc: Global, first: &str, second: &str) -> Result<bool, Fail> {
     let first = Cvss::from_str(alloc, first)?;
     let second = Cvss::from_str(alloc, second)?;
@@ -92,7 +92,7 @@ fn order_of_ratings(rt: HostRuntime) {
     assert!(rt; Severity::Medium < Severity::High && Severity::High < Severity::Critical);
 }
 
-/// Whether a rating prints as its name.
+/// Returns whether a rating prints as its name.
 fn is_named(alloc: Global, rating: Severity, name: &str) -> Result<bool, Fail> {
     let printed = rating.to_string(alloc)?;
     Ok(printed.as_str() == name && rating.as_str() == name)

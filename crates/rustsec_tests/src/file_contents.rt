@@ -1,4 +1,4 @@
-// What files hold is kept as it stands: byte order marks, line ends, and files of more than a megabyte.
+//! The contents of files are kept unchanged: byte order marks, line ends, and files of more than a megabyte.
 
 use rustsec_advisory::Advisory;
 use rustsec_fixtures::{VALID, changed, kind_of, writes};
@@ -9,7 +9,7 @@ use std::fs;
 use std::rt::Files;
 use std::test::Fail;
 
-/// The kind of the refusal of an advisory's file with this text; none if it is read. The file is removed
+/// Returns the kind of the refusal of an advisory's file with this text; none if it is read. The file is removed
 /// again.
 fn refusal<T: Files + AllocGlobal>(
     rt: &T,
@@ -22,8 +22,7 @@ fn refusal<T: Files + AllocGlobal>(
     Ok(kind)
 }
 
-/// Whether an advisory's file with this text has this title and this description. The file is removed
-/// again.
+/// Returns whether an advisory's file with this text has this title and this description. The file is removed again.
 fn file_says<T: Files + AllocGlobal>(
     rt: &T,
     path: &str,
@@ -107,7 +106,7 @@ fn an_advisory_above_a_megabyte(rt: HostRuntime) -> Result<(), Fail> {
     Ok(())
 }
 
-/// Lines of a number each between two texts, from 10000 up to another one.
+/// Returns lines of a number each, between two texts, from 10000 up to another one.
 fn keys(alloc: Global, end: u32, before: &str, after: &str) -> Result<String, Fail> {
     let mut lines = String::new(alloc);
     for number in 10000..end {
@@ -116,7 +115,7 @@ fn keys(alloc: Global, end: u32, before: &str, after: &str) -> Result<String, Fa
     Ok(lines)
 }
 
-/// Whether `lint` of a file of this text writes another one, with status 1. The file is removed again.
+/// Returns whether `lint` of a file of this text writes another one, with status 1. The file is removed again.
 fn lint_writes<T: Files + AllocGlobal>(
     rt: &T,
     path: &str,

@@ -1,4 +1,4 @@
-// Segments of the paths of functions, and their order.
+//! Segments of the paths of functions, and their order.
 
 use rustsec_texts::{FunctionPath, Identifier};
 use std::alloc::Global;
@@ -6,7 +6,7 @@ use std::cmp::Ordering;
 use std::process::Abort;
 use std::test::Fail;
 
-/// Whether identifiers are these texts.
+/// Returns whether identifiers are these texts.
 fn are(segments: &[Identifier], texts: &[&str]) -> bool {
     for (segment, text) in segments.iter().zip(texts) {
         if segment.as_str() != *text {
@@ -16,7 +16,7 @@ fn are(segments: &[Identifier], texts: &[&str]) -> bool {
     segments.len() == texts.len()
 }
 
-/// Whether a path's iterator gives these texts and no more.
+/// Returns whether a path's iterator gives these texts and no more.
 fn gives(path: &FunctionPath, texts: &[&str]) -> bool {
     for (segment, text) in path.iter().zip(texts) {
         if segment.as_str() != *text {
@@ -26,7 +26,7 @@ fn gives(path: &FunctionPath, texts: &[&str]) -> bool {
     path.iter().count() == texts.len()
 }
 
-/// Whether a path is made of these identifiers, by each of its calls.
+/// Returns whether a path is made of these identifiers, by each of its calls.
 fn has_segments(alloc: Global, text: &str, expected: &[&str]) -> Result<bool, Fail> {
     let path = FunctionPath::from_str(alloc, text)?;
     let by_reference = are(path.segments(), expected) && gives(&path, expected);
@@ -34,7 +34,7 @@ fn has_segments(alloc: Global, text: &str, expected: &[&str]) -> Result<bool, Fa
     Ok(by_reference && are(&segments, expected))
 }
 
-/// Whether a text is an identifier, and is copied.
+/// Returns whether a text is an identifier, and is copied.
 fn is_identifier(alloc: Global, text: &str) -> Result<bool, Fail> {
     let identifier = Identifier::from_str(alloc, text)?;
     let copy = identifier.clone(alloc)?;
@@ -49,19 +49,19 @@ fn segments_of_paths(rt: HostRuntime) -> Result<(), Fail> {
     Ok(())
 }
 
-/// How a path stands to that of a text.
+/// Compares a path with that of a text.
 fn order_beside(alloc: Global, path: &FunctionPath, other: &str) -> Result<Ordering, Fail> {
     let other = FunctionPath::from_str(alloc, other)?;
     Ok(path.cmp(&other))
 }
 
-/// How the paths of two texts stand.
+/// Compares the paths of two texts.
 fn order(alloc: Global, text: &str, other: &str) -> Result<Ordering, Fail> {
     let path = FunctionPath::from_str(alloc, text)?;
     order_beside(alloc, &path, other)
 }
 
-/// Checks that a path stands so to those of a list as its place does.
+/// Checks that a path compares with those of a list as its place does.
 fn expect_place<T: AllocGlobal + Abort>(
     rt: &T,
     place: usize,

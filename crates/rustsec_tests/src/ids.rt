@@ -1,4 +1,4 @@
-// Kinds of IDs, their placeholder, and their order.
+//! Kinds of IDs, their placeholder, and their order.
 
 use rustsec_texts::{Id, IdKind};
 use std::alloc::Global;
@@ -6,7 +6,7 @@ use std::cmp::Ordering;
 use std::process::Abort;
 use std::test::Fail;
 
-/// Whether an ID says of itself that it is of this kind and of no other, and whether it is the placeholder.
+/// Returns whether an ID is of this kind and of no other, and whether it is the placeholder.
 fn says(id: &Id, kind: IdKind, placeholder: bool) -> bool {
     id.is_rustsec() == (kind == IdKind::RustSec)
         && id.is_cve() == (kind == IdKind::Cve)
@@ -16,19 +16,19 @@ fn says(id: &Id, kind: IdKind, placeholder: bool) -> bool {
         && id.is_placeholder() == placeholder
 }
 
-/// Whether a text's ID says so of itself.
+/// Returns whether a text's ID says so of itself.
 fn text_says(alloc: Global, text: &str, kind: IdKind, placeholder: bool) -> Result<bool, Fail> {
     let id = Id::from_str(alloc, text)?;
     Ok(says(&id, kind, placeholder))
 }
 
-/// Whether the ID that nothing else is known of is the placeholder.
+/// Returns whether the ID that nothing else is known of is the placeholder.
 fn default_is_placeholder(alloc: Global) -> Result<bool, Fail> {
     let id = Id::default(alloc)?;
     Ok(id.as_str() == Id::PLACEHOLDER && says(&id, IdKind::RustSec, true))
 }
 
-/// Checks what IDs say of their kinds.
+/// Checks the kinds of IDs.
 fn expect_kinds<T: AllocGlobal + Abort>(rt: &T, rows: &[(&str, IdKind, bool)]) -> Result<(), Fail> {
     for (text, kind, placeholder) in rows {
         assert!(rt;
@@ -55,20 +55,20 @@ fn kinds_of_ids(rt: HostRuntime) -> Result<(), Fail> {
     )
 }
 
-/// How an ID stands to that of a text; nothing where their order and their equality differ.
+/// Compares an ID with that of a text; none if their order and their equality differ.
 fn order_beside(alloc: Global, id: &Id, other: &str) -> Result<Option<Ordering>, Fail> {
     let other = Id::from_str(alloc, other)?;
     let order = id.cmp(&other);
     Ok((order.is_eq() == (*id == other)).then_some(order))
 }
 
-/// Whether an ID stands so to the one of another text.
+/// Returns whether an ID compares so with that of another text.
 fn stands(alloc: Global, text: &str, other: &str, order: Ordering) -> Result<bool, Fail> {
     let id = Id::from_str(alloc, text)?;
     Ok(order_beside(alloc, &id, other)? == Some(order))
 }
 
-/// Checks that an ID stands so to those of a list as its place does.
+/// Checks that an ID compares with those of a list as its place does.
 fn expect_place<T: AllocGlobal + Abort>(
     rt: &T,
     place: usize,
@@ -84,7 +84,7 @@ fn expect_place<T: AllocGlobal + Abort>(
     Ok(())
 }
 
-/// Whether a copy of a text's ID is equal to it.
+/// Returns whether a copy of a text's ID is equal to it.
 fn is_copied(alloc: Global, text: &str) -> Result<bool, Fail> {
     let id = Id::from_str(alloc, text)?;
     let copy = id.clone(alloc)?;

@@ -1,5 +1,5 @@
-//! Tests of all crates beside the worked examples, whose answers come from outside too: what refusals and
-//! notes say, tables of small texts, readers and writers that fail, samples of the Rust crate's program.
+//! Further tests of all crates, besides the worked examples: the messages of errors and notes, tables of small texts,
+//! readers and writers that fail, and samples of the Rust crate's program. Expected values come from outside here too.
 #![tactic(auto)]
 
 #[cfg(test)]

@@ -1,4 +1,4 @@
-// What the program says beside its output: why something is refused, and what helps.
+//! What the program says beside its output: why something is refused, and what helps.
 
 use rustsec_commands::{Fault, run_with_notes};
 use rustsec_fixtures::{
@@ -9,10 +9,10 @@ use std::rt::Files;
 use std::test::Fail;
 use std::{fs, str};
 
-/// Words, an input, the status that they give, and what stands in their note.
+/// Arguments, an input, the status that they give, and parts of their note.
 type NoteRow<'a> = (&'a [&'a str], &'a str, u8, &'a [&'a str]);
 
-/// Whether all parts stand in a text.
+/// Returns whether a text contains all parts.
 fn has_all(text: &str, parts: &[&str]) -> bool {
     for part in parts {
         if !text.contains(*part) {
@@ -22,7 +22,7 @@ fn has_all(text: &str, parts: &[&str]) -> bool {
     true
 }
 
-/// Whether a text has no control character but line feeds.
+/// Returns whether a text has no control character but line feeds.
 fn is_plain(text: &str) -> bool {
     for c in text.chars() {
         if c != '\n' && c.is_control() {
@@ -32,7 +32,7 @@ fn is_plain(text: &str) -> bool {
     true
 }
 
-/// Whether words give this status, and a note of plain lines with these parts.
+/// Returns whether words give this status, and a note of plain lines with these parts.
 fn notes<T: Files + AllocGlobal>(rt: &T, row: &NoteRow<'_>) -> Result<bool, Fail> {
     let (words, input, status, parts) = row;
     let mut reader = input.as_bytes();
@@ -54,10 +54,10 @@ fn expect_notes<T: Files + AllocGlobal + Abort>(rt: &T, rows: &[NoteRow<'_>]) ->
 /// The file of an advisory without its date.
 const REFUSED: &str = "notes-of-refusals.md";
 
-/// What is said of it.
+/// Its note.
 const MISSING: &[&str] = &["rustsec_audit: parse error: ", REFUSED, "`date`"];
 
-/// What is refused, and what is said of it.
+/// Refused inputs, and their notes.
 const REFUSALS: &[NoteRow<'static>] = &[
     (&["lint", REFUSED], "", 2, MISSING),
     (&["osv", REFUSED, "x"], "", 2, MISSING),
@@ -121,7 +121,7 @@ const DOUBLE: &[(&str, &str)] = &[
     ("crates/base/RUSTSEC-2001-2101.md", VALID),
 ];
 
-/// Roots with a file at fault, and what is said of it.
+/// Roots with a file at fault, and their notes.
 const ROOTS: &[NoteRow<'static>] = &[
     (
         &["audit", "notes-misnamed", "notes-misnamed/Cargo.lock"],
@@ -161,7 +161,7 @@ fn notes_of_roots(rt: HostRuntime) -> Result<(), Fail> {
     Ok(())
 }
 
-/// Whether `affected` fails so and says this, where a read or a write fails at a call.
+/// Returns whether `affected` fails with this answer and this note, if a read or a write fails at a call.
 fn fails_with<T: Files + AllocGlobal>(
     rt: &T,
     read_at: u64,
@@ -185,7 +185,7 @@ fn notes_of_failures(rt: HostRuntime) -> Result<(), Fail> {
     Ok(())
 }
 
-/// What stands on the page that shows how the program is used.
+/// Parts of the usage page.
 const PAGE: &[&str] = &[
     "audit ROOT LOCK [--ignore ID].. [--deny-warnings]\n",
     "report ROOT LOCK\n",
@@ -211,7 +211,7 @@ fn usage_page(rt: HostRuntime) -> Result<(), Fail> {
     expect_notes(&rt, NO_COMMANDS)
 }
 
-/// What is said of the vulnerability and of the package that nobody maintains.
+/// The note about the vulnerability and the package that nobody maintains.
 const HELP: &[&str] = &[
     "Crate:     base\nVersion:   1.0.0\nTitle:     T\nDate:      2001-02-03\nID:        RUSTSEC-2001-0001\nURL:       https://rustsec.org/advisories/RUSTSEC-2001-0001\nSolution:  upgrade to >=2.0.0\n",
     "Crate:     base\nVersion:   1.0.0\nWarning:   unmaintained\nTitle:     T\nDate:      2001-02-03\nID:        RUSTSEC-2001-0003\nURL:       https://rustsec.org/advisories/RUSTSEC-2001-0003\n",
@@ -223,7 +223,7 @@ const HOSTILE: &[(&str, &str)] = &[(
     "```toml\n[advisory]\nid = \"RUSTSEC-2001-0004\"\npackage = \"base\"\ndate = \"2001-02-03\"\ncvss = \"CVSS:3.1/AV:N/AC:L/PR:N/UI:N/S:C/C:H/I:H/A:H\"\n\n[versions]\npatched = [\"^0.9.4\", \">= 2.0.0\"]\n\n[affected]\nfunctions = { \"base::all\" = [\"< 2.0.0\"] }\n```\n\n# \u{1b}[2J\u{202e}T\u{9b}\n\nD\n",
 )];
 
-/// What is said of it.
+/// Its note.
 const SHOWN: &[&str] = &[
     "Title:     \\u{1b}[2J\\u{202e}T\\u{9b}\n",
     "Severity:  critical\nSolution:  upgrade to ^0.9.4 or >=2.0.0\nFunction:  base::all\n",
@@ -232,7 +232,7 @@ const SHOWN: &[&str] = &[
 /// A lockfile whose refusal names a package, with characters that would write lines of their own.
 const HOSTILE_LOCKFILE: &str = "[[package]]\nname = \"a\\u001b[2J\\nb\"\nversion = \"1\"\n";
 
-/// Audits and a refused lockfile, and what is said of them.
+/// Audits and a refused lockfile, and their notes.
 const HELPED: &[NoteRow<'static>] = &[
     (
         &["audit", "what-helps", "what-helps/Cargo.lock"],
@@ -264,7 +264,7 @@ fn what_helps(rt: HostRuntime) -> Result<(), Fail> {
     Ok(())
 }
 
-/// Whether words write the same with this status if their note fails at a write.
+/// Returns whether words write the same with this status if their note fails at a write.
 fn writes_without_note<T: Files + AllocGlobal>(
     rt: &T,
     words: &[&str],

@@ -1,4 +1,5 @@
-// The crate `rustsec`: its version, an audit by the paths where a user of the Rust crate looks, and how a report prints.
+//! The crate `rustsec`: its version, an audit by the paths where a user of the Rust crate looks, and how a report
+//! prints.
 
 use rustsec::advisory::affected::{FunctionPath, Identifier};
 use rustsec::advisory::linter::ErrorKind as LintErrorKind;
@@ -20,7 +21,7 @@ use rustsec_fixtures::{ADVISORIES, FOUR_PACKAGES};
 use std::alloc::Global;
 use std::test::Fail;
 
-/// The database of one advisory.
+/// Returns the database of one advisory.
 fn database(alloc: Global) -> Result<Database, Fail> {
     let (path, text) = ADVISORIES[0];
     let file = SourceFile {
@@ -30,7 +31,7 @@ fn database(alloc: Global) -> Result<Database, Fail> {
     Ok(Database::load(alloc, &[file])?)
 }
 
-/// The report of that database and four packages, less what applies to no program of ELF.
+/// Returns the report of that database and four packages, less what applies to no program of ELF.
 fn report(alloc: Global) -> Result<Report, Fail> {
     let database = database(alloc)?;
     let lockfile = Lockfile::from_str(alloc, FOUR_PACKAGES)?;
@@ -40,7 +41,7 @@ fn report(alloc: Global) -> Result<Report, Fail> {
     Ok(report)
 }
 
-/// How many vulnerabilities the report lists.
+/// Returns how many vulnerabilities the report lists.
 fn count(alloc: Global) -> Result<usize, Fail> {
     let report = report(alloc)?;
     Ok(report.vulnerabilities.count)
@@ -53,7 +54,7 @@ fn an_audit_by_the_paths_of_the_rust_crate(rt: HostRuntime) -> Result<(), Fail> 
     Ok(())
 }
 
-/// Whether the report's text for a programmer begins so.
+/// Returns whether the report's text for a programmer begins so.
 fn debug_begins(alloc: Global, beginning: &str) -> Result<bool, Fail> {
     let report = report(alloc)?;
     let text = format!(in alloc; "{report:?}")?;

@@ -1,4 +1,4 @@
-// The names of architectures and of operating systems.
+//! The names of architectures and of operating systems.
 
 use rustsec_fixtures::kind_of;
 use rustsec_lock::platforms::{Arch, OS};
@@ -7,7 +7,7 @@ use std::alloc::Global;
 use std::process::Abort;
 use std::test::Fail;
 
-/// Whether a name is read as an architecture, and that prints as the name.
+/// Returns whether a name is read as an architecture, and that prints as the name.
 fn is_architecture(alloc: Global, value: Arch, name: &str) -> Result<bool, Fail> {
     let printed = value.to_string(alloc)?;
     Ok(Arch::from_str(alloc, name)? == value && value.as_str() == name && printed.as_str() == name)
@@ -48,7 +48,7 @@ fn architectures(rt: HostRuntime) -> Result<(), Fail> {
     Ok(())
 }
 
-/// Whether a name is refused as an architecture.
+/// Returns whether a name is refused as an architecture.
 fn is_no_architecture(alloc: Global, name: &str) -> bool {
     kind_of(Arch::from_str(alloc, name)) == Some(ErrorKind::Parse)
 }
@@ -60,7 +60,7 @@ fn architectures_refused(rt: HostRuntime) {
     }
 }
 
-/// Whether a name is read as a system, and that prints as the name.
+/// Returns whether a name is read as a system, and that prints as the name.
 fn is_system(alloc: Global, value: OS, name: &str) -> Result<bool, Fail> {
     let printed = value.to_string(alloc)?;
     Ok(OS::from_str(alloc, name)? == value && value.as_str() == name && printed.as_str() == name)
@@ -113,7 +113,7 @@ fn systems(rt: HostRuntime) -> Result<(), Fail> {
     Ok(())
 }
 
-/// Whether a name is refused as a system.
+/// Returns whether a name is refused as a system.
 fn is_no_system(alloc: Global, name: &str) -> bool {
     kind_of(OS::from_str(alloc, name)) == Some(ErrorKind::Parse)
 }

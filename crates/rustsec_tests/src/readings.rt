@@ -1,4 +1,4 @@
-// Readers to their end, names in paths, and what is said of a refused front matter.
+//! Readers to their end, names in paths, and the message for a refused front matter.
 
 use rustsec_advisory::Advisory;
 use rustsec_files::{path, reading};
@@ -7,7 +7,7 @@ use rustsec_versions::{Error, ErrorKind};
 use std::alloc::Global;
 use std::test::Fail;
 
-/// Whether a reader's bytes are these, all of them.
+/// Returns whether a reader's bytes are these, all of them.
 fn bytes_are_read(alloc: Global, bytes: &[u8]) -> bool {
     let mut reader = bytes;
     match reading::bytes_of(alloc, &mut reader) {
@@ -16,7 +16,7 @@ fn bytes_are_read(alloc: Global, bytes: &[u8]) -> bool {
     }
 }
 
-/// So many bytes.
+/// Returns this many bytes.
 fn many(alloc: Global, count: usize) -> Result<Vec<u8>, Fail> {
     let mut bytes = Vec::new(alloc);
     for at in 0..count {
@@ -25,7 +25,7 @@ fn many(alloc: Global, count: usize) -> Result<Vec<u8>, Fail> {
     Ok(bytes)
 }
 
-/// Whether so many bytes are read, all of them.
+/// Returns whether all of this many bytes are read.
 fn many_are_read(alloc: Global, count: usize) -> Result<bool, Fail> {
     let bytes = many(alloc, count)?;
     Ok(bytes_are_read(alloc, &bytes))
@@ -39,7 +39,7 @@ fn readers_to_their_end(rt: HostRuntime) -> Result<(), Fail> {
     Ok(())
 }
 
-/// So many letters.
+/// Returns this many letters.
 fn letters(alloc: Global, count: usize) -> Result<Vec<u8>, Fail> {
     let mut bytes = Vec::new(alloc);
     for _ in 0..count {
@@ -48,7 +48,7 @@ fn letters(alloc: Global, count: usize) -> Result<Vec<u8>, Fail> {
     Ok(bytes)
 }
 
-/// Whether the text of a reader of one byte a call is so long, or refused if a call fails.
+/// Returns whether the text of a reader of one byte a call is so long, or refused if a call fails.
 fn slow_text(alloc: Global, count: usize, fails_at: u64) -> Result<bool, Fail> {
     let bytes = letters(alloc, count)?;
     let mut reader = ByteReader::new(&bytes, fails_at);
@@ -70,7 +70,7 @@ fn slow_and_failing_readers(rt: HostRuntime) -> Result<(), Fail> {
     Ok(())
 }
 
-/// Whether all bytes of a reader are read although a call was interrupted.
+/// Returns whether all bytes of a reader are read although a call was interrupted.
 fn is_read_again(alloc: Global, bytes: &[u8], interrupted_at: u64) -> bool {
     let mut reader = ByteReader::interrupted(bytes, interrupted_at);
     match reading::bytes_of(alloc, &mut reader) {
@@ -89,7 +89,7 @@ fn interrupted_readers(rt: HostRuntime) {
     }
 }
 
-/// Whether the text of a reader is this one, or refused if there is none.
+/// Returns whether the text of a reader is this one, or refused if there is none.
 fn text_is(alloc: Global, bytes: &[u8], want: Option<&str>) -> bool {
     let mut reader = bytes;
     match (reading::text_of(alloc, &mut reader, "x.md"), want) {
@@ -164,7 +164,7 @@ fn files_of_their_ids(rt: HostRuntime) {
     }
 }
 
-/// Whether an advisory with this front matter is refused with this message.
+/// Returns whether an advisory with this front matter is refused with this message.
 fn is_refused(alloc: Global, front: &str, want: &str) -> Result<bool, Fail> {
     let text = format!(in alloc; "```toml\n{front}\n```\n# T\n")?;
     match Advisory::from_str(alloc, &text) {

@@ -1,4 +1,4 @@
-// What refusals of texts, lockfiles and OSV documents say: what was found, what was expected, and where.
+//! What refusals of texts, lockfiles and OSV documents say: what was found, what was expected, and where.
 
 use rustsec_lock::package::Name;
 use rustsec_lock::platforms::{Arch, OS};
@@ -11,14 +11,14 @@ use std::alloc::Global;
 use std::process::Abort;
 use std::test::Fail;
 
-/// Whether this is a refusal of a text with this message, with a cause or without one.
+/// Returns whether this is a refusal of a text with this message, with a cause or without one.
 fn says(error: &Error, message: &str, caused: bool) -> bool {
     error.kind() == ErrorKind::Parse
         && error.message() == message
         && error.cause().is_some() == caused
 }
 
-/// Whether an answer is a refusal with this message.
+/// Returns whether an answer is a refusal with this message.
 fn refuses<T: Drop>(answer: Result<T>, message: &str, caused: bool) -> bool {
     match answer {
         Ok(_) => false,
@@ -71,7 +71,7 @@ const LOCKFILES: &[(&str, &str, bool)] = &[
     ),
 ];
 
-/// Whether a text is refused as a lockfile with this message, with a cause or without one.
+/// Returns whether a text is refused as a lockfile with this message, with a cause or without one.
 fn lockfile_refused(alloc: Global, text: &str, message: &str, caused: bool) -> bool {
     refuses(Lockfile::from_str(alloc, text), message, caused)
 }
@@ -86,7 +86,7 @@ fn expect_lockfiles<T: AllocGlobal + Abort>(rt: &T) {
     }
 }
 
-// A refusal of a lockfile names the package, by its place from 1 on and its name, and what stands there.
+// A refusal of a lockfile names the package, by its place from 1 on and its name, and what was found there.
 #[test]
 fn messages_of_lockfiles(rt: HostRuntime) {
     expect_lockfiles(&rt);
@@ -119,7 +119,7 @@ const DOCUMENTS: &[(&str, &str, bool)] = &[
     ),
 ];
 
-/// Whether a text is the JSON of a tree that is refused with this message.
+/// Returns whether a text is the JSON of a tree that is refused with this message.
 fn tree_refused(
     alloc: Global,
     text: &str,
@@ -147,7 +147,7 @@ fn messages_of_documents(rt: HostRuntime) -> std::result::Result<(), Fail> {
     expect_documents(&rt)
 }
 
-/// Whether the reader of this name refuses a text with this message.
+/// Returns whether the reader of this name refuses a text with this message.
 fn refused(alloc: Global, reader: &str, text: &str, message: &str) -> bool {
     match reader {
         "id" => refuses(Id::from_str(alloc, text), message, false),
@@ -159,7 +159,7 @@ fn refused(alloc: Global, reader: &str, text: &str, message: &str) -> bool {
     }
 }
 
-/// Whether the reader of this name, of a lockfile's texts, refuses a text with this message.
+/// Returns whether the reader of this name, of a lockfile's texts, refuses a text with this message.
 fn refused_in_lock(alloc: Global, reader: &str, text: &str, message: &str) -> bool {
     match reader {
         "name" => refuses(Name::from_str(alloc, text), message, false),
@@ -171,8 +171,8 @@ fn refused_in_lock(alloc: Global, reader: &str, text: &str, message: &str) -> bo
     }
 }
 
-/// Small texts, each with its reader, and the messages of their refusals. The last one is cut behind 59
-/// bytes, since the sixtieth is in the midst of a character.
+/// Small texts, each with its reader, and the messages of their errors. The last one is cut after 59 bytes, since the
+/// sixtieth is in the middle of a character.
 const SMALL_TEXTS: &[(&str, &str, &str)] = &[
     (
         "id",

@@ -1,4 +1,4 @@
-// What the refusals of requirements say.
+//! What the refusals of requirements say.
 
 use rustsec_fixtures::{interval, lists};
 use rustsec_versions::{Error, ErrorKind};
@@ -6,7 +6,7 @@ use std::alloc::Global;
 use std::process::Abort;
 use std::test::Fail;
 
-/// Whether an answer is this refusal.
+/// Returns whether an answer is this refusal.
 fn says<T: Drop>(answer: Result<T, Error>, message: &str) -> bool {
     match answer {
         Ok(_) => false,
@@ -14,13 +14,13 @@ fn says<T: Drop>(answer: Result<T, Error>, message: &str) -> bool {
     }
 }
 
-/// Whether a requirement is refused with this message.
+/// Returns whether a requirement is refused with this message.
 fn is_refused(alloc: Global, text: &str, message: &str) -> Result<bool, Fail> {
     let answer = interval(alloc, text)?;
     Ok(says(answer, message))
 }
 
-/// Whether lists are refused with this message.
+/// Returns whether lists are refused with this message.
 fn are_refused(
     alloc: Global,
     patched: &[&str],

@@ -1,5 +1,5 @@
-// Answers of the program that agree with those of the Rust crate, a sample of random inputs. Made by
-// `bench/compare OURS THEIRS --seed 7 --count 30000 --sample 120 --module`.
+//! Answers of the program that agree with those of the Rust crate, a sample of random inputs. Made by
+//! `bench/compare OURS THEIRS --seed 7 --count 30000 --sample 120 --module`.
 
 use rustsec_fixtures::writes;
 use std::alloc::Global;
@@ -255,12 +255,12 @@ fn expect_answers<T: Files + AllocGlobal + Abort>(
     Ok(())
 }
 
-/// What is written of a malformed line.
+/// Returns what is written of a malformed line.
 fn malformed(alloc: Global, number: u8) -> Result<String, Fail> {
     Ok(format!(in alloc; "line {number}: malformed\n")?)
 }
 
-/// Whether a command says of an input that this line is malformed, with status 2.
+/// Returns whether a command answers that this line of an input is malformed, with status 2.
 fn names_line<T: Files + AllocGlobal>(
     rt: &T,
     command: &str,
@@ -271,7 +271,7 @@ fn names_line<T: Files + AllocGlobal>(
     writes(rt, &[command], input, 2, text.as_bytes())
 }
 
-/// Checks that a command says of inputs which line is malformed.
+/// Checks which line of an input a command calls malformed.
 fn expect_malformed<T: Files + AllocGlobal + Abort>(
     rt: &T,
     command: &str,

@@ -1,4 +1,4 @@
-// The score and the rating of each vector of CVSS 3.1.
+//! The score and the rating of each vector of CVSS 3.1.
 
 use rustsec_fixtures::{is_printed, score};
 use rustsec_lock::Severity;
@@ -6,7 +6,7 @@ use std::alloc::Global;
 use std::process::Abort;
 use std::test::Fail;
 
-/// The rating of a score in tenths, by the table of CVSS 3.1, section 5.
+/// Returns the rating of a score in tenths, by the table of CVSS 3.1, section 5.
 fn rating_of(tenths: u8) -> Severity {
     match tenths {
         0 => Severity::None,
@@ -49,13 +49,13 @@ const LOSSES: &[&str] = &[
     "C:H/I:H/A:H",
 ];
 
-/// Whether a vector's text has this score in tenths, the rating of it, and prints as it stands.
+/// Returns whether a vector's text has this score in tenths and its rating, and prints unchanged.
 fn has_score(alloc: Global, text: &str, tenths: u8) -> Result<bool, Fail> {
     let found = score(alloc, text)?;
     Ok(found == (Some(tenths), Some(rating_of(tenths))) && is_printed(alloc, text, text)?)
 }
 
-/// Whether a way to exploit with a loss has this score in tenths.
+/// Returns whether a way to exploit with a loss has this score in tenths.
 fn loss_has_score(alloc: Global, way: &str, loss: &str, tenths: &str) -> Result<bool, Fail> {
     let text = format!(in alloc; "CVSS:3.1/{way}/{loss}")?;
     has_score(alloc, &text, tenths.parse::<u8>()?)
@@ -73,7 +73,7 @@ fn expect_losses<T: AllocGlobal + Abort>(rt: &T, way: &str, scores: &str) -> Res
     Ok(())
 }
 
-/// Checks rows: each a way to exploit, and behind a space a score for each loss.
+/// Checks rows: each a way to exploit, and after a space a score for each loss.
 fn expect_rows<T: AllocGlobal + Abort>(rt: &T, rows: &[&str]) -> Result<(), Fail> {
     for row in rows {
         let (way, scores) = row.split_once(' ').ok_or("no scores")?;

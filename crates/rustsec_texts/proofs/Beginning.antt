@@ -1,4 +1,4 @@
--- The message about a text that does not begin as an advisory file.
+-- The message for a text that does not begin as an advisory file.
 use Rattle.std.proofs.Common.{◌≡◌, ◌⊎◌, inl, inr, List, ◌++◌, None, ℕ, codes, ap, ◌∙◌}
 use Rattle.rustsec_values.specs.Beginnings.{IsBeginning}
 use Rattle.rustsec_versions.specs.declared.error.ErrorKind.TheVariants as kind

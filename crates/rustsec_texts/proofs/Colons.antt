@@ -1,4 +1,4 @@
--- How a text is cut at each `::`, and that a path's text and its identifiers fix each other.
+-- Splitting a text at each `::`; a path's text and its identifiers determine each other.
 use Rattle.std.proofs.Common.{◌≡◌, ◌≢◌, ℕ, zero, suc, ◌<◌, ◌≤◌, ◌==◌, Bool, true, false, ◌&&◌, if◌then◌else◌, List, [], ◌∷◌, ◌++◌, length, take, drop, flat_map, codes, Option, Some, None, refl, sym, ap, ◌∙◌, subst, arith, append-nil, append_assoc, length-drop, true≢false, nat_le}
 use Rattle.std.proofs.lemmas.Bool.{and_from, eqb-true, le-leb, leb-true, ne_eqb}
 use Rattle.std.specs.Cmp.{first_so, second_so}
@@ -139,7 +139,7 @@ is_path-path_of text ids h =
 pub path_text-path_of : (text : List ℕ) (ids : List (List ℕ)) → path_of text ≡ Some ids → path_text ids ≡ text
 path_text-path_of text ids h = ap path_text (sym (given (is_path (between_colons text)) (between_colons text) ids h).1) ∙ joined text
 
--- so texts of the same path are the same
+-- so texts of the same path are equal
 pub path_of-injective : (a b : List ℕ) (ids : List (List ℕ)) → path_of a ≡ Some ids → path_of b ≡ Some ids → a ≡ b
 path_of-injective a b ids h k = sym (path_text-path_of a ids h) ∙ path_text-path_of b ids k
 
@@ -184,12 +184,12 @@ identifier-refused text h = by (is_identifier text) h
     by true k = cc k
     by false k = refl
 
--- the loop cuts off the first part
+-- the loop splits off the first part
 pub cut-found : (rest segment after : List ℕ) (i j : ℕ) → ((k : ℕ) → k < i → LacksTextAt colons rest k) → drop i rest ≡ colons ++ drop j rest
     → segment ≡ take i rest → after ≡ drop j rest → between_colons rest ≡ segment ∷ between_colons after
 cut-found rest segment after i j lacks e s a = first-cut rest (drop j rest) i lacks e ∙ (λ k. sym s k ∷ between_colons (sym a k))
 
--- and puts its identifier behind the others
+-- and appends its identifier to the others
 pub one-more : (text : List ℕ) (ids : List (List ℕ)) (rest segment : List ℕ) (ps : List (List ℕ)) (id : List ℕ) (more : List (List ℕ))
     → between_colons text ≡ ids ++ between_colons rest → between_colons rest ≡ segment ∷ ps → id ≡ segment → more ≡ ids ++ id ∷ []
     → between_colons text ≡ more ++ ps
@@ -202,7 +202,7 @@ each-more ids segment id more h k m =
     let g = identifier-given segment id k in
     subst (λ l. list_all is_identifier l ≡ true) (sym m) (all-push ids id h (subst (λ t. is_identifier t ≡ true) (sym g.0) g.1))
 
--- a part that is no identifier refuses the path
+-- a part that is not an identifier refuses the path
 pub one-refused : (text : List ℕ) (ids : List (List ℕ)) (rest segment : List ℕ) (ps : List (List ℕ))
     → between_colons text ≡ ids ++ between_colons rest → between_colons rest ≡ segment ∷ ps
     → only_if (is_identifier segment) (Some segment) ≡ None → list_all is_identifier (between_colons text) ≡ false

@@ -1,4 +1,4 @@
--- Where a text is cut, from the places where a pattern stands.
+-- The places at which a text is cut by a pattern.
 use Rattle.std.proofs.Common.{◌≡◌, MatchOption, Bor, ℕ, zero, suc, ◌==◌, ◌<◌, ◌≤◌, Bool, true, false, if◌then◌else◌, List, [], ◌∷◌, ◌++◌, length, take, drop, Option, Some, None, option_map, refl, ap, subst, ◌∙◌, arith, eq-eqb}
 use Rattle.std.proofs.Math.Seq.{drop-append_seam, take-append_seam}
 use Rattle.std.specs.Option.{option_or}

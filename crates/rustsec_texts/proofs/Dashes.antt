@@ -67,7 +67,7 @@ no-dash-test b h = ap not (ne_eqb b 45 h)
 dash-test : (b : ℕ) → b ≡ 45 → not (is_dash b) ≡ false
 dash-test b e = ap not (eq-eqb b 45 e)
 
--- where no dash stands, it is the text
+-- without a dash, it is the text
 pub last-alone : (bs : List ℕ) → NoDash bs → last_part bs ≡ bs
 last-alone bs free =
     let s = suffix_len_is (λ b. not (is_dash b)) bs 0 0 (omega arith) (λ k m l. no-dash-test _ (free k l)) (λ l. absurd (omega (arith, l))) in
@@ -76,7 +76,7 @@ last-alone bs free =
     place : (n : ℕ) → n ≡ length bs - 0 → length bs - n ≡ 0
     place n e = omega (arith, e)
 
--- else it is what stands behind the last dash
+-- else it is what follows the last dash
 pub last-behind : (bs : List ℕ) (i j : ℕ) → NoCharPasses is_dash (drop j bs) → HasCharAt 45 bs i j → last_part bs ≡ drop j bs
 last-behind bs i j free at =
     let here = ap length (drop_at_char 45 bs i j at (lit< tt)) in

@@ -1,4 +1,4 @@
--- The parts of a text are those that the relation gives it.
+-- The parts of a text are those of the relation.
 use Rattle.std.proofs.Common.{◌≡◌, ◌↔◌, ℕ, List, Option, Some, None, refl, sym, ap, ◌∙◌}
 use Rattle.std.specs.Str.{trim, trim_end, trim_start}
 use Rattle.rustsec_values.specs.Reading.{◌>>=◌}

@@ -1,4 +1,4 @@
--- What `parse` answers is the number of the definitions, and what digits amount to.
+-- `parse` answers the number of the definitions; bounds on the value of digits.
 use Rattle.std.proofs.Common.{◌≡◌, ℕ, ◌<◌, ◌^◌, Bool, true, false, ◌&&◌, List, [], ◌∷◌, length, Option, Some, None, Result, Ok, Err, SomeIff, IfSome, nat_lt, refl, sym, ap, ◌∙◌, arith, subst}
 use Rattle.std.proofs.lemmas.Bool.{and_from, lt-ltb, ltb-true}
 use Rattle.std.proofs.lemmas.Str.Parse.{IsNumeralModel, digits_value_short, numerals_by_value, tells_all_ascii_digits, without_leading_plus_none}
@@ -14,7 +14,7 @@ use Rattle.rustsec_texts.specs.Numbers.{number_of, numeral_of}
 both : (a b : Bool) → (a && b) ≡ true → (a ≡ true) × (b ≡ true)
 both a b h = (first_so a b h, second_so a b h)
 
--- std's test of digits is the definition's
+-- std's test for digits is that of the definition
 all-digits : (ds : List ℕ) → list_all is_ascii_digit ds ≡ all_ascii_digits ds
 all-digits [] = refl
 all-digits (d ∷ ds) = ap (λ t. is_ascii_digit d && t) (all-digits ds)
@@ -50,7 +50,7 @@ pub parsed : (ds : List ℕ) (r : Option ℕ) → SomeIff r (IsNumeral 10 ds × 
 parsed ds None h = sym (only-no (fits ds) _ (λ k. h (fits-numeral ds k)))
 parsed ds (Some x) h = ap Some h.1 ∙ sym (only-yes (fits ds) _ (numeral-fits ds h.0))
 
--- the same where the answer of `parse` is taken as an option
+-- likewise, for the answer of `parse` as an option
 pub parsed-ok : {E : Type 0} (bs : List ℕ) (r : Result ℕ E) → ParsesUnsigned 32 10 bs r → (o : Option ℕ) → o ≡ result_ok r → o ≡ number_of bs
 parsed-ok bs (Ok x) h o e = e ∙ parsed (without_leading_plus bs) (Some x) h
 parsed-ok bs (Err x) h o e = e ∙ parsed (without_leading_plus bs) None h
@@ -63,7 +63,7 @@ no-plus (d ∷ ds) h = without_leading_plus_none (d ∷ ds) (λ e. let k = tells
 pub digits-number : (ds : List ℕ) → list_all is_ascii_digit ds ≡ true → number_of ds ≡ numeral_of ds
 digits-number ds h = ap numeral_of (no-plus ds (sym (all-digits ds) ∙ h))
 
--- so many digits make a number below that power of ten
+-- digits make a number below ten to the power of their count
 pub digits-short : (ds : List ℕ) (count : ℕ) → length ds ≡ count → list_all is_ascii_digit ds ≡ true → (r : Option ℕ) → r ≡ number_of ds → IfSome r (λ n. n < 10 ^ count)
 digits-short ds count l h r e =
     let e' : r ≡ numeral_of ds = e ∙ digits-number ds h in

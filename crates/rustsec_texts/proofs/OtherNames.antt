@@ -1,4 +1,4 @@
--- Texts that no value of a closed table has for its name.
+-- Texts that are not the name of any value of a closed table.
 use Rattle.std.proofs.Common.{◌≡◌, ◌≢◌, ℕ, Bool, true, false, List, [], ◌∷◌, None, refl, sym}
 use Rattle.std.specs.Prelude.{Result, Ok, Err, IfErr}
 use Rattle.std.specs.List.{AllByRecursion}
@@ -14,7 +14,7 @@ pub bytes_eq-other : (a b : List ℕ) → a ≢ b → bytes_eq a b ≡ false
 bytes_eq-other a b n = other-text (bytes_eq a b) a b ((bytes_decides a b).0) n
 
 module _ {A : Type 0} (name : A → List ℕ) where
-  -- a text that names no value
+  -- a text that is not the name of any value
   pub value_named-none : (xs : List A) (text : List ℕ) → AllByRecursion (λ x. text ≢ name x) xs → value_named name xs text ≡ None
   value_named-none [] text h = refl
   value_named-none (x ∷ xs) text h = rw (bytes_eq-other (name x) text (λ e. h.0 (sym e))) (value_named-none xs text h.1)

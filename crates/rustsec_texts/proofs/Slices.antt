@@ -1,4 +1,4 @@
--- What is cut out of a text, and out of what was cut out of it, stands within the text.
+-- A slice of a text, and a slice of a slice, is a slice of the text.
 use Rattle.std.proofs.Common.{◌≡◌, ℕ, List, [], ◌++◌, take, drop, Some, sym, append_assoc}
 use Rattle.std.proofs.lemmas.List.{append-nil, take-append-drop}
 use Rattle.std.specs.Str.{IsTrim, IsTrimEnd, IsTrimStart}

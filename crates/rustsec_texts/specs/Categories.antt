@@ -21,17 +21,17 @@ category_name category.PrivilegeEscalation = codes "privilege-escalation"
 category_name category.ThreadSafety = codes "thread-safety"
 category_name (category.Other text) = text
 
--- the categories that have a value of their own, in their order
+-- the categories with a name of their own, in their order
 abbrev pub categories : List Category
 categories = category.CodeExecution ∷ category.CryptoFailure ∷ category.DenialOfService ∷ category.FileDisclosure
     ∷ category.FormatInjection ∷ category.Malicious ∷ category.MemoryCorruption ∷ category.MemoryExposure
     ∷ category.PrivilegeEscalation ∷ category.ThreadSafety ∷ []
 
--- the category of a text: the one of that name, or another one, which keeps the text
+-- the category of a text: the one with that name, or `Other`, which keeps the text
 abbrev pub category_of : List ℕ → Category
 category_of text = unwrap_or (value_named category_name categories text) (category.Other text)
 
--- the place of a category in the order, other ones last
+-- the place of a category in the order, `Other` last
 abbrev pub category_place : Category → ℕ
 category_place category.CodeExecution = 0
 category_place category.CryptoFailure = 1
@@ -45,6 +45,6 @@ category_place category.PrivilegeEscalation = 8
 category_place category.ThreadSafety = 9
 category_place (category.Other text) = 10
 
--- the order of categories: by place, other ones by their text
+-- the order of categories: by place, `Other` by text
 abbrev pub category_cmp : Category → Category → Ordering
 category_cmp = then_cmp (on category_place nat_cmp) (on category_name (slice_cmp nat_cmp))

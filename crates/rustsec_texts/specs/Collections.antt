@@ -15,7 +15,7 @@ collection_name collection.Rust = codes "rust"
 abbrev pub collections : List Collection
 collections = collection.Crates ∷ collection.Rust ∷ []
 
--- the collection of a text, where it names one
+-- the collection of a text, if it is the name of one
 abbrev pub collection_of : List ℕ → Option Collection
 collection_of = value_named collection_name collections
 

@@ -37,7 +37,7 @@ abbrev pub id_eq : IdValue → IdValue → Bool
 id_eq = eq_of_both (on (λ (i : IdValue). i.kind) kind_eq)
     (eq_of_both (on (λ (i : IdValue). i.year) (option_eq nat_eq)) (on (λ (i : IdValue). i.text) (pointwise nat_eq)))
 
--- ---- kinds: a total order, which ties just the equal ones
+-- ---- kinds: a total order, in which only equal ones tie
 
 pub kind_equiv : IsEquivalence kind_eq
 kind_equiv = on_equiv kind_place nat_eq_equiv
@@ -68,7 +68,7 @@ kind_decides a b =
 pub kind_fed : (a b : IdKind) → kind_eq a b ≡ true → fed.u8 (kind_place a) ≡ fed.u8 (kind_place b)
 kind_fed a b h = ap (λ k. fed.u8 (kind_place k)) ((kind_decides a b).0 h)
 
--- ---- IDs: the same
+-- ---- IDs: likewise
 
 pub id_equiv : IsEquivalence id_eq
 id_equiv = and_equiv (on_equiv (λ (i : IdValue). i.kind) kind_equiv)

@@ -7,7 +7,7 @@ use Rattle.rustsec_texts.specs.Numbers.{last_part, number_of, three_parts}
 use Rattle.rustsec_texts.specs.declared.id_kind.IdKind.{IdKind}
 use Rattle.rustsec_texts.specs.declared.id_kind.IdKind.TheVariants as kind
 
--- an ID: its kind, its year where it has one, and its text
+-- an ID: its kind, its year if any, and its text
 pub record IdValue : Type 0 where
   pub kind : IdKind
   pub year : Option ℕ
@@ -21,7 +21,7 @@ kind_of_id text =
     else (if starts_with nat_eq text (codes "TALOS-") then kind.Talos
     else (if starts_with nat_eq text (codes "GHSA-") then kind.Ghsa else kind.Other)))
 
--- the ID that stands for one that is not assigned yet
+-- the placeholder: the ID of an advisory that has none yet
 abbrev pub placeholder : List ℕ
 placeholder = codes "RUSTSEC-0000-0000"
 
@@ -36,7 +36,7 @@ has_year kind.Ghsa = false
 has_year kind.Talos = true
 has_year kind.Other = false
 
--- whether a year is one that IDs and dates name
+-- whether a year is one of those that IDs and dates may have
 abbrev pub is_year : ℕ → Bool
 is_year year = nat_le 2000 year && nat_le year 2100
 
@@ -44,7 +44,7 @@ is_year year = nat_le 2000 year && nat_le year 2100
 abbrev pub id_year : List ℕ → Option ℕ
 id_year text = three_parts text >>= λ parts. number_of parts.1 >>= λ year. number_of parts.2 >>= λ number. only_if (is_year year) (Some year)
 
--- the year of an ID that is no placeholder, where its kind names one
+-- the year of an ID that is not the placeholder, if its kind has one
 abbrev pub year_of_kind : Bool → List ℕ → Option (Option ℕ)
 year_of_kind true text = id_year text >>= λ year. Some (Some year)
 year_of_kind false text = Some None
@@ -53,17 +53,17 @@ year_of_kind false text = Some None
 abbrev pub id_with : List ℕ → Option ℕ → IdValue
 id_with text year = record { kind = kind_of_id text; year = year; text = text }
 
--- the ID of a text, where it is one
+-- the ID of a text, if it is an ID
 abbrev pub id_of : List ℕ → Option IdValue
 id_of text =
     if is_placeholder text then Some (id_with text None)
     else (year_of_kind (has_year (kind_of_id text)) text >>= λ year. Some (id_with text year))
 
--- the number at the end of an ID: its last part, where that is a number
+-- the number at the end of an ID: its last part, if that is a number
 abbrev pub numerical_part : List ℕ → Option ℕ
 numerical_part text = if is_placeholder text then None else number_of (last_part text)
 
--- where the pages of a kind's IDs stand
+-- the address under which the IDs of a kind have their pages
 abbrev pub page_of_kind : IdKind → Option (List ℕ)
 page_of_kind kind.RustSec = Some (codes "https://rustsec.org/advisories/")
 page_of_kind kind.Cve = Some (codes "https://cve.mitre.org/cgi-bin/cvename.cgi?name=")

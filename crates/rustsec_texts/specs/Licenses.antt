@@ -10,14 +10,14 @@ license_name license.CcZero10 = codes "CC0-1.0"
 license_name license.CcBy40 = codes "CC-BY-4.0"
 license_name (license.Other text) = text
 
--- the licenses that have a value of their own
+-- the licenses with an identifier of their own
 abbrev pub licenses : List License
 licenses = license.CcZero10 ∷ license.CcBy40 ∷ []
 
--- the license of a text: the one of that identifier, or another one, which keeps the text
+-- the license of a text: the one with that identifier, or `Other`, which keeps the text
 abbrev pub license_of : List ℕ → License
 license_of text = unwrap_or (value_named license_name licenses text) (license.Other text)
 
--- the license of an advisory that names none
+-- the license of an advisory without the key `license`
 abbrev pub default_license : License
 default_license = license.CcZero10

@@ -54,10 +54,10 @@ titled front markdown = behind heading markdown >>= cut_at line_feed >>= λ c. S
   description = trim c.1;
 })
 
--- the message about a text that does not begin so shows how it begins, by 20 bytes at most
+-- the message for a text with another beginning shows at most 20 bytes of it
 abbrev pub ShowsBeginning : List ℕ → Failure → Type 0
 ShowsBeginning text e = (b : List ℕ) × IsBeginning 20 text b × (e.message ≡ codes "not the start of an advisory: " ++ b)
 
--- the parts of a text, where it has them
+-- the parts of a text, if it has them
 abbrev pub parts_of : List ℕ → Option FileParts
 parts_of text = behind opening text >>= cut_at closing >>= λ c. titled (trim c.0) (trim_start c.1)

@@ -12,7 +12,7 @@ use Rattle.rustsec_values.specs.Reading.{only_if}
 abbrev pub is_first : ℕ → Bool
 is_first b = is_ascii_alphabetic b || ((b == 95) || (b == 60))
 
--- the characters behind it: these, `0` to `9`, `>`, `,`
+-- the characters after it: these, `0` to `9`, `>`, `,`
 abbrev pub is_later : ℕ → Bool
 is_later b = is_first b || (is_ascii_digit b || ((b == 62) || (b == 44)))
 
@@ -21,7 +21,7 @@ abbrev pub is_identifier : List ℕ → Bool
 is_identifier [] = false
 is_identifier (b ∷ bs) = is_first b && list_all is_later bs
 
--- the identifier of a text, where it is one
+-- the identifier of a text, if it is an identifier
 abbrev pub identifier_of : List ℕ → Option (List ℕ)
 identifier_of text = only_if (is_identifier text) (Some text)
 
@@ -40,22 +40,22 @@ between_colons [] = [] ∷ []
 between_colons (b ∷ []) = (b ∷ []) ∷ []
 between_colons (b ∷ c ∷ bs) = if (b == 58) && (c == 58) then [] ∷ between_colons bs else onto_first b (between_colons (c ∷ bs))
 
--- the identifiers of a path's text, where it is one
+-- the identifiers of a path's text, if it is a path
 abbrev pub path_of : List ℕ → Option (List (List ℕ))
 path_of text = only_if (is_path (between_colons text)) (Some (between_colons text))
 
--- the same in other words: two or more identifiers, which joined by `::` are the text
+-- in other words: two or more identifiers, which joined by `::` are the text
 abbrev pub IsPathOf : List ℕ → List (List ℕ) → Type 0
 IsPathOf text ids = (is_path ids ≡ true) × (path_text ids ≡ text)
 
--- paths identifier by identifier, a path before its longer continuations
+-- the order of paths: identifier by identifier, a path below its longer continuations
 abbrev pub path_order : List (List ℕ) → List (List ℕ) → Ordering
 path_order = slice_cmp (slice_cmp nat_cmp)
 
 abbrev pub path_eq : List (List ℕ) → List (List ℕ) → Bool
 path_eq = pointwise (pointwise nat_eq)
 
--- ---- a total order, which ties just the equal ones
+-- ---- a total order, in which only equal ones tie
 
 pub path_equiv : IsEquivalence path_eq
 path_equiv = lists_equiv nat_list_eq_equiv

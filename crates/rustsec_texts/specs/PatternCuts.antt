@@ -3,13 +3,13 @@ use Rattle.std.specs.Prelude.{◌≡◌, ◌<◌, ℕ, List, [], ◌∷◌, ◌+
 use Rattle.std.specs.Option.{option_or}
 use Rattle.std.specs.Str.Pattern.{LacksTextAt}
 
--- what follows a pattern, where the text begins with it
+-- what follows a pattern, if the text begins with it
 unfoldable pub behind : List ℕ → List ℕ → Option (List ℕ)
 behind [] text = Some text
 behind (p ∷ ps) [] = None
 behind (p ∷ ps) (b ∷ bs) = if p == b then behind ps bs else None
 
--- what stands before the first place of a pattern, and what stands behind it
+-- the text before the first place of a pattern, and the text after it
 unfoldable pub cut_at : List ℕ → List ℕ → Option (List ℕ × List ℕ)
 cut_at p [] = option_map (λ rest. ([], rest)) (behind p [])
 cut_at p (b ∷ bs) = option_or (option_map (λ rest. ([], rest)) (behind p (b ∷ bs))) (option_map (λ c. (b ∷ c.0, c.1)) (cut_at p bs))
@@ -19,6 +19,6 @@ pub record IsFirstCut (p text before after : List ℕ) : Type 0 where
   pub whole : text ≡ before ++ (p ++ after)
   pub first : (i : ℕ) → i < length before → LacksTextAt p text i
 
--- a text that stands within another one
+-- a text that is part of another one
 abbrev pub IsSliceOf : List ℕ → List ℕ → Type 0
 IsSliceOf part text = (before : List ℕ) × (after : List ℕ) × (text ≡ before ++ (part ++ after))

@@ -17,7 +17,7 @@ warning_kind_name warning.Yanked = codes "yanked"
 abbrev pub warning_kinds : List WarningKind
 warning_kinds = warning.Notice ∷ warning.Unmaintained ∷ warning.Unsound ∷ warning.Yanked ∷ []
 
--- the kind of a text, where it names one
+-- the kind of a text, if it is the text of one
 abbrev pub warning_kind_of : List ℕ → Option WarningKind
 warning_kind_of = value_named warning_kind_name warning_kinds
 

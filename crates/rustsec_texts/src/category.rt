@@ -1,4 +1,4 @@
-// Categories of advisories.
+//! Categories of advisories.
 
 ghost use Rattle.std.specs.Prelude.{◌≡◌, ◌⊎◌, IfErr, IfOk, List, ℕ, None};
 ghost use Rattle.rustsec_values.specs.ClosedTables.{value_named};
@@ -15,30 +15,30 @@ use std::fmt;
 pub enum Category {
     /// Execution of code that an attacker chooses.
     CodeExecution,
-    /// A broken use of cryptography.
+    /// A faulty use of cryptography.
     CryptoFailure,
-    /// A crash, or resources used up.
+    /// A crash, or an exhaustion of resources.
     DenialOfService,
-    /// Files that are shown to those who may not see them.
+    /// Disclosure of files to those who may not see them.
     FileDisclosure,
-    /// Output whose escaping is broken.
+    /// Output with faulty escaping.
     FormatInjection,
-    /// Code that means harm.
+    /// Code that is meant to do harm.
     Malicious,
-    /// Memory that is written where it may not be.
+    /// A write to memory where it is not allowed.
     MemoryCorruption,
-    /// Memory that is shown to those who may not see it.
+    /// Disclosure of memory to those who may not see it.
     MemoryExposure,
     /// Rights that an attacker gains.
     PrivilegeEscalation,
-    /// A vulnerability between threads.
+    /// A fault in the use of several threads.
     ThreadSafety,
     /// Any other category, by its name.
     Other(Text),
 }
 
 impl Category {
-    /// The category of a text. Every text has one.
+    /// Parses a category. Every text is one.
     ///
     /// # Errors
     ///
@@ -47,7 +47,7 @@ impl Category {
         ensures ok { IfOk result (λ c. c ≡ category_of text.now) }
         ensures err { IfErr result IsMemory }
 
-        // A text that names a value of its own takes no memory.
+        // A text that names one of the other variants takes no memory.
         ensures other { IfErr result (λ e. value_named category_name categories text.now ≡ None) }
         ensures printed { IfOk result (λ c. category_name c ≡ text.now) }
         ensures read_again { IfOk result (λ c. category_of (category_name c) ≡ c) }
@@ -70,7 +70,7 @@ impl Category {
         }
     }
 
-    /// The name, as `from_str` reads it.
+    /// Returns the name, as `from_str` reads it.
     pub fn name(&self) -> &str
         ensures value { result.now ≡ category_name self.now }
         ensures read { (category_of result.now ≡ self.now) ⊎ ((text : List ℕ) × (self.now ≡ Category.Other text)) }
@@ -90,7 +90,7 @@ impl Category {
         }
     }
 
-    /// An equal category.
+    /// Returns an equal category.
     ///
     /// # Errors
     ///

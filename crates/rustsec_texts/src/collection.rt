@@ -1,4 +1,4 @@
-// Collections of packages.
+//! Collections of packages.
 
 ghost use Rattle.std.specs.Prelude.{◌≡◌, IfErr, IfOk, Some, None};
 ghost use Rattle.rustsec_versions.specs.Failure.{IsRefusal};
@@ -9,24 +9,24 @@ use rustsec_versions::{ErrorKind, FromText, Result, refused_text};
 use std::alloc::Global;
 use std::fmt;
 
-/// Where the packages of an advisory are published.
+/// A collection of the database: where the packages of an advisory are published.
 #[derive(Clone, Copy, PartialEq, Eq, PartialOrd, Ord, Hash, Debug)]
 pub enum Collection {
     /// Packages of crates.io.
     Crates,
-    /// What comes with the language itself.
+    /// The standard library and tools of Rust itself.
     Rust,
 }
 
 impl Collection {
-    /// All collections, in their order.
+    /// Returns all collections, in their order.
     pub fn all() -> &'static [Collection]
         ensures { result.now ≡ collections }
     {
         &[Collection::Crates, Collection::Rust]
     }
 
-    /// The name, as `from_str` reads it.
+    /// Returns the name, as `from_str` reads it.
     pub fn as_str(&self) -> &'static str
         ensures value { result.now ≡ collection_name self.now }
         ensures read { collection_of result.now ≡ Some self.now }
@@ -37,16 +37,16 @@ impl Collection {
         }
     }
 
-    /// The collection that a text names.
+    /// Parses the name of a collection.
     ///
     /// # Errors
     ///
-    /// `Parse` for any other text; `OutOfMemory` in its place if there is no memory for the message.
+    /// `Parse` for any other text; `OutOfMemory` instead if there is no memory for the message.
     pub fn from_str(alloc: Global, text: &str) -> Result<Collection>
         ensures ok { IfOk result (λ c. collection_of text.now ≡ Some c) }
         ensures err { IfErr result (IsRefusal ErrorKind.Parse (collection_of text.now ≡ None)) }
 
-        // Any error, of memory too, means that the text is none of the names.
+        // Success takes no memory, so any error means that the text is not one of the names.
         ensures none { IfErr result (λ e. collection_of text.now ≡ None) }
         ensures printed { IfOk result (λ c. collection_name c ≡ text.now) }
     {

@@ -20,7 +20,7 @@ use std::fmt;
 use std::hash::{Hash, Hasher};
 use std::marker::Model;
 
-/// A date `YYYY-MM-DD` (RFC 3339, `full-date`) of the years 2000 to 2100, which the calendar has.
+/// A date `YYYY-MM-DD` (RFC 3339, `full-date`) of the years 2000 to 2100 that exists in the calendar.
 #[derive(Debug, Drop)]
 pub struct Date {
     text: Text,
@@ -40,7 +40,7 @@ impl Model for Date {
     ghost invariant = { λ d. day_of d.text ≡ Some (record { year = d.year; month = d.month; day = d.day }) };
 }
 
-/// The year, the month and the day that a text `YYYY-MM-DD` writes.
+/// Returns the year, the month and the day in a text `YYYY-MM-DD`.
 fn day_numbers(text: &str) -> Option<(u32, u32, u32)>
     ensures value { option_map (λ d. record { year = d.0; month = d.1; day = d.2 }) result ≡ day_numbers text.now }
     ensures bound { IfSome result (λ d. (d.1 < 100) × (d.2 < 100)) }
@@ -52,7 +52,7 @@ fn day_numbers(text: &str) -> Option<(u32, u32, u32)>
     Some((year, month, day))
 }
 
-/// Whether the calendar has a day.
+/// Returns whether a day exists in the calendar.
 fn is_real_day(year: u32, month: u32, day: u32) -> bool
     requires year { year ≤ 2100 }
     requires month { month < 100 }
@@ -62,7 +62,7 @@ fn is_real_day(year: u32, month: u32, day: u32) -> bool
     jiff::civil::Date::new(year as i16, month as i8, day as i8).is_ok()
 }
 
-/// The year, the month and the day of a date's text.
+/// Returns the year, the month and the day of a date's text.
 fn day_of(text: &str) -> Option<(u32, u32, u32)>
     ensures { option_map (λ d. record { year = d.0; month = d.1; day = d.2 }) result ≡ day_of text.now }
 {
@@ -74,7 +74,7 @@ fn day_of(text: &str) -> Option<(u32, u32, u32)>
 }
 
 impl Date {
-    /// The date of a text.
+    /// Parses a date (RFC 3339, `full-date`).
     ///
     /// # Errors
     ///
@@ -102,38 +102,38 @@ impl Date {
         })
     }
 
-    /// The year.
+    /// Returns the year.
     pub fn year(&self) -> u32
         ensures { option_map (λ (d : Day). d.year) (day_of self.now) ≡ Some result }
     {
         self.year
     }
 
-    /// The month, from 1 to 12.
+    /// Returns the month, from 1 to 12.
     pub fn month(&self) -> u32
         ensures { option_map (λ (d : Day). d.month) (day_of self.now) ≡ Some result }
     {
         self.month
     }
 
-    /// The day of the month.
+    /// Returns the day of the month.
     pub fn day(&self) -> u32
         ensures { option_map (λ (d : Day). d.day) (day_of self.now) ≡ Some result }
     {
         self.day
     }
 
-    /// The text.
+    /// Returns the text.
     pub fn as_str(&self) -> &str
         ensures value { result.now ≡ self.now }
 
-        // The text is read as this very date.
+        // Parsing the text gives the same date.
         ensures read_again { date_of self.now ≡ Some self.now }
     {
         self.text.as_str()
     }
 
-    /// An equal date.
+    /// Returns an equal date.
     ///
     /// # Errors
     ///
@@ -212,7 +212,7 @@ impl Ord for Date {
 
     ghost matches_eq = { texts_ties };
 
-    /// By text.
+    /// Compares dates by their texts.
     fn cmp(&self, other: &Date) -> Ordering {
         self.text.cmp(&other.text)
     }

@@ -35,7 +35,7 @@ impl Model for FunctionPath {
     ghost invariant = { λ p. is_path p.segments ≡ true };
 }
 
-/// The identifiers between each `::` of a text and the next.
+/// Splits a text at each `::` into identifiers.
 fn segments_of(alloc: Global, text: &str) -> Result<Items<Identifier>>
     ensures ok { IfOk result (λ ids. ids ≡ between_colons text.now) }
     ensures each { IfOk result (λ ids. list_all is_identifier ids ≡ true) }
@@ -52,7 +52,7 @@ fn segments_of(alloc: Global, text: &str) -> Result<Items<Identifier>>
 }
 
 impl FunctionPath {
-    /// The path of a text.
+    /// Parses a path.
     ///
     /// # Errors
     ///
@@ -64,7 +64,7 @@ impl FunctionPath {
         // The identifiers joined by `::` are the text, so no other text gives the same path.
         ensures joined { IfOk result (λ p. IsPathOf text.now p) }
 
-        // No identifiers joined by `::` are the text.
+        // The text is not made of identifiers joined by `::`.
         ensures none { IfErr result (IsRefusal ErrorKind.Parse ((ids : List (List ℕ)) → IsPathOf text.now ids → ⊥)) }
     {
         let segments = segments_of(alloc, text)?;
@@ -79,7 +79,7 @@ impl FunctionPath {
         Ok(FunctionPath { segments })
     }
 
-    /// The first identifier, the crate's name.
+    /// Returns the first identifier, the crate's name.
     pub fn crate_name(&self) -> &str
         ensures { (rest : List (List ℕ)) × (self.now ≡ result.now ∷ rest) }
     {
@@ -89,7 +89,7 @@ impl FunctionPath {
         }
     }
 
-    /// The identifiers, with no copy.
+    /// Returns the identifiers, without a copy.
     pub fn into_vec(self) -> Vec<Identifier>
         ensures { result.items ≡ self }
     {
@@ -97,25 +97,25 @@ impl FunctionPath {
         Vec::from(segments)
     }
 
-    /// The identifiers in order, one after another.
+    /// Returns an iterator over the identifiers, in order.
     pub fn iter(&self) -> slice::Iter<'_, Identifier>
         ensures { iter_rest result ≡ self.now }
     {
         self.segments().iter()
     }
 
-    /// The identifiers.
+    /// Returns the identifiers.
     pub fn segments(&self) -> &[Identifier]
         ensures value { result.now ≡ self.now }
         ensures path { is_path self.now ≡ true }
 
-        // What is printed is read as this very path.
+        // Parsing what is printed gives the same path.
         ensures read_again { path_of (path_text self.now) ≡ Some self.now }
     {
         self.segments.as_slice()
     }
 
-    /// An equal path.
+    /// Returns an equal path.
     ///
     /// # Errors
     ///
@@ -189,7 +189,7 @@ impl Ord for FunctionPath {
 
     ghost matches_eq = { path_ties };
 
-    /// Identifier by identifier, a path before its longer continuations.
+    /// Compares paths identifier by identifier; a path is below its longer continuations.
     fn cmp(&self, other: &FunctionPath) -> Ordering {
         self.segments.cmp(&other.segments)
     }

@@ -19,8 +19,8 @@ use std::fmt;
 use std::hash::{Hash, Hasher};
 use std::marker::Model;
 
-/// The ID of an advisory: `RUSTSEC-YEAR-NUMBER`, `CVE-YEAR-NUMBER`, `TALOS-YEAR-NUMBER`, or any other
-/// text, which is kept as it stands. Two IDs are equal exactly if their texts are.
+/// The ID of an advisory: `RUSTSEC-YEAR-NUMBER`, `CVE-YEAR-NUMBER`, `TALOS-YEAR-NUMBER`, or any other text, which is
+/// kept unchanged. Two IDs are equal exactly if their texts are.
 #[derive(Debug, Drop)]
 pub struct Id {
     kind: IdKind,
@@ -39,7 +39,7 @@ impl Model for Id {
     ghost invariant = { λ i. id_of i.text ≡ Some (record { kind = i.kind; year = i.year; text = i.text }) };
 }
 
-/// The year in the text of an ID that has one.
+/// Returns the year in the text of an ID, if any.
 fn year_of(text: &str) -> Option<u32>
     ensures { result ≡ id_year text.now }
 {
@@ -52,7 +52,7 @@ fn year_of(text: &str) -> Option<u32>
     Some(year)
 }
 
-/// Where the pages of a kind's IDs stand.
+/// Returns the address under which the IDs of a kind have their pages, if any.
 fn page_of_kind(kind: IdKind) -> Option<&'static str>
     ensures { option_map (λ t. t.now) result ≡ page_of_kind kind }
 {
@@ -65,7 +65,7 @@ fn page_of_kind(kind: IdKind) -> Option<&'static str>
     }
 }
 
-/// The refusal of a text that is no ID.
+/// Returns the error for a text that is not an ID.
 fn malformed(alloc: Global, text: &str) -> Error
     ensures { IsOfKind ErrorKind.Parse result }
 {
@@ -78,10 +78,10 @@ fn malformed(alloc: Global, text: &str) -> Error
 }
 
 impl Id {
-    /// The text of the ID that stands for one that is not assigned yet.
+    /// The text of the placeholder: the ID of an advisory that has none yet.
     pub const PLACEHOLDER: &'static str = "RUSTSEC-0000-0000";
 
-    /// The ID of a text.
+    /// Parses an ID.
     ///
     /// # Errors
     ///
@@ -107,7 +107,7 @@ impl Id {
         Ok(Id { kind, year, text })
     }
 
-    /// The placeholder, an ID of RustSec without year, number or page.
+    /// Returns the placeholder, an ID of RustSec without year, number or page.
     ///
     /// # Errors
     ///
@@ -125,76 +125,76 @@ impl Id {
         })
     }
 
-    /// The text.
+    /// Returns the text.
     pub fn as_str(&self) -> &str
         ensures value { result.now ≡ self.now.text }
 
-        // The text is read as this very ID.
+        // Parsing the text gives the same ID.
         ensures read_again { id_of self.now.text ≡ Some self.now }
 
-        // An ID of the same text is this one.
+        // Every ID with the same text is this one.
         ensures alone { (other : IdValue) → id_of other.text ≡ Some other → other.text ≡ self.now.text → other ≡ self.now }
     {
         self.text.as_str()
     }
 
-    /// The kind.
+    /// Returns the kind.
     pub fn kind(&self) -> IdKind
         ensures { result ≡ self.now.kind }
     {
         self.kind
     }
 
-    /// Whether this is the placeholder.
+    /// Returns whether this is the placeholder.
     pub fn is_placeholder(&self) -> bool
         ensures { result ≡ is_placeholder self.now.text }
     {
         self.as_str() == Id::PLACEHOLDER
     }
 
-    /// Whether this is an ID of RustSec.
+    /// Returns whether this is an ID of RustSec.
     pub fn is_rustsec(&self) -> bool
         ensures { result ≡ kind_eq self.now.kind variant.RustSec }
     {
         self.kind == IdKind::RustSec
     }
 
-    /// Whether this is a CVE.
+    /// Returns whether this is a CVE.
     pub fn is_cve(&self) -> bool
         ensures { result ≡ kind_eq self.now.kind variant.Cve }
     {
         self.kind == IdKind::Cve
     }
 
-    /// Whether this is an ID of GitHub.
+    /// Returns whether this is an ID of GitHub.
     pub fn is_ghsa(&self) -> bool
         ensures { result ≡ kind_eq self.now.kind variant.Ghsa }
     {
         self.kind == IdKind::Ghsa
     }
 
-    /// Whether this is an ID of Talos.
+    /// Returns whether this is an ID of Talos.
     pub fn is_talos(&self) -> bool
         ensures { result ≡ kind_eq self.now.kind variant.Talos }
     {
         self.kind == IdKind::Talos
     }
 
-    /// Whether this is an ID of any other kind.
+    /// Returns whether this is an ID of any other kind.
     pub fn is_other(&self) -> bool
         ensures { result ≡ kind_eq self.now.kind variant.Other }
     {
         self.kind == IdKind::Other
     }
 
-    /// The year, if the ID names one.
+    /// Returns the year, if the ID names one.
     pub fn year(&self) -> Option<u32>
         ensures { result ≡ self.now.year }
     {
         self.year
     }
 
-    /// The number at the end: the last part at `-`, if it is a number and the ID no placeholder.
+    /// Returns the number at the end: the last part at `-`, if it is a number and the ID is not the placeholder.
     pub fn numerical_part(&self) -> Option<u32>
         ensures { result ≡ numerical_part self.now.text }
     {
@@ -207,7 +207,7 @@ impl Id {
         }
     }
 
-    /// The address of the ID's page, if its kind has pages and it is no placeholder.
+    /// Returns the address of the ID's page, if its kind has pages and it is not the placeholder.
     ///
     /// # Errors
     ///
@@ -229,7 +229,7 @@ impl Id {
         }
     }
 
-    /// An equal ID.
+    /// Returns an equal ID.
     ///
     /// # Errors
     ///
@@ -307,7 +307,7 @@ impl Ord for Id {
 
     ghost matches_eq = { id_ties };
 
-    /// By kind, then by year, none first, then by text.
+    /// Compares IDs by kind, then by year, a missing year first, then by text.
     fn cmp(&self, other: &Id) -> Ordering {
         self.kind
             .cmp(&other.kind)

@@ -10,7 +10,7 @@ use rustsec_values::{ExactClone, ExactEq};
 use std::cmp::Ordering;
 use std::hash::{Hash, Hasher};
 
-/// Whose ID it is.
+/// The kind of an ID: who assigns it.
 #[derive(Clone, Copy, Debug)]
 pub enum IdKind {
     /// The RustSec advisory database.
@@ -26,7 +26,7 @@ pub enum IdKind {
 }
 
 impl IdKind {
-    /// The kind of an ID by the prefix of its text: `RUSTSEC-`, `CVE-`, `TALOS-` or `GHSA-`, else `Other`.
+    /// Returns the kind of an ID by the prefix of its text: `RUSTSEC-`, `CVE-`, `TALOS-` or `GHSA-`, else `Other`.
     pub fn detect(text: &str) -> IdKind
         ensures { result ≡ kind_of_id text.now }
     {
@@ -43,7 +43,7 @@ impl IdKind {
         }
     }
 
-    /// The place of a kind in the order of kinds.
+    /// Returns the position of a kind in the order of kinds.
     fn place(self) -> u8
         ensures { result ≡ kind_place self }
     {
@@ -98,7 +98,7 @@ impl Ord for IdKind {
 
     ghost matches_eq = { kind_ties };
 
-    /// RustSec first, then CVE, GHSA, Talos and the others.
+    /// Compares kinds: RustSec first, then CVE, GHSA, Talos and the others.
     fn cmp(&self, other: &IdKind) -> Ordering {
         self.place().cmp(&other.place())
     }

@@ -32,28 +32,28 @@ impl Model for Identifier {
     ghost inverse = { λ t. record { text = t } };
 }
 
-/// Whether an identifier may begin with this character.
+/// Returns whether an identifier may begin with this character.
 fn is_first(b: u8) -> bool
     ensures { result ≡ is_first b }
 {
     b.is_ascii_alphabetic() || b == b'_' || b == b'<'
 }
 
-/// Whether an identifier may have this character behind its first one.
+/// Returns whether an identifier may have this character after its first one.
 fn is_later(b: u8) -> bool
     ensures { result ≡ is_later b }
 {
     is_first(b) || b.is_ascii_digit() || b == b'>' || b == b','
 }
 
-/// Whether each character may stand behind the first one.
+/// Returns whether an identifier may have each character after its first one.
 fn are_later(bytes: &[u8]) -> bool
     ensures { result ≡ list_all is_later bytes.now }
 {
     bytes.iter().all(|b| is_later(*b))
 }
 
-/// Whether a text is an identifier. A character that is not ASCII is refused by its first byte.
+/// Returns whether a text is an identifier. A character that is not ASCII is refused by its first byte.
 fn is_identifier(text: &str) -> bool
     ensures { result ≡ is_identifier text.now }
 {
@@ -64,11 +64,11 @@ fn is_identifier(text: &str) -> bool
 }
 
 impl Identifier {
-    /// The identifier of a text.
+    /// Parses an identifier.
     ///
     /// # Errors
     ///
-    /// `Parse` if the text is none; else `OutOfMemory`.
+    /// `Parse` if the text is not an identifier; else `OutOfMemory`.
     pub fn from_str(alloc: Global, text: &str) -> Result<Identifier>
         ensures ok { IfOk result (λ i. identifier_of text.now ≡ Some i) }
         ensures text { IfOk result (λ i. i ≡ text.now) }
@@ -86,17 +86,17 @@ impl Identifier {
         Ok(Identifier { text })
     }
 
-    /// The text.
+    /// Returns the text.
     pub fn as_str(&self) -> &str
         ensures value { result.now ≡ self.now }
 
-        // The text is read as this very identifier.
+        // Parsing the text gives the same identifier.
         ensures read_again { identifier_of self.now ≡ Some self.now }
     {
         self.text.as_str()
     }
 
-    /// An equal identifier.
+    /// Returns an equal identifier.
     ///
     /// # Errors
     ///

@@ -1,4 +1,4 @@
-// Kinds of informational advisories.
+//! Kinds of informational advisories.
 
 ghost use Rattle.std.specs.Prelude.{◌≡◌, ◌⊎◌, ◌↔◌, IsTrue, IfErr, IfOk, List, ℕ, None};
 ghost use Rattle.rustsec_values.specs.ClosedTables.{value_named};
@@ -11,7 +11,7 @@ use rustsec_versions::{FromText, Result};
 use std::alloc::{AllocError, Global};
 use std::fmt;
 
-/// What an advisory tells of a package that has no vulnerability to be mended.
+/// The concern of an informational advisory: one about a package without a vulnerability to fix.
 #[derive(PartialEq, Eq, PartialOrd, Ord, Hash, Debug, Drop)]
 pub enum Informational {
     /// A notice.
@@ -25,7 +25,7 @@ pub enum Informational {
 }
 
 impl Informational {
-    /// The kind of a text. Every text has one.
+    /// Parses an informational kind. Every text is one.
     ///
     /// # Errors
     ///
@@ -34,7 +34,7 @@ impl Informational {
         ensures ok { IfOk result (λ k. k ≡ informational_of text.now) }
         ensures err { IfErr result IsMemory }
 
-        // A text that names a value of its own takes no memory.
+        // A text that names one of the other variants takes no memory.
         ensures other { IfErr result (λ e. value_named informational_name informational_kinds text.now ≡ None) }
         ensures printed { IfOk result (λ k. informational_name k ≡ text.now) }
         ensures read_again { IfOk result (λ k. informational_of (informational_name k) ≡ k) }
@@ -50,7 +50,7 @@ impl Informational {
         }
     }
 
-    /// The text of the kind, as `from_str` reads it.
+    /// Returns the text of the kind, as `from_str` reads it.
     pub fn as_str(&self) -> &str
         ensures value { result.now ≡ informational_name self.now }
         ensures read { (informational_of result.now ≡ self.now) ⊎ ((text : List ℕ) × (self.now ≡ Informational.Other text)) }
@@ -63,35 +63,35 @@ impl Informational {
         }
     }
 
-    /// Whether it is a notice.
+    /// Returns whether it is a notice.
     pub fn is_notice(&self) -> bool
         ensures { IsTrue result ↔ (self.now ≡ Informational.Notice) }
     {
         *self == Informational::Notice
     }
 
-    /// Whether nobody maintains the package.
+    /// Returns whether nobody maintains the package.
     pub fn is_unmaintained(&self) -> bool
         ensures { IsTrue result ↔ (self.now ≡ Informational.Unmaintained) }
     {
         *self == Informational::Unmaintained
     }
 
-    /// Whether the package is not sound.
+    /// Returns whether the package is not sound.
     pub fn is_unsound(&self) -> bool
         ensures { IsTrue result ↔ (self.now ≡ Informational.Unsound) }
     {
         *self == Informational::Unsound
     }
 
-    /// Whether it is a kind without a value of its own.
+    /// Returns whether it is `Other`, a kind by its text.
     pub fn is_other(&self) -> bool
         ensures { result ≡ is_other_kind self.now }
     {
         matches!(self, Informational::Other(_))
     }
 
-    /// The kind of the warnings that it gives, none for another kind.
+    /// Returns the kind of the warnings that it gives; none for `Other`.
     pub fn warning_kind(&self) -> Option<WarningKind>
         ensures { result ≡ kind_of_warnings self.now }
     {
@@ -103,7 +103,7 @@ impl Informational {
         }
     }
 
-    /// An equal kind.
+    /// Returns an equal kind.
     ///
     /// # Errors
     ///

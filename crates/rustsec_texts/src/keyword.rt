@@ -1,4 +1,4 @@
-// Keywords of advisories.
+//! Keywords of advisories.
 
 ghost use Rattle.std.specs.Prelude.{◌≡◌, IfErr, IfOk};
 ghost use Rattle.rustsec_versions.specs.Failure.{IsMemory};
@@ -27,7 +27,7 @@ impl Model for Keyword {
 }
 
 impl Keyword {
-    /// The keyword of a text. Every text is one.
+    /// Returns the keyword with a text. Every text is one.
     ///
     /// # Errors
     ///
@@ -40,14 +40,14 @@ impl Keyword {
         Ok(Keyword { text })
     }
 
-    /// The text.
+    /// Returns the text.
     pub fn as_str(&self) -> &str
         ensures { result.now ≡ self.now }
     {
         self.text.as_str()
     }
 
-    /// An equal keyword.
+    /// Returns an equal keyword.
     ///
     /// # Errors
     ///

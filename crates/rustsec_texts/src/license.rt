@@ -1,4 +1,4 @@
-// Licenses of advisories.
+//! Licenses of advisories.
 
 ghost use Rattle.std.specs.Prelude.{◌≡◌, ◌⊎◌, IfErr, IfOk, List, ℕ, None};
 ghost use Rattle.rustsec_values.specs.ClosedTables.{value_named};
@@ -22,7 +22,7 @@ pub enum License {
 }
 
 impl License {
-    /// The license of a text. Every text has one.
+    /// Parses a license. Every text is one.
     ///
     /// # Errors
     ///
@@ -31,7 +31,7 @@ impl License {
         ensures ok { IfOk result (λ l. l ≡ license_of text.now) }
         ensures err { IfErr result IsMemory }
 
-        // A text that names a value of its own takes no memory.
+        // A text that names one of the other variants takes no memory.
         ensures other { IfErr result (λ e. value_named license_name licenses text.now ≡ None) }
         ensures printed { IfOk result (λ l. license_name l ≡ text.now) }
         ensures read_again { IfOk result (λ l. license_of (license_name l) ≡ l) }
@@ -46,14 +46,14 @@ impl License {
         }
     }
 
-    /// The license of an advisory that names none, which is `CC0-1.0`.
+    /// Returns the license of an advisory without the key `license`: `CC0-1.0`.
     pub fn default() -> License
         ensures { result ≡ default_license }
     {
         License::CcZero10
     }
 
-    /// The SPDX identifier, as `from_str` reads it.
+    /// Returns the SPDX identifier, as `from_str` reads it.
     pub fn spdx(&self) -> &str
         ensures value { result.now ≡ license_name self.now }
         ensures read { (license_of result.now ≡ self.now) ⊎ ((text : List ℕ) × (self.now ≡ License.Other text)) }
@@ -65,7 +65,7 @@ impl License {
         }
     }
 
-    /// An equal license.
+    /// Returns an equal license.
     ///
     /// # Errors
     ///

@@ -1,25 +1,25 @@
-//! Numbers inside of texts, and texts of three parts.
+//! Numbers inside texts, and texts with three parts.
 
 ghost use Rattle.std.specs.Prelude.{◌≡◌, ◌<◌, ◌^◌, IfSome, option_map};
 ghost use Rattle.std.specs.Char.{is_ascii_digit};
 ghost use Rattle.std.specs.List.{list_all};
 ghost use Rattle.rustsec_texts.specs.Numbers.{digits_of, number_of, three_parts};
 
-/// The number of 32 bits that a text writes: a plus or none, then digits.
+/// Parses a number of 32 bits: an optional plus, then digits.
 pub(crate) fn number(text: &str) -> Option<u32>
     ensures { result ≡ number_of text.now }
 {
     text.parse().ok()
 }
 
-/// Whether each byte is a digit.
+/// Returns whether each byte is a digit.
 fn are_digits(bytes: &[u8]) -> bool
     ensures { result ≡ list_all is_ascii_digit bytes.now }
 {
     bytes.iter().all(|b| b.is_ascii_digit())
 }
 
-/// The number that exactly so many digits write.
+/// Parses a number that is written with exactly `count` digits.
 pub(crate) fn digits(text: &str, count: usize) -> Option<u32>
     ensures value { result ≡ digits_of count text.now }
     ensures bound { IfSome result (λ n. n < 10 ^ count) }
@@ -30,7 +30,7 @@ pub(crate) fn digits(text: &str, count: usize) -> Option<u32>
     number(text)
 }
 
-/// The parts of a text between its dashes, if these are three.
+/// Returns the parts of a text between its dashes, if there are three.
 pub(crate) fn three_parts(text: &str) -> Option<(&str, &str, &str)>
     ensures { option_map (λ p. (p.0.now, p.1.now, p.2.now)) result ≡ three_parts text.now }
 {

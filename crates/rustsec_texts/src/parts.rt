@@ -1,4 +1,4 @@
-// The parts of an advisory file.
+//! The parts of an advisory file.
 
 ghost use Rattle.std.specs.Prelude.{◌≡◌, ◌↔◌, IfErr, IfOk, MatchOption, Some, None};
 ghost use Rattle.rustsec_versions.specs.Failure.{IsRefusal};
@@ -14,23 +14,23 @@ use std::alloc::Global;
 pub struct Parts<'a> {
     /// The front matter, which is TOML.
     pub front_matter: &'a str,
-    /// The Markdown below it, from the title on.
+    /// The Markdown after the front matter, from the title on.
     pub markdown: &'a str,
     /// The title.
     pub title: &'a str,
-    /// What stands below the title, which is Markdown.
+    /// The Markdown after the title.
     pub description: &'a str,
 }
 
-/// How many bytes of a text that begins wrongly its message shows.
+/// The number of bytes of a text with a wrong beginning that its message shows.
 const SHOWN: usize = 20;
 
 impl<'a> Parts<'a> {
-    /// The parts of a text. They are cut out of it, which takes no memory; `alloc` is for messages alone.
+    /// Returns the parts of a text: slices of it, so they take no memory. `alloc` is for messages alone.
     ///
     /// # Errors
     ///
-    /// `Parse` for a text without them; `OutOfMemory` in its place if there is no memory for the message.
+    /// `Parse` for a text without these parts; `OutOfMemory` instead if there is no memory for the message.
     pub fn parse(alloc: Global, text: &'a str) -> Result<Parts<'a>>
         ensures ok { IfOk result (λ p. parts_of text.now ≡ Some (record {
           front_matter = p.front_matter.now;
@@ -40,7 +40,7 @@ impl<'a> Parts<'a> {
         })) }
         ensures err { IfErr result (IsRefusal ErrorKind.Parse (parts_of text.now ≡ None)) }
 
-        // Any error, of memory too, means that the text has no parts.
+        // Success takes no memory, so any error means that the text does not have these parts.
         ensures none { IfErr result (λ e. parts_of text.now ≡ None) }
         ensures wrong_start { IfErr result (λ e. behind opening text.now ≡ None → IsRefusal ErrorKind.Parse (ShowsBeginning text.now e) e) }
         ensures slices { IfOk result (λ p. IsSliceOf p.front_matter.now text.now × IsSliceOf p.markdown.now text.now
@@ -84,21 +84,21 @@ impl<'a> Parts<'a> {
     }
 }
 
-/// What follows a pattern, if the text begins with it.
+/// Returns the text after a pattern, if the text begins with it.
 fn behind<'a>(text: &'a str, pattern: &'static str) -> Option<&'a str>
     ensures { MatchOption result (behind pattern.now text.now ≡ None) (λ rest. behind pattern.now text.now ≡ Some rest.now) }
 {
     text.strip_prefix(pattern)
 }
 
-/// What stands before the first place of a pattern, and what stands behind it.
+/// Returns the text before the first place of a pattern, and the text after it.
 fn cut_at<'a>(text: &'a str, pattern: &'static str) -> Option<(&'a str, &'a str)>
     ensures { MatchOption result (cut_at pattern.now text.now ≡ None) (λ c. cut_at pattern.now text.now ≡ Some (c.0.now, c.1.now)) }
 {
     text.split_once(pattern)
 }
 
-/// The refusal of a text that does not begin as an advisory file, which shows how it begins.
+/// Returns the error for a text that does not begin as an advisory file; it shows the beginning.
 fn wrong_start(alloc: Global, text: &str) -> Error
     ensures { IsRefusal ErrorKind.Parse (ShowsBeginning text.now result) result }
 {

@@ -1,4 +1,4 @@
-// Kinds of warnings.
+//! Kinds of warnings.
 
 ghost use Rattle.std.specs.Prelude.{◌≡◌, IfErr, IfOk, Some, None};
 ghost use Rattle.rustsec_versions.specs.Failure.{IsRefusal};
@@ -18,12 +18,12 @@ pub enum WarningKind {
     Unmaintained,
     /// A package that is not sound.
     Unsound,
-    /// A version that was withdrawn from its registry.
+    /// A version that was yanked from its registry.
     Yanked,
 }
 
 impl WarningKind {
-    /// The text of the kind, as `from_str` reads it.
+    /// Returns the text of the kind, as `from_str` reads it.
     pub fn as_str(&self) -> &'static str
         ensures value { result.now ≡ warning_kind_name self.now }
         ensures read { warning_kind_of result.now ≡ Some self.now }
@@ -36,16 +36,16 @@ impl WarningKind {
         }
     }
 
-    /// The kind that a text names.
+    /// Parses the name of a kind of warnings.
     ///
     /// # Errors
     ///
-    /// `Parse` for any other text; `OutOfMemory` in its place if there is no memory for the message.
+    /// `Parse` for any other text; `OutOfMemory` instead if there is no memory for the message.
     pub fn from_str(alloc: Global, text: &str) -> Result<WarningKind>
         ensures ok { IfOk result (λ k. warning_kind_of text.now ≡ Some k) }
         ensures err { IfErr result (IsRefusal ErrorKind.Parse (warning_kind_of text.now ≡ None)) }
 
-        // Any error, of memory too, means that the text is none of the names.
+        // Success takes no memory, so any error means that the text is not one of the names.
         ensures none { IfErr result (λ e. warning_kind_of text.now ≡ None) }
         ensures printed { IfOk result (λ k. warning_kind_name k ≡ text.now) }
     {

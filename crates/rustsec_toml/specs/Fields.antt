@@ -1,4 +1,4 @@
--- What a table of a TOML document holds at its keys.
+-- The values at the keys of a table of a TOML document.
 use Rattle.std.specs.Prelude.{ℕ, List, [], ◌∷◌, Option, Some, None}
 use Rattle.toml.specs.Data.{Data, Items, no_items, item, Members, get_member, as_array, as_str}
 use Rattle.rustsec_values.specs.Reading.{◌>>=◌, read_all, read_optional}
@@ -8,15 +8,15 @@ abbrev pub list_of : Items → List Data
 list_of no_items = []
 list_of (item d ds) = d ∷ list_of ds
 
--- a string that a reader takes
+-- a string that a reader accepts
 abbrev pub text : {A : Type 0} → (List ℕ → Option A) → Data → Option A
 text f d = as_str d >>= f
 
--- an array of which a reader takes each value
+-- an array whose values a reader accepts
 abbrev pub every : {A : Type 0} → (Data → Option A) → Data → Option (List A)
 every f d = as_array d >>= λ ds. read_all f (list_of ds)
 
--- the value at a key that must be there
+-- the value at a required key
 abbrev pub required : {A : Type 0} → (Data → Option A) → List ℕ → Members → Option A
 required f key t = get_member key t >>= f
 
@@ -24,7 +24,7 @@ required f key t = get_member key t >>= f
 abbrev pub optional : {A : Type 0} → (Data → Option A) → List ℕ → Members → Option (Option A)
 optional f key t = read_optional f (get_member key t)
 
--- a value that may be missing, or what stands for it
+-- a value that may be missing, or its default
 abbrev pub value_or : {A : Type 0} → A → (Data → Option A) → Option Data → Option A
 value_or default f None = Some default
 value_or default f (Some d) = f d

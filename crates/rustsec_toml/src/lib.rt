@@ -1,5 +1,5 @@
-//! What the tables of a TOML document hold at their keys. Each refusal names the key and its table;
-//! that of another kind of value also what was found there and what was expected.
+//! Reads the values at the keys of a TOML table. Each error names the key and its table; the error for another kind
+//! of value also says what was found and what was expected.
 #![tactic(auto)]
 
 mod section;

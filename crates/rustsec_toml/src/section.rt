@@ -1,4 +1,4 @@
-// A table of a document, and what it holds at its keys.
+//! A table of a document, and typed access to the values at its keys.
 
 ghost use Rattle.std.specs.Prelude.{◌≡◌, [], IfErr, IfOk, None, Some, false, option_map};
 ghost use Rattle.toml.specs.Data.{as_array, as_bool, as_str, as_table, get_member};
@@ -15,23 +15,23 @@ use std::fmt::Formatter;
 use toml::value::Array;
 use toml::{Table, Value};
 
-/// A table of a document, and the name that refusals give it, such as `[advisory]`.
+/// A table of a document, and its name in errors, such as `[advisory]`.
 #[derive(Clone, Copy)]
 pub struct Section<'a> {
     /// The table.
     pub table: &'a Table,
-    /// The name that refusals give it.
+    /// The name of the table in errors.
     pub name: &'a str,
 }
 
-/// The value at a key of a table.
+/// Returns the value at a key of a table, if any.
 fn member<'a>(table: &'a Table, key: &str) -> Option<&'a Value>
     ensures { option_map (λ v. view v.now) result ≡ get_member key.now (table_view table.now) }
 {
     table.get(key)
 }
 
-/// A refusal with this message, which may have found no memory.
+/// Returns a `Parse` error with this message, or `OutOfMemory` if the message could not be built.
 fn refused(alloc: Global, message: std::result::Result<String, AllocError>) -> Error
     ensures { IsOfKind ErrorKind.Parse result }
 {
@@ -41,7 +41,7 @@ fn refused(alloc: Global, message: std::result::Result<String, AllocError>) -> E
     }
 }
 
-/// How a value reads in a message: a string as it is, another value as TOML prints it.
+/// Returns a value as a message shows it: a string without quotes, another value as TOML prints it.
 fn printed(alloc: Global, value: &Value) -> std::result::Result<String, AllocError> {
     if let Some(text) = value.as_str() {
         return String::from_str(alloc, text);
@@ -53,7 +53,7 @@ fn printed(alloc: Global, value: &Value) -> std::result::Result<String, AllocErr
     }
 }
 
-/// What the strings of an array give, in order.
+/// Parses the strings of an array, in order.
 fn texts<T: FromText>(
     alloc: Global,
     section: Section<'_>,
@@ -74,14 +74,14 @@ fn texts<T: FromText>(
 }
 
 impl<'a> Section<'a> {
-    /// The value at a key.
+    /// Returns the value at a key, if any.
     pub fn get(self, key: &str) -> Option<&'a Value>
         ensures { option_map (λ v. view v.now) result ≡ get_member key.now (table_view self.entry.table.now) }
     {
         member(self.table, key)
     }
 
-    /// The refusal of a table without a key that must be there.
+    /// Returns the error for a table without a required key.
     pub fn missing(self, alloc: Global, key: &str) -> Error
         ensures { IsOfKind ErrorKind.Parse result }
     {
@@ -89,8 +89,8 @@ impl<'a> Section<'a> {
         refused(alloc, format!(in alloc; "key `{key}` is missing in {name}"))
     }
 
-    /// The refusal of a value that is not of the expected kind. Its message names the key, the table and
-    /// the value.
+    /// Returns the error for a value that is not of the expected kind. Its message names the key, the table and the
+    /// value.
     pub fn unexpected(self, alloc: Global, key: &str, found: &Value, expected: &str) -> Error
         ensures { IsOfKind ErrorKind.Parse result }
     {
@@ -104,7 +104,7 @@ impl<'a> Section<'a> {
         }
     }
 
-    /// A refusal of a value as that of its key: the key and the table stand before its message.
+    /// Adds the key and the table before the message of an error about the value at the key.
     pub fn refused_at(self, alloc: Global, key: &str, error: &Error) -> Error
         ensures kind { IsOfKind error.now.kind result }
         ensures memory { IsMemory error.now → IsMemory result }
@@ -116,11 +116,11 @@ impl<'a> Section<'a> {
         }
     }
 
-    /// The table that a value at a key must be.
+    /// Returns the table that a value at a key must be.
     ///
     /// # Errors
     ///
-    /// `Parse` if the value is no table; else `OutOfMemory`, for the message.
+    /// `Parse` if the value is not a table; else `OutOfMemory`, for the message.
     pub fn table_of(self, alloc: Global, key: &str, value: &'a Value) -> Result<&'a Table>
         ensures ok { IfOk result (λ t. as_table (view value.now) ≡ Some (table_view t.now)) }
         ensures err { IfErr result (IsRefusal ErrorKind.Parse (as_table (view value.now) ≡ None)) }
@@ -131,11 +131,11 @@ impl<'a> Section<'a> {
         }
     }
 
-    /// The array that a value at a key must be.
+    /// Returns the array that a value at a key must be.
     ///
     /// # Errors
     ///
-    /// `Parse` if the value is no array; else `OutOfMemory`, for the message. `expected` is for the
+    /// `Parse` if the value is not an array; else `OutOfMemory`, for the message. `expected` is for the
     /// message alone.
     pub fn array_of(
         self,
@@ -153,11 +153,11 @@ impl<'a> Section<'a> {
         }
     }
 
-    /// The string that a value at a key must be.
+    /// Returns the string that a value at a key must be.
     ///
     /// # Errors
     ///
-    /// `Parse` if the value is no string; else `OutOfMemory`, for the message.
+    /// `Parse` if the value is not a string; else `OutOfMemory`, for the message.
     pub fn string_of(self, alloc: Global, key: &str, value: &'a Value) -> Result<&'a str>
         ensures ok { IfOk result (λ s. as_str (view value.now) ≡ Some s.now) }
         ensures err { IfErr result (IsRefusal ErrorKind.Parse (as_str (view value.now) ≡ None)) }
@@ -168,11 +168,11 @@ impl<'a> Section<'a> {
         }
     }
 
-    /// What a type reads of a text that stands at a key.
+    /// Parses a text that was found at a key.
     ///
     /// # Errors
     ///
-    /// `Parse` if the type takes no such text; else `OutOfMemory`.
+    /// `Parse` if the type does not accept the text; else `OutOfMemory`.
     pub fn read<T: FromText>(self, alloc: Global, key: &str, text: &str) -> Result<T>
         ensures ok { IfOk result (λ x. T.reads text.now ≡ Some x) }
         ensures err { IfErr result (IsRefusal ErrorKind.Parse (T.reads text.now ≡ None)) }
@@ -183,11 +183,11 @@ impl<'a> Section<'a> {
         }
     }
 
-    /// What a type reads of a value at a key, which must be a string.
+    /// Parses a value at a key, which must be a string.
     ///
     /// # Errors
     ///
-    /// `Parse` if the value is no string, or the type takes no such text; else `OutOfMemory`.
+    /// `Parse` if the value is not a string, or the type does not accept it; else `OutOfMemory`.
     pub fn text_of<T: FromText>(self, alloc: Global, key: &str, value: &Value) -> Result<T>
         ensures ok { IfOk result (λ x. text T.reads (view value.now) ≡ Some x) }
         ensures err { IfErr result (IsRefusal ErrorKind.Parse (text T.reads (view value.now) ≡ None)) }
@@ -198,11 +198,11 @@ impl<'a> Section<'a> {
         }
     }
 
-    /// The table at a key that must hold one.
+    /// Returns the table at a required key.
     ///
     /// # Errors
     ///
-    /// `Parse` if the key is missing, or its value is no table; else `OutOfMemory`, for the message.
+    /// `Parse` if the key is missing, or its value is not a table; else `OutOfMemory`, for the message.
     pub fn table_at(self, alloc: Global, key: &str) -> Result<&'a Table>
         ensures ok { IfOk result (λ t. required as_table key.now (table_view self.entry.table.now) ≡ Some (table_view t.now)) }
         ensures err { IfErr result (IsRefusal ErrorKind.Parse (required as_table key.now (table_view self.entry.table.now) ≡ None)) }
@@ -213,11 +213,11 @@ impl<'a> Section<'a> {
         }
     }
 
-    /// The string at a key that must hold one.
+    /// Returns the string at a required key.
     ///
     /// # Errors
     ///
-    /// `Parse` if the key is missing, or its value is no string; else `OutOfMemory`, for the message.
+    /// `Parse` if the key is missing, or its value is not a string; else `OutOfMemory`, for the message.
     pub fn string_at(self, alloc: Global, key: &str) -> Result<&'a str>
         ensures ok { IfOk result (λ s. required as_str key.now (table_view self.entry.table.now) ≡ Some s.now) }
         ensures err { IfErr result (IsRefusal ErrorKind.Parse (required as_str key.now (table_view self.entry.table.now) ≡ None)) }
@@ -228,11 +228,11 @@ impl<'a> Section<'a> {
         }
     }
 
-    /// The string at a key that may be missing.
+    /// Returns the string at a key that may be missing.
     ///
     /// # Errors
     ///
-    /// `Parse` if its value is no string; else `OutOfMemory`, for the message.
+    /// `Parse` if its value is not a string; else `OutOfMemory`, for the message.
     pub fn optional_string_at(self, alloc: Global, key: &str) -> Result<Option<&'a str>>
         ensures ok { IfOk result (λ s. optional as_str key.now (table_view self.entry.table.now) ≡ Some (option_map (λ t. t.now) s)) }
         ensures err { IfErr result (IsRefusal ErrorKind.Parse (optional as_str key.now (table_view self.entry.table.now) ≡ None)) }
@@ -244,11 +244,11 @@ impl<'a> Section<'a> {
         Ok(Some(text))
     }
 
-    /// The string at a key, empty if the key is missing.
+    /// Returns the string at a key, empty if the key is missing.
     ///
     /// # Errors
     ///
-    /// `Parse` if its value is no string; else `OutOfMemory`, for the message.
+    /// `Parse` if its value is not a string; else `OutOfMemory`, for the message.
     pub fn string_or_empty(self, alloc: Global, key: &str) -> Result<&'a str>
         ensures ok { IfOk result (λ s. defaulted [] as_str key.now (table_view self.entry.table.now) ≡ Some s.now) }
         ensures err { IfErr result (IsRefusal ErrorKind.Parse (defaulted [] as_str key.now (table_view self.entry.table.now) ≡ None)) }
@@ -259,11 +259,11 @@ impl<'a> Section<'a> {
         }
     }
 
-    /// The boolean at a key, false if the key is missing.
+    /// Returns the boolean at a key, false if the key is missing.
     ///
     /// # Errors
     ///
-    /// `Parse` if its value is no boolean; else `OutOfMemory`, for the message.
+    /// `Parse` if its value is not a boolean; else `OutOfMemory`, for the message.
     pub fn bool_or_false(self, alloc: Global, key: &str) -> Result<bool>
         ensures ok { IfOk result (λ b. defaulted false as_bool key.now (table_view self.entry.table.now) ≡ Some b) }
         ensures err { IfErr result (IsRefusal ErrorKind.Parse (defaulted false as_bool key.now (table_view self.entry.table.now) ≡ None)) }
@@ -277,11 +277,11 @@ impl<'a> Section<'a> {
         }
     }
 
-    /// What a type reads of the string at a key that must hold one.
+    /// Parses the string at a required key.
     ///
     /// # Errors
     ///
-    /// `Parse` if the key is missing, its value is no string, or the type takes no such text; else
+    /// `Parse` if the key is missing, its value is not a string, or the type does not accept it; else
     /// `OutOfMemory`.
     pub fn text_at<T: FromText>(self, alloc: Global, key: &str) -> Result<T>
         ensures ok { IfOk result (λ x. required (text T.reads) key.now (table_view self.entry.table.now) ≡ Some x) }
@@ -293,11 +293,11 @@ impl<'a> Section<'a> {
         }
     }
 
-    /// What a type reads of the string at a key that may be missing.
+    /// Parses the string at a key that may be missing.
     ///
     /// # Errors
     ///
-    /// `Parse` if its value is no string, or the type takes no such text; else `OutOfMemory`.
+    /// `Parse` if its value is not a string, or the type does not accept it; else `OutOfMemory`.
     pub fn optional_text_at<T: FromText>(self, alloc: Global, key: &str) -> Result<Option<T>>
         ensures ok { IfOk result (λ x. optional (text T.reads) key.now (table_view self.entry.table.now) ≡ Some x) }
         ensures err { IfErr result (IsRefusal ErrorKind.Parse (optional (text T.reads) key.now (table_view self.entry.table.now) ≡ None)) }
@@ -309,11 +309,11 @@ impl<'a> Section<'a> {
         Ok(Some(read))
     }
 
-    /// What a type reads of the string at a key, or what stands for it if the key is missing.
+    /// Parses the string at a key, or returns the default if the key is missing.
     ///
     /// # Errors
     ///
-    /// `Parse` if its value is no string, or the type takes no such text; else `OutOfMemory`.
+    /// `Parse` if its value is not a string, or the type does not accept it; else `OutOfMemory`.
     pub fn text_or<T: FromText>(self, alloc: Global, key: &str, default: T) -> Result<T>
         ensures ok { IfOk result (λ x. defaulted default (text T.reads) key.now (table_view self.entry.table.now) ≡ Some x) }
         ensures err { IfErr result (IsRefusal ErrorKind.Parse (defaulted default (text T.reads) key.now (table_view self.entry.table.now) ≡ None)) }
@@ -324,11 +324,11 @@ impl<'a> Section<'a> {
         }
     }
 
-    /// What a type reads of the strings of the array at a key, in order; none if the key is missing.
+    /// Parses the strings of the array at a key, in order; an empty list if the key is missing.
     ///
     /// # Errors
     ///
-    /// `Parse` if its value is no array of strings, or the type takes no such text; else `OutOfMemory`.
+    /// `Parse` if its value is not an array of strings, or the type does not accept one; else `OutOfMemory`.
     pub fn texts_at<T: FromText>(self, alloc: Global, key: &str) -> Result<Items<T>>
         ensures ok { IfOk result (λ xs. defaulted [] (every (text T.reads)) key.now (table_view self.entry.table.now) ≡ Some xs) }
         ensures err { IfErr result (IsRefusal ErrorKind.Parse (defaulted [] (every (text T.reads)) key.now (table_view self.entry.table.now) ≡ None)) }

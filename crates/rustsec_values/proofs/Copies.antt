@@ -2,7 +2,7 @@
 use Rattle.std.proofs.Common.{◌≡◌, List, [], ◌∷◌, map, refl}
 use Rattle.std.specs.List.{AllZip}
 
--- where each clone looks like its source, so does the list
+-- if each clone looks like its source, so does the list
 pub map-clones : {A B : Type 0} (R : A → A → Type 0) (view : A → B) → ((x y : A) → R x y → view y ≡ view x)
     → (xs ys : List A) → AllZip R xs ys → map view ys ≡ map view xs
 map-clones R view each [] [] h = refl

@@ -1,4 +1,4 @@
--- How reading a list goes on, value by value.
+-- Reading a list value by value.
 use Rattle.std.proofs.Common.{◌≡◌, ℕ, zero, suc, ◌+◌, ◌<◌, List, [], ◌∷◌, ◌++◌, length, get_or, take, map, Option, Some, None, refl, sym, arith}
 use Rattle.std.proofs.lemmas.List.{get_or-map, length-map, map_more, take_more}
 use Rattle.rustsec_values.specs.Reading.{before, read_all}
@@ -43,7 +43,7 @@ module _ {A B : Type 0} (f : A → Option B) where
   pub read_all-stop : (xs : List A) (i : ℕ) (x : A) → i < length xs → x ≡ get_or xs i x → f x ≡ None → read_all f xs ≡ None
   read_all-stop xs i x l at e = read_all-stops xs i x l (rw (← at) e)
 
--- the same over what contracts see of the values
+-- likewise, for what contracts see of the values
 module _ {V A B : Type 0} (view : V → A) (f : A → Option B) where
   pub read_map-more : (vs : List V) (i : ℕ) (v : V) (ys : List B) (y : B) → i < length vs → v ≡ get_or vs i v
       → read_all f (map view (take i vs)) ≡ Some ys → f (view v) ≡ Some y → read_all f (map view (take (i + 1) vs)) ≡ Some (ys ++ y ∷ [])

@@ -1,4 +1,4 @@
--- Lists whose elements are seen by a function: what rises or has no double of the one is so of the other.
+-- Lists whose elements are seen by a function: if the images rise or have no repeats, so do the elements.
 use Rattle.std.proofs.Common.{◌≡◌, ◌∙◌, Bool, true, false, cond, List, [], ◌∷◌, Ordering, Less, map, refl}
 use Rattle.std.specs.List.{AllByRecursion, dedup, dedup_from}
 use Rattle.std.specs.List.Sorted.{IsStrictlySortedBy}
@@ -8,7 +8,7 @@ module _ {A B : Type 0} (f : A → B) where
   all-map P [] h = tt
   all-map P (x ∷ xs) h = (h.0, all-map P xs h.1)
 
-  -- what rises by what is seen of each element, seen
+  -- a list that rises by the images of its elements has rising images
   pub rise-map : (R : B → B → Ordering) (xs : List A) → IsStrictlySortedBy (λ x y. R (f x) (f y)) xs → IsStrictlySortedBy R (map f xs)
   unfolding IsStrictlySortedBy
   rise-map R [] h = tt

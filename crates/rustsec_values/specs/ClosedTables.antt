@@ -3,6 +3,6 @@ use Rattle.std.specs.Prelude.{ℕ, List, Option}
 use Rattle.std.specs.List.{find}
 use Rattle.std.specs.Str.{bytes_eq}
 
--- the first of some values whose name is this text
+-- the first of some values whose name is this text, if any
 abbrev pub value_named : {A : Type 0} → (A → List ℕ) → List A → List ℕ → Option A
 value_named name values text = find (λ x. bytes_eq (name x) text) values

@@ -1,4 +1,4 @@
--- Where `==` decides equality of values that are made of others.
+-- `==` decides equality of a value if it decides equality of its parts.
 use Rattle.std.specs.Prelude.{◌≡◌, Bool, true, false, ◌&&◌, Option, Some, None, refl}
 use Rattle.std.specs.Bool.{Decides}
 use Rattle.std.specs.Option.{option_eq}

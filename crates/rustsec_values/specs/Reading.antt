@@ -1,32 +1,32 @@
--- Readers that may refuse: what one gives of a value, and what it gives of each value of a list.
+-- Readers that may refuse: their result for a value, and for each value of a list.
 use Rattle.std.specs.Prelude.{Bool, if◌then◌else◌, List, [], ◌∷◌, Option, Some, None, Result, Ok, Err, option_and_then}
 
 infixl 10 ◌>>=◌
--- what a second reader gives of what a first one gave
+-- the result of a second reader for the result of a first one
 abbrev pub ◌>>=◌ : {A B : Type 0} → Option A → (A → Option B) → Option B
 o >>= f = option_and_then f o
 
--- the value of an answer, where it is no refusal
+-- the value of a result, none if it is an error
 abbrev pub value_of : {A E : Type 0} → Result A E → Option A
 value_of (Ok x) = Some x
 value_of (Err e) = None
 
--- a value before a list, where both were read
+-- a value before a list, if both were read
 abbrev pub before : {B : Type 0} → Option B → Option (List B) → Option (List B)
 before None rest = None
 before (Some y) None = None
 before (Some y) (Some ys) = Some (y ∷ ys)
 
--- what a reader gives of each value of a list, in order, where it refuses none
+-- the results of a reader for each value of a list, in order, if it refuses none
 unfoldable pub read_all : {A B : Type 0} → (A → Option B) → List A → Option (List B)
 read_all f [] = Some []
 read_all f (x ∷ xs) = before (f x) (read_all f xs)
 
--- what a reader gives of a value that may be missing
+-- the result of a reader for a value that may be missing
 abbrev pub read_optional : {A B : Type 0} → (A → Option B) → Option A → Option (Option B)
 read_optional f None = Some None
 read_optional f (Some x) = f x >>= λ y. Some (Some y)
 
--- a value, where a test holds
+-- a value, if a test holds
 abbrev pub only_if : {A : Type 0} → Bool → Option A → Option A
 only_if test o = if test then o else None

@@ -1,4 +1,4 @@
-// Closed tables: types of finitely many values, each with a name.
+//! Closed tables: types of finitely many values, each with a name.
 
 ghost use Rattle.std.specs.Prelude.{◌≡◌, ℕ, IfSome, List};
 ghost use Rattle.rustsec_values.specs.ClosedTables.{value_named};
@@ -9,16 +9,16 @@ pub trait Named: Copy + 'static {
 
     ghost values: { List Self };
 
-    /// All values, in their order.
+    /// Returns all values, in their order.
     fn all() -> &'static [Self]
         ensures { result.now ≡ values };
 
-    /// The name.
+    /// Returns the name.
     fn name(&self) -> &'static str
         ensures { result.now ≡ name_of self.now };
 }
 
-/// The first value whose name is this text, where one has it.
+/// Returns the first value whose name is this text, if any.
 pub fn value_named<T: Named>(text: &str) -> Option<T>
     ensures value { result ≡ value_named T.name_of T.values text.now }
     ensures name { IfSome result (λ x. T.name_of x ≡ text.now) }

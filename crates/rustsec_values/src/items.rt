@@ -1,4 +1,4 @@
-// A list that contracts see as the list of its elements.
+//! A list that contracts see as the list of its elements.
 
 ghost use Rattle.std.specs.Prelude.{◌≡◌, ◌==◌, ◌<◌, ◌^◌, ◌++◌, ◌∷◌, [], List, IfOk, OnOk, OnErr, length, slice_get};
 ghost use Rattle.std.specs.Cmp.Lexicographic.{lists_agrees, lists_equiv, lists_per, lists_po, lists_ties, lists_total, pointwise, pointwise_decides, slice_cmp, slice_partial_cmp};
@@ -29,7 +29,7 @@ impl<T> Model for Items<T> {
 }
 
 impl<T> Items<T> {
-    /// The empty list, which takes no memory.
+    /// Returns the empty list, which takes no memory.
     pub fn new(alloc: Global) -> Items<T>
         ensures { result ≡ [] }
     {
@@ -38,35 +38,35 @@ impl<T> Items<T> {
         }
     }
 
-    /// The elements as std's type.
+    /// Returns the elements as std's type.
     pub fn as_slice(&self) -> &[T]
         ensures { result.now ≡ self.now }
     {
         self.vector.as_slice()
     }
 
-    /// The number of elements.
+    /// Returns the number of elements.
     pub fn len(&self) -> usize
         ensures { result ≡ length self.now }
     {
         self.vector.len()
     }
 
-    /// Whether there is no element.
+    /// Returns whether the list is empty.
     pub fn is_empty(&self) -> bool
         ensures { result ≡ (length self.now == 0) }
     {
         self.vector.is_empty()
     }
 
-    /// The element at an index, where there is one.
+    /// Returns the element at an index, or `None` if the index is out of range.
     pub fn get(&self, index: usize) -> Option<&T>
         ensures { option_copied result ≡ slice_get self.now index }
     {
         self.vector.as_slice().get(index)
     }
 
-    /// The elements, in order.
+    /// Returns an iterator over the elements, in order.
     pub fn iter(&self) -> slice::Iter<'_, T>
         ensures rest { iter_rest result ≡ self.now }
         ensures bound { length (iter_rest result) < 2 ^ 64 }
@@ -84,14 +84,14 @@ impl<'a, T> IntoIterator for &'a Items<T> {
     ghost into_iter_gives = { λ v it. (iter_rest it ≡ v.now) × (length (iter_rest it) < 2 ^ 64)
         × EveryRun (iter_steps {A = T}) (λ p. ItemsMapTo p (λ x. x.now) (iter_rest p.from)) };
 
-    /// The elements, in order.
+    /// Returns an iterator over the elements, in order.
     fn into_iter(self) -> slice::Iter<'a, T> {
         self.iter()
     }
 }
 
 impl<T: Drop> Items<T> {
-    /// Puts an element at the end.
+    /// Appends an element.
     ///
     /// # Errors
     ///
@@ -110,7 +110,7 @@ impl<T> From<Vec<T>> for Items<T> {
 
     ghost from_gives = { λ vector items. items ≡ vector.items };
 
-    /// The elements of a vector, whose memory it takes over.
+    /// Converts a vector, whose memory it takes over.
     fn from(vector: Vec<T>) -> Items<T> {
         Items { vector }
     }
@@ -121,7 +121,7 @@ impl<T> From<Items<T>> for Vec<T> {
 
     ghost from_gives = { λ items vector. vector.items ≡ items };
 
-    /// The vector that holds the elements, with no copy.
+    /// Returns the vector that holds the elements, without a copy.
     fn from(items: Items<T>) -> Vec<T> {
         let Items { vector } = items;
         vector

@@ -1,10 +1,10 @@
-// The laws that tie what a type's traits do to what contracts see of its values.
+//! The laws that tie what a type's traits do to what contracts see of its values.
 
 ghost use Rattle.std.specs.Prelude.{◌≡◌};
 ghost use Rattle.std.specs.Bool.{Decides};
 ghost use Rattle.std.specs.declared.cmp.Ordering.{Ordering};
 
-/// A type whose clone, where there is memory for one, is the same value.
+/// A type whose clone, if memory suffices, is the same value.
 pub trait ExactClone: Clone {
     ghost exact: { (x y : Self) → Self.is_clone x y → y ≡ x };
 }
@@ -14,7 +14,7 @@ pub trait ExactEq: Eq {
     ghost decides: { (x y : Self) → Decides (Self.eq x y) (x ≡ y) };
 }
 
-/// A type whose order is a stated one.
+/// A type whose order is the one that a definition states.
 pub trait StatedOrder: Ord {
     ghost order: { Self → Self → Ordering };
 

@@ -1,6 +1,5 @@
-//! Small types over std's collections that contracts see as values: a text as its bytes, a list as its
-//! elements, a map as its entries. Two values are the same to a contract where these are, whatever
-//! memory they lie in.
+//! Small types over std's collections that contracts see as values: a text as its bytes, a list as its elements, a
+//! map as its entries. Two values are the same to a contract if these are, wherever they are in memory.
 #![tactic(auto)]
 
 mod beginning;

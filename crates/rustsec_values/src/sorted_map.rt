@@ -1,4 +1,4 @@
-// A map that contracts see as the list of its entries, in the order of the keys.
+//! A map that contracts see as the list of its entries, in the order of the keys.
 
 ghost use Rattle.std.specs.Prelude.{◌≡◌, ◌==◌, ◌&&◌, ◌<◌, ◌^◌, [], List, IfOk, OnOk, OnErr, length};
 ghost use Rattle.std.specs.BTreeMap.{insert_entry, is_at};
@@ -31,7 +31,7 @@ impl<K: Ord, V> Model for SortedMap<K, V> {
 }
 
 impl<K: Ord, V> SortedMap<K, V> {
-    /// The empty map, which takes no memory.
+    /// Returns the empty map, which takes no memory.
     pub fn new(alloc: Global) -> SortedMap<K, V>
         ensures { result ≡ [] }
     {
@@ -40,14 +40,14 @@ impl<K: Ord, V> SortedMap<K, V> {
         }
     }
 
-    /// The map as std's type.
+    /// Returns the map as std's type.
     pub fn as_map(&self) -> &BTreeMap<K, V>
         ensures { result.now.entries ≡ self.now }
     {
         &self.map
     }
 
-    /// The number of entries, whose keys rise.
+    /// Returns the number of entries, whose keys rise.
     pub fn len(&self) -> usize
         ensures len { result ≡ length self.now }
         ensures ordered { IsStrictlySortedBy K.cmp (keys_of self.now) }
@@ -55,21 +55,21 @@ impl<K: Ord, V> SortedMap<K, V> {
         self.map.len()
     }
 
-    /// Whether there is no entry.
+    /// Returns whether the map is empty.
     pub fn is_empty(&self) -> bool
         ensures { result ≡ (length self.now == 0) }
     {
         self.map.len() == 0
     }
 
-    /// The value at a key, where there is one.
+    /// Returns the value at a key, if any.
     pub fn get(&self, key: &K) -> Option<&V>
         ensures { option_copied result ≡ lookup (is_at (K.cmp key.now)) self.now }
     {
         self.map.get(key)
     }
 
-    /// The entries, in the order of the keys.
+    /// Returns an iterator over the entries, in the order of the keys.
     pub fn iter(&self) -> btree_map::Iter<'_, K, V>
         ensures rest { result ≡ self.now }
         ensures runs { ShowsInOrder (deref_pair {K = K} {X = V}) }
@@ -88,7 +88,7 @@ impl<'a, K: Ord, V> IntoIterator for &'a SortedMap<K, V> {
     ghost into_iter_gives = { λ m it. (it ≡ m.now) × (length m.now < 2 ^ 63) × ShowsInOrder (deref_pair {K = K} {X = V})
         × IsStrictlySortedBy K.cmp (keys_of m.now) };
 
-    /// The entries, in the order of the keys.
+    /// Returns an iterator over the entries, in the order of the keys.
     fn into_iter(self) -> btree_map::Iter<'a, K, V> {
         self.iter()
     }
@@ -114,7 +114,7 @@ impl<K: Ord, V> From<BTreeMap<K, V>> for SortedMap<K, V> {
 
     ghost from_gives = { λ map sorted. sorted ≡ map.entries };
 
-    /// The entries of a map, whose memory it takes over.
+    /// Converts a map of std, whose memory it takes over.
     fn from(map: BTreeMap<K, V>) -> SortedMap<K, V> {
         SortedMap { map }
     }
@@ -125,7 +125,7 @@ impl<K: Ord, V> From<SortedMap<K, V>> for BTreeMap<K, V> {
 
     ghost from_gives = { λ sorted map. map.entries ≡ sorted };
 
-    /// The map that holds the entries, with no copy.
+    /// Returns the map that holds the entries, without a copy.
     fn from(sorted: SortedMap<K, V>) -> BTreeMap<K, V> {
         let SortedMap { map } = sorted;
         map

@@ -1,4 +1,4 @@
-// Tests of elements, and what passes one.
+//! Predicates on elements, and the calls that keep the elements for which one holds.
 
 ghost use Rattle.std.specs.Prelude.{◌≡◌, Bool, map};
 ghost use Rattle.std.specs.List.{filter};
@@ -6,11 +6,11 @@ ghost use Rattle.std.specs.List.{filter};
 use crate::items::Items;
 use crate::sorted_map::SortedMap;
 
-/// A test of elements, whose answer at each one a contract knows.
+/// A predicate on elements, whose answer for each one a contract knows.
 pub trait Test<T> {
     ghost passes: { Self → T → Bool };
 
-    /// Whether an element passes.
+    /// Returns whether an element passes.
     fn passes(&self, element: &T) -> bool
         ensures { result ≡ Self.passes self.now element.now };
 }
@@ -25,8 +25,8 @@ impl<T: Drop> Items<T> {
 }
 
 impl<K: Ord + Drop, T: Drop> SortedMap<K, Items<T>> {
-    /// Keeps of each list the elements that pass a test, in their order, and every key, also where its
-    /// list becomes empty. It takes no memory.
+    /// Keeps the elements of each list that pass a test, in their order, and every key, even if its list becomes
+    /// empty. It takes no memory.
     pub fn retain_in_each<P: Test<T>>(&mut self, test: &P)
         ensures { self.new ≡ map (λ e. (e.0, filter (P.passes test.now) e.1)) self.old }
     {

@@ -1,4 +1,4 @@
-// A text that contracts see as the list of its bytes.
+//! A text that contracts see as the list of its bytes.
 
 ghost use Rattle.std.specs.Prelude.{◌≡◌, ◌==◌, [], List, ℕ, Some, IfOk, nat_eq, option_copied, refl, string_bytes, length};
 ghost use Rattle.std.proofs.Common.{rules};
@@ -29,7 +29,7 @@ impl Model for Text {
 }
 
 impl Text {
-    /// The empty text, which takes no memory.
+    /// Returns the empty text, which takes no memory.
     pub fn new(alloc: Global) -> Text
         ensures { result ≡ [] }
     {
@@ -38,7 +38,7 @@ impl Text {
         }
     }
 
-    /// A copy of a text.
+    /// Copies a text.
     ///
     /// # Errors
     ///
@@ -50,7 +50,7 @@ impl Text {
         Ok(Text { string })
     }
 
-    /// A copy of a text that may be missing.
+    /// Copies a text that may be missing.
     ///
     /// # Errors
     ///
@@ -67,21 +67,21 @@ impl Text {
         }
     }
 
-    /// The text as std's type.
+    /// Returns the text as std's type.
     pub fn as_str(&self) -> &str
         ensures { result.now ≡ self.now }
     {
         self.string.as_str()
     }
 
-    /// The number of bytes.
+    /// Returns the number of bytes.
     pub fn len(&self) -> usize
         ensures { result ≡ length self.now }
     {
         self.as_str().len()
     }
 
-    /// Whether there is no byte.
+    /// Returns whether the text is empty.
     pub fn is_empty(&self) -> bool
         ensures { result ≡ (length self.now == 0) }
     {
@@ -94,7 +94,7 @@ impl From<String> for Text {
 
     ghost from_gives = { λ string text. text ≡ string_bytes string };
 
-    /// The text of a string, whose memory it takes over.
+    /// Converts a string, whose memory it takes over.
     fn from(string: String) -> Text {
         Text { string }
     }
@@ -105,7 +105,7 @@ impl From<Text> for String {
 
     ghost from_gives = { λ text string. string_bytes string ≡ text };
 
-    /// The string that holds the text, with no copy.
+    /// Returns the string that holds the text, without a copy.
     fn from(text: Text) -> String {
         let Text { string } = text;
         string

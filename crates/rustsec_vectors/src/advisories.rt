@@ -1,4 +1,4 @@
-// Advisory files: which texts are advisories, and what is read of them.
+//! Advisory files: which texts are advisories, and what is read of them.
 
 use rustsec_advisory::{Address, Advisory, Affected, Metadata};
 use rustsec_fixtures::{VALID, acceptance, acceptance_with, changed, kind_of};
@@ -13,14 +13,14 @@ use std::rt::Files;
 use std::test::Fail;
 use std::{fs, str};
 
-/// Whether a text is the same advisory as the valid one.
+/// Returns whether a text is the same advisory as the valid one.
 fn is_valid_advisory(alloc: Global, text: &str) -> Result<bool, Fail> {
     let advisory = Advisory::from_str(alloc, text)?;
     let valid = Advisory::from_str(alloc, VALID)?;
     Ok(advisory == valid)
 }
 
-/// Whether the valid advisory stays the same with its first place of a text changed.
+/// Returns whether the valid advisory stays the same with its first place of a text changed.
 fn stays(alloc: Global, old: &str, new: &str) -> Result<bool, Fail> {
     let text = changed(alloc, VALID, old, new)?;
     is_valid_advisory(alloc, &text)
@@ -33,7 +33,7 @@ fn advisory_table_line(rt: HostRuntime) -> Result<(), Fail> {
     Ok(())
 }
 
-/// Checks whether the valid advisory is one still with its first place of a text changed.
+/// Checks whether the valid advisory is still one with its first place of a text changed.
 fn expect_changes<T: AllocGlobal + Abort>(rt: &T, rows: &[(&str, &str, bool)]) -> Result<(), Fail> {
     for (old, new, accepted) in rows {
         let found = acceptance_with(rt.alloc(), old, new)?;
@@ -135,7 +135,7 @@ fn advisory_platforms_and_functions_that_are_refused(rt: HostRuntime) -> Result<
     )
 }
 
-/// Whether an advisory's texts and its date are those of the valid one.
+/// Returns whether an advisory's texts and its date are those of the valid one.
 fn has_texts(advisory: &Advisory) -> bool {
     advisory.id().as_str() == "RUSTSEC-2001-2101"
         && advisory.metadata.package.as_str() == "base"
@@ -144,12 +144,12 @@ fn has_texts(advisory: &Advisory) -> bool {
         && advisory.date().as_str() == "2001-02-03"
 }
 
-/// Whether an ID is the valid advisory's alias.
+/// Returns whether an ID is the valid advisory's alias.
 fn is_alias(alias: &Id) -> bool {
     alias.is_cve() && alias.as_str() == "CVE-2001-2101" && alias.year() == Some(2001)
 }
 
-/// Whether an advisory's one alias is that of the valid one.
+/// Returns whether an advisory's one alias is that of the valid one.
 fn has_alias(advisory: &Advisory) -> bool {
     match advisory.metadata.aliases.as_slice() {
         [alias] => is_alias(alias),
@@ -157,7 +157,7 @@ fn has_alias(advisory: &Advisory) -> bool {
     }
 }
 
-/// Whether an advisory's categories are those of the valid one.
+/// Returns whether an advisory's categories are those of the valid one.
 fn has_categories(metadata: &Metadata) -> bool {
     match metadata.categories.as_slice() {
         [first, second] => {
@@ -167,7 +167,7 @@ fn has_categories(metadata: &Metadata) -> bool {
     }
 }
 
-/// Whether an advisory's keywords are those of the valid one.
+/// Returns whether an advisory's keywords are those of the valid one.
 fn has_keywords(metadata: &Metadata) -> bool {
     match metadata.keywords.as_slice() {
         [how, are, you, last] => {
@@ -180,7 +180,7 @@ fn has_keywords(metadata: &Metadata) -> bool {
     }
 }
 
-/// Whether an advisory's address and its license are those of the valid one.
+/// Returns whether an advisory's address and its license are those of the valid one.
 fn has_address_and_license(metadata: &Metadata) -> bool {
     match &metadata.url {
         Some(url) => {
@@ -191,7 +191,7 @@ fn has_address_and_license(metadata: &Metadata) -> bool {
     }
 }
 
-/// Whether an advisory says nothing more in its first table.
+/// Returns whether an advisory has nothing more in its first table.
 fn has_nothing_more(metadata: &Metadata) -> bool {
     metadata.related.is_empty()
         && metadata.collection.is_none()
@@ -202,7 +202,7 @@ fn has_nothing_more(metadata: &Metadata) -> bool {
         && !metadata.expect_deleted
 }
 
-/// Whether an advisory's severity is that of the valid one.
+/// Returns whether an advisory's severity is that of the valid one.
 fn has_severity(advisory: &Advisory) -> bool {
     match &advisory.metadata.cvss {
         Some(Cvss::CvssV31(base)) => {
@@ -212,13 +212,13 @@ fn has_severity(advisory: &Advisory) -> bool {
     }
 }
 
-/// Whether a version matches a requirement.
+/// Returns whether a version matches a requirement.
 fn matches(alloc: Global, req: &VersionReq, text: &str) -> Result<bool, Fail> {
     let version = Version::parse(alloc, text)?;
     Ok(req.matches(&version))
 }
 
-/// Whether a list has one requirement, which these versions match or not.
+/// Returns whether a list has one requirement, which these versions match or not.
 fn one_matches(alloc: Global, reqs: &[VersionReq], rows: &[(&str, bool)]) -> Result<bool, Fail> {
     let [req] = reqs else {
         return Ok(false);
@@ -231,14 +231,14 @@ fn one_matches(alloc: Global, reqs: &[VersionReq], rows: &[(&str, bool)]) -> Res
     Ok(true)
 }
 
-/// Whether the requirements of a function's path are those of the valid advisory.
+/// Returns whether the requirements of a function's path are those of the valid advisory.
 fn has_function(alloc: Global, affected: &Affected, path: &str) -> Result<bool, Fail> {
     let path = FunctionPath::from_str(alloc, path)?;
     let reqs = affected.functions.get(&path).ok_or("no function")?;
     one_matches(alloc, reqs.as_slice(), &[("1.2.2", true), ("1.2.3", false)])
 }
 
-/// Whether an advisory affects what the valid one does.
+/// Returns whether an advisory affects what the valid one does.
 fn has_affected(alloc: Global, advisory: &Advisory) -> Result<bool, Fail> {
     let affected = advisory.affected.as_ref().ok_or("nothing affected")?;
     Ok(
@@ -249,13 +249,13 @@ fn has_affected(alloc: Global, advisory: &Advisory) -> Result<bool, Fail> {
     )
 }
 
-/// Whether a version is vulnerable.
+/// Returns whether a version is vulnerable.
 fn is_vulnerable(alloc: Global, advisory: &Advisory, text: &str) -> Result<bool, Fail> {
     let version = Version::parse(alloc, text)?;
     Ok(advisory.versions.is_vulnerable(&version))
 }
 
-/// Whether an advisory's versions are those of the valid one.
+/// Returns whether an advisory's versions are those of the valid one.
 fn has_versions(alloc: Global, advisory: &Advisory) -> Result<bool, Fail> {
     let patched = [("1.2.2", false), ("1.2.3", true), ("1.2.4", true)];
     Ok(
@@ -267,7 +267,7 @@ fn has_versions(alloc: Global, advisory: &Advisory) -> Result<bool, Fail> {
     )
 }
 
-/// Whether an advisory's first table is that of the valid one.
+/// Returns whether an advisory's first table is that of the valid one.
 fn has_metadata(advisory: &Advisory) -> bool {
     has_texts(advisory)
         && has_alias(advisory)
@@ -279,7 +279,7 @@ fn has_metadata(advisory: &Advisory) -> bool {
         && has_severity(advisory)
 }
 
-/// Whether the advisory in a file of this text has all that the valid one has. The file is removed again.
+/// Returns whether the advisory in a file of this text has all that the valid one has. The file is removed again.
 fn file_is_valid<T: Files + AllocGlobal>(rt: &T, path: &str, text: &str) -> Result<bool, Fail> {
     fs::write(rt, path, text)?;
     let advisory = Advisory::load_file(rt, rt.alloc(), path)?;
@@ -299,26 +299,26 @@ fn advisory_fields(rt: HostRuntime) -> Result<(), Fail> {
     Ok(())
 }
 
-/// Whether a copy of what an advisory affects is equal to it, and it is not equal to nothing.
+/// Returns whether a copy of what an advisory affects is equal to it, and it is not equal to nothing.
 fn affected_is_copied(alloc: Global, affected: &Affected) -> Result<bool, Fail> {
     let copy = affected.clone(alloc)?;
     let none = Affected::default(alloc);
     Ok(copy == *affected && !(none == *affected))
 }
 
-/// Whether a copy of an advisory's first table is equal to it.
+/// Returns whether a copy of an advisory's first table is equal to it.
 fn metadata_is_copied(alloc: Global, metadata: &Metadata) -> Result<bool, Fail> {
     let copy = metadata.clone(alloc)?;
     Ok(copy == *metadata)
 }
 
-/// Whether a copy of an advisory is equal to it.
+/// Returns whether a copy of an advisory is equal to it.
 fn advisory_is_copied(alloc: Global, advisory: &Advisory) -> Result<bool, Fail> {
     let copy = advisory.clone(alloc)?;
     Ok(copy == *advisory)
 }
 
-/// Whether copies of a text's advisory and of its parts are equal to them.
+/// Returns whether copies of a text's advisory and of its parts are equal to them.
 fn is_copied(alloc: Global, text: &str) -> Result<bool, Fail> {
     let advisory = Advisory::from_str(alloc, text)?;
     let affected = advisory.affected.as_ref().ok_or("nothing affected")?;
@@ -335,7 +335,7 @@ fn advisories_with_ample_memory(rt: HostRuntime) -> Result<(), Fail> {
     Ok(())
 }
 
-/// Whether a text is read as an address that prints so, and is copied.
+/// Returns whether a text is read as an address that prints so, and is copied.
 fn is_address(alloc: Global, text: &str, printed: &str) -> Result<bool, Fail> {
     let address = Address::from_str(alloc, text)?;
     let copy = address.clone(alloc)?;
@@ -350,13 +350,13 @@ fn addresses_with_ample_memory(rt: HostRuntime) -> Result<(), Fail> {
     Ok(())
 }
 
-/// Whether the first so many bytes of the valid advisory are an advisory.
+/// Returns whether the first bytes of the valid advisory, up to a length, are an advisory.
 fn acceptance_of_prefix(alloc: Global, end: usize) -> Result<Option<bool>, Fail> {
     let bytes = VALID.as_bytes().get(..end).ok_or("too long")?;
     Ok(acceptance(alloc, str::from_utf8(bytes)?))
 }
 
-/// Checks that each beginning of an advisory up to some byte is no advisory, and each longer one is.
+// Each beginning of an advisory up to some byte is not an advisory, and each longer one is.
 #[test]
 fn advisory_prefixes(rt: HostRuntime) -> Result<(), Fail> {
     let (front, _) = VALID.split_once("to us\n").ok_or("no title")?;

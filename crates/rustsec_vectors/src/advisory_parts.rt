@@ -1,4 +1,4 @@
-// The parts of advisory files.
+//! The parts of advisory files.
 
 use rustsec_fixtures::kind_of;
 use rustsec_texts::Parts;
@@ -10,7 +10,7 @@ use std::test::Fail;
 /// A text and its parts: front matter, Markdown, title, description.
 type Row<'a> = (&'a str, (&'a str, &'a str, &'a str, &'a str));
 
-/// Whether a text has the parts of its row.
+/// Returns whether a text has the parts of its row.
 fn has_parts(alloc: Global, row: &Row<'_>) -> Result<bool, Fail> {
     let (text, (front_matter, markdown, title, description)) = row;
     let parts = Parts::parse(alloc, text)?;
@@ -30,7 +30,7 @@ fn expect_parts<T: AllocGlobal + Abort>(rt: &T, rows: &[Row<'_>]) -> Result<(), 
     Ok(())
 }
 
-/// Whether a text is refused, as it has no parts.
+/// Returns whether a text is refused, as it has no parts.
 fn is_refused(alloc: Global, text: &str) -> bool {
     kind_of(Parts::parse(alloc, text)) == Some(ErrorKind::Parse)
 }
@@ -150,7 +150,7 @@ fn texts_without_parts(rt: HostRuntime) {
     );
 }
 
-/// Whether a text is refused with a message that is one text and then another one.
+/// Returns whether a text is refused with a message that is one text and then another one.
 fn is_refused_with(alloc: Global, text: &str, front: &str, shown: &str) -> bool {
     match Parts::parse(alloc, text) {
         Ok(_) => false,

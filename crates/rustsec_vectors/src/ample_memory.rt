@@ -1,5 +1,5 @@
-// Calls of values, errors, versions and commands that can answer that they are out of memory, once with ample
-// memory and an input that they take. Those of other crates stand in the modules of their subjects.
+//! Calls of values, errors, versions and commands that can run out of memory, once with ample memory and an input
+//! that they accept. Those of other crates are in the modules of their subjects.
 
 use rustsec_commands::{answer, answer_ranges};
 use rustsec_fixtures::{interval, lists, requirements, version};
@@ -11,35 +11,35 @@ use rustsec_versions::{
 use std::alloc::Global;
 use std::test::Fail;
 
-/// Whether a copy of a text is equal to it.
+/// Returns whether a copy of a text is equal to it.
 fn text_is_copied(alloc: Global, text: &str) -> Result<bool, Fail> {
     let text = Text::from_str(alloc, text)?;
     let copy = text.clone()?;
     Ok(copy == text)
 }
 
-/// A list of one text.
+/// Returns a list of one text.
 fn one_item(alloc: Global, text: &str) -> Result<Items<Text>, Fail> {
     let mut items = Items::new(alloc);
     items.push(Text::from_str(alloc, text)?)?;
     Ok(items)
 }
 
-/// Whether a copy of a list of one text is equal to it.
+/// Returns whether a copy of a list of one text is equal to it.
 fn items_are_copied(alloc: Global, text: &str) -> Result<bool, Fail> {
     let items = one_item(alloc, text)?;
     let copy = items.clone()?;
     Ok(copy == items && copy.len() == 1)
 }
 
-/// A map of one key.
+/// Returns a map of one key.
 fn one_entry(alloc: Global, key: &str, value: &str) -> Result<SortedMap<Text, Text>, Fail> {
     let mut map = SortedMap::new(alloc);
     map.insert(Text::from_str(alloc, key)?, Text::from_str(alloc, value)?)?;
     Ok(map)
 }
 
-/// Whether a map has this value at a key.
+/// Returns whether a map has this value at a key.
 fn has(
     alloc: Global,
     map: &SortedMap<Text, Text>,
@@ -53,7 +53,7 @@ fn has(
     })
 }
 
-/// Whether a copy of a map of one key is equal to it and has its value.
+/// Returns whether a copy of a map of one key is equal to it and has its value.
 fn map_is_copied(alloc: Global, key: &str, value: &str) -> Result<bool, Fail> {
     let map = one_entry(alloc, key, value)?;
     let copy = map.clone()?;
@@ -68,19 +68,19 @@ fn values_with_ample_memory(rt: HostRuntime) -> Result<(), Fail> {
     Ok(())
 }
 
-/// Whether an error has these parts.
+/// Returns whether an error has these parts.
 fn has_parts(error: &Error, kind: ErrorKind, message: &str, cause: Option<&str>) -> bool {
     error.kind() == kind && error.message() == message && error.cause() == cause
 }
 
-/// Whether an error without a cause is made, and prints as a text.
+/// Returns whether an error without a cause is made, and prints as a text.
 fn error_prints(alloc: Global, kind: ErrorKind, message: &str, text: &str) -> Result<bool, Fail> {
     let error = Error::new(alloc, kind, message);
     let printed = error.to_string(alloc)?;
     Ok(has_parts(&error, kind, message, None) && printed.as_str() == text)
 }
 
-/// Whether an error with a cause is made and copied.
+/// Returns whether an error with a cause is made and copied.
 fn error_is_copied(
     alloc: Global,
     kind: ErrorKind,
@@ -121,21 +121,21 @@ fn kinds_of_errors(rt: HostRuntime) {
     }
 }
 
-/// Whether a copy of the bound at a version is equal to it.
+/// Returns whether a copy of the bound at a version is equal to it.
 fn bound_is_copied(alloc: Global, text: &str) -> Result<bool, Fail> {
     let bound = Bound::Inclusive(version(alloc, text)?);
     let copy = bound.clone(alloc)?;
     Ok(copy == bound)
 }
 
-/// Whether a copy of a requirement's interval is equal to it.
+/// Returns whether a copy of a requirement's interval is equal to it.
 fn interval_is_copied(alloc: Global, text: &str) -> Result<bool, Fail> {
     let interval = interval(alloc, text)??;
     let copy = interval.clone(alloc)?;
     Ok(copy == interval)
 }
 
-/// Whether a copy of lists is equal to them, and they are not equal to empty lists.
+/// Returns whether a copy of lists is equal to them, and they are not equal to empty lists.
 fn lists_are_copied(alloc: Global, patched: &[&str], unaffected: &[&str]) -> Result<bool, Fail> {
     let lists = lists(alloc, patched, unaffected)??;
     let copy = lists.clone(alloc)?;
@@ -143,14 +143,14 @@ fn lists_are_copied(alloc: Global, patched: &[&str], unaffected: &[&str]) -> Res
     Ok(copy == lists && none != lists)
 }
 
-/// Whether empty lists leave a version affected.
+/// Returns whether empty lists leave a version affected.
 fn none_affects(alloc: Global, text: &str) -> Result<bool, Fail> {
     let version = version(alloc, text)?;
     let none = Versions::default(alloc)?;
     Ok(none.is_vulnerable(&version))
 }
 
-/// Whether a copy of requirements is equal to them.
+/// Returns whether a copy of requirements is equal to them.
 fn requirements_are_copied(alloc: Global, texts: &[&str]) -> Result<bool, Fail> {
     let list = Requirements::from(requirements(alloc, texts)?);
     let copy = list.clone(alloc)?;
@@ -166,8 +166,8 @@ fn versions_with_ample_memory(rt: HostRuntime) -> Result<(), Fail> {
     Ok(())
 }
 
-/// How many ranges lists have, and whether a copy of the first has a version that introduces it and one
-/// that fixes it.
+/// Returns how many ranges lists have, and whether a copy of the first has a version that introduces it and one that
+/// fixes it.
 fn first_range(alloc: Global, lists: &Versions) -> Result<(usize, bool, bool), Fail> {
     let ranges = ranges_for_advisory(alloc, lists)?;
     let first = ranges.first().ok_or("no range")?;
@@ -179,7 +179,7 @@ fn first_range(alloc: Global, lists: &Versions) -> Result<(usize, bool, bool), F
     ))
 }
 
-/// Whether lists have one patched requirement, and that is written as a text.
+/// Returns whether lists have one patched requirement, and that is written as a text.
 fn patched_is_written(alloc: Global, lists: &Versions, text: &str) -> Result<bool, Fail> {
     let [req] = lists.patched() else {
         return Ok(false);
@@ -188,7 +188,7 @@ fn patched_is_written(alloc: Global, lists: &Versions, text: &str) -> Result<boo
     Ok(written.as_str() == text)
 }
 
-/// Whether a version has a successor.
+/// Returns whether a version has a successor.
 fn has_successor(alloc: Global, text: &str) -> Result<bool, Fail> {
     let version = version(alloc, text)?;
     Ok(successor(alloc, &version)?.is_some())
@@ -203,7 +203,7 @@ fn ranges_with_ample_memory(rt: HostRuntime) -> Result<(), Fail> {
     Ok(())
 }
 
-/// Whether both commands answer, one behind the other, what is wanted.
+/// Returns whether two commands, one after the other, answer what is wanted.
 fn commands_answer(alloc: Global, mut input: &[u8], expected: &[u8]) -> Result<bool, Fail> {
     let mut output = Vec::new(alloc);
     let status = answer(alloc, &mut input, &mut output)?;

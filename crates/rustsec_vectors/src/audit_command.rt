@@ -1,4 +1,4 @@
-// The commands `audit` and `report`, over files that a test writes, and what an audit writes.
+//! The commands `audit` and `report`, over files that a test writes, and what an audit writes.
 
 use crate::outputs::{CommandRow, expect_outputs};
 use rustsec_commands::{Fault, write_audit};
@@ -14,7 +14,7 @@ use std::rt::Files;
 use std::test::Fail;
 use std::{fs, io};
 
-/// Checks what words write over a root that is made for them and removed behind them.
+/// Checks what arguments write over a root that is made for them and removed afterwards.
 pub fn expect_over_root<T: Files + AllocGlobal + Abort>(
     rt: &T,
     root: &str,
@@ -142,7 +142,7 @@ fn empty_report(rt: HostRuntime) -> Result<(), Fail> {
     )
 }
 
-/// A report of a lockfile without a vulnerability, and with one warning that no advisory gives.
+/// Returns a report of a lockfile without a vulnerability, and with one warning that no advisory gives.
 fn report_of_a_notice(alloc: Global) -> Result<Report, Fail> {
     let lockfile = Lockfile::from_str(
         alloc,
@@ -163,7 +163,7 @@ fn report_of_a_notice(alloc: Global) -> Result<Report, Fail> {
     })
 }
 
-/// Whether this is answered for the report of a notice, and then this is written, if a write fails.
+/// Returns whether this is answered for the report of a notice, and then this is written, if a write fails.
 fn gives(
     alloc: Global,
     deny_warnings: bool,
@@ -176,7 +176,7 @@ fn gives(
     Ok(found == expected.0 && writer.held() == expected.1)
 }
 
-/// What is written of a warning that no advisory gives.
+/// The line for a warning without an advisory.
 const NOTICE: &[u8] = b"warning notice - base 1.0.0\n0 vulnerabilities, 1 warnings\n";
 
 #[test]

@@ -1,4 +1,4 @@
-// The commands `affected` and `ranges`, as programs run them.
+//! The commands `affected` and `ranges`, as programs run them.
 
 use crate::outputs::expect_outputs;
 use rustsec_fixtures::writes;
@@ -98,7 +98,7 @@ fn affected_line_forms(rt: HostRuntime) -> Result<(), Fail> {
     )
 }
 
-// Where a quick reader of the line rules slips.
+// Cases in which a hasty reader of the line rules goes wrong.
 #[test]
 fn white_space_in_lines(rt: HostRuntime) -> Result<(), Fail> {
     expect_outputs(

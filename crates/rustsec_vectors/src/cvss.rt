@@ -1,4 +1,4 @@
-// Vectors of CVSS: how they are read and printed, their scores and their ratings.
+//! Vectors of CVSS: how they are read and printed, their scores and their ratings.
 
 use rustsec_fixtures::{is_printed, kind_of, score};
 use rustsec_lock::{Cvss, Severity};
@@ -26,12 +26,12 @@ fn expect_printed<T: AllocGlobal + Abort>(rt: &T, rows: &[(&str, &str)]) -> Resu
     Ok(())
 }
 
-/// Whether a text is refused as a vector.
+/// Returns whether a text is refused as a vector.
 fn is_refused(alloc: Global, text: &str) -> bool {
     kind_of(Cvss::from_str(alloc, text)) == Some(ErrorKind::Parse)
 }
 
-/// Checks that texts are no vectors.
+/// Checks that texts are not vectors.
 fn expect_refused<T: AllocGlobal + Abort>(rt: &T, texts: &[&str]) {
     for text in texts {
         assert!(rt; is_refused(rt.alloc(), text), "of {text}");

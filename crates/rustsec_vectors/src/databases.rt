@@ -1,4 +1,4 @@
-// Databases: what is loaded from files, where it refuses, and what is found in it.
+//! Databases: loading from files, errors, and queries.
 
 use crate::folders_in_memory::{Failing, Holds, MemoryFolders, Paths};
 use rustsec_advisory::Advisory;
@@ -16,10 +16,10 @@ use std::process::Abort;
 use std::rt::Files;
 use std::test::Fail;
 
-/// Where the valid advisory stands.
+/// The path of the valid advisory.
 const PLACE: &str = "crates/base/RUSTSEC-2001-2101.md";
 
-/// Where a draft of it stands.
+/// The path of a draft of it.
 const DRAFT: &str = "crates/base/RUSTSEC-0000-0000.md";
 
 /// A file: its path, and a change of the valid advisory.
@@ -34,10 +34,10 @@ const PLACEHOLDER: Change<'static> = (DRAFT, "RUSTSEC-2001-2101", "RUSTSEC-0000-
 /// A file whose name is not its ID.
 const MISPLACED: Change<'static> = ("crates/base/x.md", "2101\"\np", "2102\"\np");
 
-/// A text that is no advisory.
+/// A text that is not an advisory.
 const BROKEN: Change<'static> = (PLACE, "package", "packag");
 
-/// The kind of the refusal of the last of some files, and how many advisories are stored then.
+/// Returns the kind of the refusal of the last of some files, and how many advisories are stored then.
 fn loaded(alloc: Global, files: &[Change<'_>]) -> Result<(Option<ErrorKind>, usize), Fail> {
     let mut entries = Entries::new(alloc);
     let mut kind = None;
@@ -86,7 +86,7 @@ fn load_path_forms(rt: HostRuntime) -> Result<(), Fail> {
     )
 }
 
-/// Files of which the last is looked at, the kind of its refusal, and how many are stored then.
+/// Files, the kind of the error for the last one, and how many are stored then.
 type Row<'a> = (&'a [Change<'a>], Option<ErrorKind>, usize);
 
 /// Checks what is loaded of files.
@@ -98,7 +98,7 @@ fn expect_rows<T: AllocGlobal + Abort>(rt: &T, rows: &[Row<'_>]) -> Result<(), F
     Ok(())
 }
 
-/// Drafts with an ID and without one, and an ID that stands twice.
+/// Drafts with an ID and without one, and an ID that occurs twice.
 const LOAD_PATHS: &[Row<'static>] = &[
     (&[(DRAFT, "", "")], None, 1),
     (&[PLACEHOLDER], None, 0),
@@ -128,7 +128,7 @@ const DRAFT_OF_RUST: &str = "RUSTSEC-0000-0000\"\ncollection = \"rust";
 
 /// Texts and collections that are at fault.
 const CHECKS: &[Row<'static>] = &[
-    // A text that is no advisory comes before its path.
+    // A text that is not an advisory is refused before its path.
     (&[("x", "package", "packag")], Some(ErrorKind::Parse), 0),
     (&[(PLACE, "date", OF_RUST)], Some(ErrorKind::Parse), 0),
     (
@@ -149,7 +149,7 @@ fn checks_in_order(rt: HostRuntime) -> Result<(), Fail> {
     expect_rows(&rt, CHECKS)
 }
 
-/// Files of a database.
+/// Returns the files of a database.
 fn source_files(alloc: Global, files: &[Change<'_>]) -> Result<Vec<SourceFile>, Fail> {
     let mut list = Vec::new(alloc);
     for (path, old, new) in files {
@@ -160,7 +160,7 @@ fn source_files(alloc: Global, files: &[Change<'_>]) -> Result<Vec<SourceFile>, 
     Ok(list)
 }
 
-/// The kind of a database's refusal, and how many advisories it has.
+/// Returns the kind of a database's refusal, and how many advisories it has.
 fn database(alloc: Global, files: &[Change<'_>]) -> Result<(Option<ErrorKind>, usize), Fail> {
     let files = source_files(alloc, files)?;
     Ok(match Database::load(alloc, files.as_slice()) {
@@ -186,7 +186,7 @@ const FIRST_FAULTS: &[Row<'static>] = &[
     (&[GOOD], None, 1),
 ];
 
-/// How many advisories of `base` in a collection the good file alone gives.
+/// Returns how many advisories of `base` in a collection the good file alone gives.
 fn good_of(alloc: Global, collection: Collection) -> Result<usize, Fail> {
     let files = source_files(alloc, &[GOOD])?;
     let database = Database::load(alloc, files.as_slice())?;
@@ -203,14 +203,14 @@ fn load_first_fault(rt: HostRuntime) -> Result<(), Fail> {
     Ok(())
 }
 
-/// The database of the valid advisory in `crates` and another one in `rust`.
+/// Returns the database of the valid advisory in `crates` and another one in `rust`.
 fn two(alloc: Global) -> Result<Database, Fail> {
     let other = ("rust/base/RUSTSEC-2001-2102.md", "2101\"\np", "2102\"\np");
     let files = source_files(alloc, &[(PLACE, "", ""), other])?;
     Ok(Database::load(alloc, files.as_slice())?)
 }
 
-/// How many advisories a query for a year finds in it, with a collection and a name where they are given.
+/// Returns how many advisories a query for a year finds in it, with a collection and a name if they are given.
 fn found(
     alloc: Global,
     collection: Option<Collection>,
@@ -247,7 +247,7 @@ fn queries(rt: HostRuntime) -> Result<(), Fail> {
     Ok(())
 }
 
-/// Whether advisories have these IDs, in order.
+/// Returns whether advisories have these IDs, in order.
 fn have_ids(advisories: &[&Advisory], ids: &[&str]) -> bool {
     for (i, advisory) in advisories.iter().enumerate() {
         match ids.get(i) {
@@ -258,7 +258,7 @@ fn have_ids(advisories: &[&Advisory], ids: &[&str]) -> bool {
     advisories.len() == ids.len()
 }
 
-/// The database of three files, whose IDs stand in another order than those of the files.
+/// Returns the database of three files whose IDs are in another order than those of the files.
 fn three(alloc: Global) -> Result<Database, Fail> {
     let third = ("crates/base/RUSTSEC-2001-2103.md", "2101\"\np", "2103\"\np");
     let second = ("rust/base/RUSTSEC-2001-2102.md", "2101\"\np", "2102\"\np");
@@ -266,14 +266,14 @@ fn three(alloc: Global) -> Result<Database, Fail> {
     Ok(Database::load(alloc, files.as_slice())?)
 }
 
-/// Whether a query gives advisories of these IDs, in order.
+/// Returns whether a query gives advisories of these IDs, in order.
 fn gives(alloc: Global, query: &Query, ids: &[&str]) -> Result<bool, Fail> {
     let database = three(alloc)?;
     let found = database.query(alloc, query)?;
     Ok(have_ids(found.as_slice(), ids))
 }
 
-/// Whether the database gives its advisories by these IDs, in order.
+/// Returns whether the database gives its advisories by these IDs, in order.
 fn iterates(alloc: Global, ids: &[&str]) -> Result<bool, Fail> {
     let database = three(alloc)?;
     let mut advisories = Vec::new(alloc);
@@ -283,7 +283,7 @@ fn iterates(alloc: Global, ids: &[&str]) -> Result<bool, Fail> {
     Ok(have_ids(advisories.as_slice(), ids))
 }
 
-/// Whether the query for crates of a name gives advisories of these IDs, in order.
+/// Returns whether the query for crates of a name gives advisories of these IDs, in order.
 fn gives_of_crates(alloc: Global, name: &str, ids: &[&str]) -> Result<bool, Fail> {
     let query = Query::new(alloc).collection(Collection::Crates);
     let query = query.package_name(Name::from_str(alloc, name)?);
@@ -303,7 +303,7 @@ fn load_order(rt: HostRuntime) -> Result<(), Fail> {
     Ok(())
 }
 
-/// Whether the database has an advisory with an ID.
+/// Returns whether the database has an advisory with an ID.
 fn has(alloc: Global, id: &str) -> Result<bool, Fail> {
     let id = Id::from_str(alloc, id)?;
     let database = two(alloc)?;
@@ -327,7 +327,7 @@ fn look_ups_by_id(rt: HostRuntime) -> Result<(), Fail> {
     Ok(())
 }
 
-/// A lockfile in which a vulnerable package stands twice, and once more without a source.
+/// A lockfile with a vulnerable package twice, and once more without a source.
 const LOCKFILE: &str = "
 [[package]]
 name = \"base\"
@@ -349,7 +349,7 @@ version = \"1.0.0\"
 source = \"registry+https://github.com/rust-lang/crates.io-index\"
 ";
 
-/// How many vulnerabilities the lockfile has, by the scope of crates and by a query for nothing.
+/// Returns how many vulnerabilities the lockfile has, by the scope of crates and by a query for nothing.
 fn vulnerabilities(alloc: Global) -> Result<(usize, usize), Fail> {
     let lockfile = Lockfile::from_str(alloc, LOCKFILE)?;
     let database = two(alloc)?;
@@ -378,7 +378,7 @@ const ROOT: Paths<'_> = &[
     ("db/crates/base/RUSTSEC-2001-2101.md", Holds::Text(VALID)),
 ];
 
-/// How many advisories a root gives whose call at this place fails, or the kind of the refusal.
+/// Returns how many advisories a root gives whose call at this place fails, or the kind of the refusal.
 fn opened(
     alloc: Global,
     paths: Paths<'_>,
@@ -433,8 +433,8 @@ const BOTH: Paths<'_> = &[
     ),
 ];
 
-// The calls, in an order of this port, list `crates`, `base`, `rust` and `std`, and read their advisories. Where
-// the listing of `rust` fails, it is skipped; where memory is refused, nothing is.
+// The calls, in an order of this port, list `crates`, `base`, `rust` and `std`, and read their advisories. If
+// the listing of `rust` fails, it is skipped; if memory is refused, nothing is skipped.
 #[test]
 fn failing_steps(rt: HostRuntime) -> Result<(), Fail> {
     let (io, memory) = (ErrorKind::Io, ErrorKind::OutOfMemory);
@@ -460,7 +460,7 @@ fn failing_steps(rt: HostRuntime) -> Result<(), Fail> {
     Ok(())
 }
 
-/// A root with a file that is no advisory, and another behind it that is one.
+/// A root with a file that is not an advisory, followed by one that is.
 const NO_ADVISORY: Paths<'_> = &[
     ("db/crates", Holds::Entries(&[("base", true), ("a", true)])),
     (
@@ -478,7 +478,7 @@ const NO_ADVISORY: Paths<'_> = &[
     ("db/crates/base/RUSTSEC-2001-2101.md", Holds::Text(VALID)),
 ];
 
-/// A root with an advisory in the folder of another package, and a file behind it that is no advisory.
+/// A root with an advisory in the folder of another package, followed by a file that is not an advisory.
 const TWO_FAULTS: Paths<'_> = &[
     ("db/crates", Holds::Entries(&[("other", true), ("a", true)])),
     (
@@ -496,8 +496,8 @@ const TWO_FAULTS: Paths<'_> = &[
     ),
 ];
 
-// The calls list `crates`, its two folders and `rust`, and read the two files. The first file at fault is the
-// answer, but for a file behind it that cannot be read.
+// The calls list `crates`, its two folders and `rust`, and read the two files. The first file at fault is the answer,
+// unless a later file cannot be read.
 #[test]
 fn all_files_are_read(rt: HostRuntime) -> Result<(), Fail> {
     let (io, memory) = (ErrorKind::Io, ErrorKind::OutOfMemory);
@@ -515,8 +515,8 @@ fn all_files_are_read(rt: HostRuntime) -> Result<(), Fail> {
     Ok(())
 }
 
-/// The kind of the refusal of a root of the disk, with a file that is no advisory and these bytes in one behind
-/// it; the folder is removed again.
+/// Returns the kind of the error for a root on the disk, with a file that is not an advisory, followed by one with
+/// these bytes; the folder is removed again.
 fn refused_on_disk<T: Files + AllocGlobal>(
     rt: &T,
     root: &str,
@@ -550,7 +550,7 @@ fn roots_of_the_disk(rt: HostRuntime) -> Result<(), Fail> {
     Ok(())
 }
 
-/// Whether an index that is given a slot twice has it once.
+/// Returns whether an index that is given a slot twice has it once.
 fn index_gives(alloc: Global, name: &str) -> Result<bool, Fail> {
     let mut entries = Entries::new(alloc);
     let slot = entries.load_text(alloc, PLACE, VALID)?.ok_or("no slot")?;
@@ -562,7 +562,7 @@ fn index_gives(alloc: Global, name: &str) -> Result<bool, Fail> {
     Ok(fresh && !again && found.len() == 1 && found[0] == slot)
 }
 
-/// Whether a file of the disk with the valid advisory is loaded; the folder is removed again.
+/// Returns whether a file of the disk with the valid advisory is loaded; the folder is removed again.
 fn loads_file<T: Files + AllocGlobal>(rt: &T, root: &str) -> Result<bool, Fail> {
     let alloc = rt.alloc();
     let path = format!(in alloc; "{root}/{PLACE}")?;
@@ -581,8 +581,9 @@ fn entries_with_ample_memory(rt: HostRuntime) -> Result<(), Fail> {
     Ok(())
 }
 
-/// How many advisories a root of the disk gives, if all are of crates, or the kind of the refusal. It has an advisory,
-/// a file that begins with a dot, a file beside the package's folder and, if it is asked for, a folder in it.
+/// Returns how many advisories a root of the disk gives, if all are of crates, or the kind of the refusal. It has an
+/// advisory, a file that begins with a dot, a file beside the package's folder and, if it is asked for, a folder in
+/// it.
 fn found_on_disk<T: Files + AllocGlobal>(
     rt: &T,
     root: &str,
@@ -609,7 +610,7 @@ fn found_on_disk<T: Files + AllocGlobal>(
     Ok(found)
 }
 
-/// How many advisories there are, if all are of crates.
+/// Returns how many advisories there are, if all are of crates.
 fn count_of_crates(database: &Database) -> usize {
     for advisory in database.iter() {
         if advisory.metadata.collection != Some(Collection::Crates) {

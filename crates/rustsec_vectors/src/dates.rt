@@ -1,4 +1,4 @@
-// Dates of advisories.
+//! Dates of advisories.
 
 use rustsec_fixtures::kind_of;
 use rustsec_texts::Date;
@@ -11,25 +11,25 @@ use std::test::Fail;
 /// A date, its year, its month and its day.
 type DateRow<'a> = (&'a str, u32, u32, u32);
 
-/// Whether a date has the text and the numbers of a row.
+/// Returns whether a date has the text and the numbers of a row.
 fn has_parts(date: &Date, row: &DateRow<'_>) -> bool {
     let (text, year, month, day) = row;
     date.as_str() == *text && date.year() == *year && date.month() == *month && date.day() == *day
 }
 
-/// Whether a date prints as a text.
+/// Returns whether a date prints as a text.
 fn prints(alloc: Global, date: &Date, text: &str) -> Result<bool, Fail> {
     let printed = date.to_string(alloc)?;
     Ok(printed.as_str() == text)
 }
 
-/// Whether a copy of a date is equal to it.
+/// Returns whether a copy of a date is equal to it.
 fn is_copied(alloc: Global, date: &Date) -> Result<bool, Fail> {
     let copy = date.clone(alloc)?;
     Ok(copy == *date)
 }
 
-/// Whether a row's text is read as the row says, printed and copied.
+/// Returns whether a row's text is read as the row says, printed and copied.
 fn is_read(alloc: Global, row: &DateRow<'_>) -> Result<bool, Fail> {
     let date = Date::from_str(alloc, row.0)?;
     Ok(has_parts(&date, row) && prints(alloc, &date, row.0)? && is_copied(alloc, &date)?)
@@ -43,12 +43,12 @@ fn expect_dates<T: AllocGlobal + Abort>(rt: &T, rows: &[DateRow<'_>]) -> Result<
     Ok(())
 }
 
-/// Whether a text is refused as a date.
+/// Returns whether a text is refused as a date.
 fn is_refused(alloc: Global, text: &str) -> bool {
     kind_of(Date::from_str(alloc, text)) == Some(ErrorKind::Parse)
 }
 
-/// Checks that texts are no dates.
+/// Checks that texts are not dates.
 fn expect_no_dates<T: AllocGlobal + Abort>(rt: &T, texts: &[&str]) {
     for text in texts {
         assert!(rt; is_refused(rt.alloc(), text), "of {text}");
@@ -131,13 +131,13 @@ fn dates_at_their_bounds(rt: HostRuntime) -> Result<(), Fail> {
     )
 }
 
-/// How a date stands to that of a text.
+/// Compares a date with that of a text.
 fn order_beside(alloc: Global, date: &Date, other: &str) -> Result<Ordering, Fail> {
     let other = Date::from_str(alloc, other)?;
     Ok(date.cmp(&other))
 }
 
-/// How the dates of two texts stand.
+/// Compares the dates of two texts.
 fn order(alloc: Global, text: &str, other: &str) -> Result<Ordering, Fail> {
     let date = Date::from_str(alloc, text)?;
     order_beside(alloc, &date, other)

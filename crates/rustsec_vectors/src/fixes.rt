@@ -1,4 +1,4 @@
-// Commands that update vulnerable packages.
+//! Commands that update vulnerable packages.
 
 use rustsec_advisory::Advisory;
 use rustsec_fixer::{FixCommand, Fixer};
@@ -31,7 +31,7 @@ name = "other"
 version = "1.0.0"
 "#;
 
-/// The first package of a lockfile, by an advisory that is patched from version 3 on.
+/// Returns the first package of a lockfile, by an advisory that is patched from version 3 on.
 fn vulnerability(alloc: Global, lockfile: &Lockfile) -> Result<Vulnerability, Fail> {
     let text = changed(alloc, VALID, ">= 1.2.3", ">= 3")?;
     let advisory = Advisory::from_str(alloc, &text)?;
@@ -49,7 +49,7 @@ struct Row<'a> {
     words: &'a [&'a str],
 }
 
-/// A copy of a text that may be given.
+/// Returns a copy of a text that may be given.
 fn owned(alloc: Global, text: Option<&str>) -> Result<Option<String>, Fail> {
     match text {
         Some(text) => Ok(Some(String::from_str(alloc, text)?)),
@@ -57,7 +57,7 @@ fn owned(alloc: Global, text: Option<&str>) -> Result<Option<String>, Fail> {
     }
 }
 
-/// The fixer of a row.
+/// Returns the fixer of a row.
 fn fixer(alloc: Global, row: &Row<'_>) -> Result<Fixer, Fail> {
     let manifest_path = owned(alloc, row.manifest_path)?;
     let path_to_cargo = owned(alloc, row.path_to_cargo)?;
@@ -65,7 +65,7 @@ fn fixer(alloc: Global, row: &Row<'_>) -> Result<Fixer, Fail> {
     Ok(Fixer::new(lockfile, manifest_path, path_to_cargo))
 }
 
-/// The command of a row.
+/// Returns the command of a row.
 fn command(alloc: Global, row: &Row<'_>) -> Result<FixCommand, Fail> {
     let lockfile = Lockfile::from_str(alloc, LOCK)?;
     let vulnerability = vulnerability(alloc, &lockfile)?;
@@ -73,7 +73,7 @@ fn command(alloc: Global, row: &Row<'_>) -> Result<FixCommand, Fail> {
     Ok(fixer.get_fix_command(alloc, &vulnerability, row.dry_run)?)
 }
 
-/// Whether texts are the wanted ones, in order.
+/// Returns whether texts are the wanted ones, in order.
 fn are(texts: &[Text], wants: &[&str]) -> bool {
     for (i, text) in texts.iter().enumerate() {
         match wants.get(i) {
@@ -84,7 +84,7 @@ fn are(texts: &[Text], wants: &[&str]) -> bool {
     texts.len() == wants.len()
 }
 
-/// Whether the command of a row is the wanted one.
+/// Returns whether the command of a row is the wanted one.
 fn is_as_wanted(alloc: Global, row: &Row<'_>) -> Result<bool, Fail> {
     let command = command(alloc, row)?;
     Ok(command.program.as_str() == row.program && are(command.words.as_slice(), row.words))

@@ -1,4 +1,4 @@
-// The source files under a root: over folders in memory, and over those of the disk.
+//! The source files under a root: over folders in memory, and over those of the disk.
 
 use crate::folders_in_memory::{Failing, Holds, MemoryFolders, Paths};
 use rustsec_folders::{Folders, RealFolders, SourceFile, source_files};
@@ -19,7 +19,7 @@ const NONE: Failing = Failing {
     kind: ErrorKind::Io,
 };
 
-/// Whether files have these paths and texts, in order.
+/// Returns whether files have these paths and texts, in order.
 fn are(files: &[SourceFile], rows: &[(&str, &str)]) -> bool {
     for (i, file) in files.iter().enumerate() {
         match rows.get(i) {
@@ -30,7 +30,7 @@ fn are(files: &[SourceFile], rows: &[(&str, &str)]) -> bool {
     files.len() == rows.len()
 }
 
-/// Whether the files under a root are the wanted ones, or refused as it is wanted.
+/// Returns whether the files under a root are the wanted ones, or refused as it is wanted.
 fn finds<F: Folders>(alloc: Global, folders: &mut F, root: &str, want: &Want<'_>) -> bool {
     match (source_files(alloc, folders, root), want) {
         (Ok(files), Ok(rows)) => are(files.as_slice(), rows),
@@ -39,7 +39,7 @@ fn finds<F: Folders>(alloc: Global, folders: &mut F, root: &str, want: &Want<'_>
     }
 }
 
-/// Whether that holds over folders in memory.
+/// Returns whether that holds over folders in memory.
 fn finds_in_memory(
     alloc: Global,
     paths: Paths<'_>,
@@ -69,7 +69,7 @@ fn expect<T: AllocGlobal + Abort>(rt: &T, rows: &[Row<'_>]) {
     }
 }
 
-/// Roots with and without `crates`, and with a folder where a file is due.
+/// Roots with and without `crates`, and with a folder where a file is expected.
 const OPEN_FOLDERS: &[Row<'_>] = &[
     Row {
         name: "one advisory, and no rust",
@@ -240,7 +240,7 @@ fn failing_steps(rt: HostRuntime) {
     }
 }
 
-/// Whether the first file under a root is equal to its copy, and has this path and this text.
+/// Returns whether the first file under a root is equal to its copy, and has this path and this text.
 fn first_is_copied(
     alloc: Global,
     paths: Paths<'_>,
@@ -265,8 +265,8 @@ fn files_are_copied(rt: HostRuntime) -> Result<(), Fail> {
     Ok(())
 }
 
-/// A root of the disk in which a file of a package's folder, with these bytes, is read; the folder is
-/// removed again.
+/// Returns a root of the disk in which a file of a package's folder, with these bytes, is read; the folder is removed
+/// again.
 fn finds_on_disk<T: Files + AllocGlobal>(
     rt: &T,
     root: &str,

@@ -1,4 +1,4 @@
-// Folders in memory: a table of paths, with one answer a path, of which a call can be made to fail.
+//! Folders in memory: a table of paths, with one answer for each path; a call can be made to fail.
 
 ghost use Rattle.std.specs.Prelude.{IfErr};
 ghost use Rattle.rustsec_versions.specs.Failure.{IsOfKind};
@@ -8,14 +8,13 @@ use rustsec_values::{Items, Text};
 use rustsec_versions::{Error, ErrorKind, Result};
 use std::alloc::{AllocError, Global};
 
-/// What stands at a path: a folder with these entries, of which each is a folder or not, or a file with
-/// this text.
+/// The contents of a path: a folder with these entries, each a folder or not, or a file with this text.
 pub enum Holds<'a> {
     Entries(&'a [(&'a str, bool)]),
     Text(&'a str),
 }
 
-/// What stands at some paths. Nothing stands at others.
+/// The contents of some paths. All others are missing.
 pub type Paths<'a> = &'a [(&'a str, Holds<'a>)];
 
 /// Which call fails, and with which kind. Calls count from 1, so none fails at 0.
@@ -34,7 +33,7 @@ pub struct MemoryFolders<'a> {
 }
 
 impl<'a> MemoryFolders<'a> {
-    /// Folders of some paths.
+    /// Returns folders with these contents.
     pub fn new(paths: Paths<'a>, failing: Failing) -> MemoryFolders<'a> {
         MemoryFolders {
             paths,
@@ -43,14 +42,14 @@ impl<'a> MemoryFolders<'a> {
         }
     }
 
-    /// Whether the call that is made now fails.
+    /// Returns whether the call that is made now fails.
     fn fails_now(&mut self) -> bool {
         self.calls = self.calls.saturating_add(1);
         self.calls == self.failing.at
     }
 }
 
-/// What stands at a path.
+/// Returns the contents of a path.
 fn held_at<'a>(paths: Paths<'a>, path: &str) -> Option<&'a Holds<'a>> {
     for (at, holds) in paths {
         if *at == path {
@@ -60,7 +59,7 @@ fn held_at<'a>(paths: Paths<'a>, path: &str) -> Option<&'a Holds<'a>> {
     None
 }
 
-/// The failure of a call: out of memory, or else an I/O error.
+/// Returns the failure of a call: out of memory, or else an I/O error.
 fn failure(alloc: Global, kind: ErrorKind) -> Error
     ensures { IsOfKind ErrorKind.Io result }
 {
@@ -70,7 +69,7 @@ fn failure(alloc: Global, kind: ErrorKind) -> Error
     Error::new(alloc, ErrorKind::Io, "the folders fail")
 }
 
-/// Entries of rows.
+/// Returns the entries of rows.
 fn entries(alloc: Global, rows: &[(&str, bool)]) -> Result<Items<FolderEntry>>
     ensures { IfErr result (IsOfKind ErrorKind.Io) }
 {

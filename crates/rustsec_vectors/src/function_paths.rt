@@ -1,4 +1,4 @@
-// Paths of functions.
+//! Paths of functions.
 
 use rustsec_fixtures::kind_of;
 use rustsec_texts::FunctionPath;
@@ -7,19 +7,19 @@ use std::alloc::Global;
 use std::process::Abort;
 use std::test::Fail;
 
-/// Whether a path prints as a text.
+/// Returns whether a path prints as a text.
 fn prints(alloc: Global, path: &FunctionPath, text: &str) -> Result<bool, Fail> {
     let printed = path.to_string(alloc)?;
     Ok(printed.as_str() == text)
 }
 
-/// Whether a copy of a path is equal to it.
+/// Returns whether a copy of a path is equal to it.
 fn is_copied(alloc: Global, path: &FunctionPath) -> Result<bool, Fail> {
     let copy = path.clone(alloc)?;
     Ok(copy == *path)
 }
 
-/// Whether a text is read as a path of this crate, printed and copied.
+/// Returns whether a text is read as a path of this crate, printed and copied.
 fn is_read(alloc: Global, text: &str, crate_name: &str) -> Result<bool, Fail> {
     let path = FunctionPath::from_str(alloc, text)?;
     Ok(path.crate_name() == crate_name && prints(alloc, &path, text)? && is_copied(alloc, &path)?)
@@ -33,12 +33,12 @@ fn expect_paths<T: AllocGlobal + Abort>(rt: &T, rows: &[(&str, &str)]) -> Result
     Ok(())
 }
 
-/// Whether a text is refused as a path.
+/// Returns whether a text is refused as a path.
 fn is_refused(alloc: Global, text: &str) -> bool {
     kind_of(FunctionPath::from_str(alloc, text)) == Some(ErrorKind::Parse)
 }
 
-/// Checks that texts are no paths.
+/// Checks that texts are not paths.
 fn expect_no_paths<T: AllocGlobal + Abort>(rt: &T, texts: &[&str]) {
     for text in texts {
         assert!(rt; is_refused(rt.alloc(), text), "of {text}");

@@ -1,4 +1,4 @@
-// Inputs that try to leave something behind, or to be taken for what they are not.
+//! Inputs that try to leave something on the machine, or to be taken for something else.
 
 use rustsec_advisory::{Advisory, Linter};
 use rustsec_database::Entries;
@@ -11,10 +11,10 @@ use std::alloc::Global;
 use std::process::Abort;
 use std::test::Fail;
 
-/// Where the valid advisory stands.
+/// The path of the valid advisory.
 const PLACE: &str = "crates/base/RUSTSEC-2001-2101.md";
 
-/// The collection of the valid advisory that is stored from a path.
+/// Returns the collection of the valid advisory that is stored from a path.
 fn collection_at(alloc: Global, path: &str) -> Result<Option<Collection>, Fail> {
     let mut entries = Entries::new(alloc);
     let slot = entries
@@ -42,7 +42,7 @@ fn load_path_forms_of_collections(rt: HostRuntime) -> Result<(), Fail> {
     Ok(())
 }
 
-/// A file that is refused behind the valid one: its path, its change of that one's text, its ID.
+/// A file that is refused after the valid one: its path, its change of that one's text, its ID.
 type Refused = (&'static str, &'static str, &'static str, &'static str);
 
 /// The same file again, and others with an ID of their own.
@@ -98,7 +98,7 @@ const REFUSED: &[(Refused, ErrorKind)] = &[
     ),
 ];
 
-/// Whether entries hold the valid advisory as it is, and nothing else.
+/// Returns whether entries hold the valid advisory as it is, and nothing else.
 fn hold_the_valid(alloc: Global, entries: &Entries, other: &str) -> Result<bool, Fail> {
     let valid = Advisory::from_str(alloc, VALID)?;
     let other = Id::from_str(alloc, other)?;
@@ -109,7 +109,7 @@ fn hold_the_valid(alloc: Global, entries: &Entries, other: &str) -> Result<bool,
     Ok(same && entries.find_by_id(&other).is_none() && entries.iter().count() == 1)
 }
 
-/// The kind of a file's refusal behind the valid one, if that one alone is held then.
+/// Returns the kind of the error for a file after the valid one, if only the valid one is stored then.
 fn refusal_behind(alloc: Global, row: &Refused) -> Result<Option<ErrorKind>, Fail> {
     let (path, old, new, other) = row;
     let text = changed(alloc, VALID, old, new)?;
@@ -129,21 +129,21 @@ fn load_path_forms_refused_behind_another(rt: HostRuntime) -> Result<(), Fail> {
     Ok(())
 }
 
-/// Whether a text is refused as no advisory, and by the linter too.
+/// Returns whether a text is refused as no advisory, and by the linter too.
 fn is_refused(alloc: Global, text: &str) -> bool {
     let read = kind_of(Advisory::from_str(alloc, text));
     let linted = kind_of(Linter::lint_string(alloc, text, None));
     read == Some(ErrorKind::Parse) && linted == read
 }
 
-/// Whether the valid advisory with a change is refused so.
+/// Returns whether the valid advisory with a change is refused so.
 fn is_refused_with(alloc: Global, old: &str, new: &str) -> Result<bool, Fail> {
     let text = changed(alloc, VALID, old, new)?;
     Ok(is_refused(alloc, &text))
 }
 
-/// Changes of the valid advisory, and whether they leave none: a fence inside a text of several lines
-/// ends the front matter there; a title has a line feed behind it.
+/// Changes of the valid advisory, and whether it stays one: a fence inside a text of several lines ends the front
+/// matter there; a title is followed by a line feed.
 const FENCES: &[(&str, &str, bool)] = &[
     ("date = ", "license = '''\n```\n'''\ndate = ", true),
     ("date = ", "license = '''\n``\n'''\ndate = ", false),
@@ -175,15 +175,15 @@ fn advisory_prefixes_and_fences(rt: HostRuntime) -> Result<(), Fail> {
     Ok(())
 }
 
-/// A document with one event and one reference, in pieces: what stands before the event, between it and
-/// the reference, and behind both.
+/// A document with one event and one reference, in pieces: the text before the event, between it and the reference,
+/// and after both.
 const DOCUMENT: [&str; 3] = [
     r#"{"details":"","id":"x","modified":"","published":"","summary":"","affected":[{"database_specific":{},"package":{"ecosystem":"e","name":"n"},"ranges":[{"type":"SEMVER","events":[{"introduced":""#,
     r#""}]}]}],"references":[{"type":"WEB","url":"https://rustsec.org/advisories/"#,
     r#""}]}"#,
 ];
 
-/// The document of an event's text and of what stands behind the address of advisories.
+/// Returns the document with an event's text and with the text after the address of advisories.
 fn document(alloc: Global, event: &str, link: &str) -> Result<Result<OsvAdvisory, Error>, Fail> {
     let [before, between, behind] = DOCUMENT;
     let text = format!(in alloc; "{before}{event}{between}{link}{behind}")?;
@@ -191,7 +191,7 @@ fn document(alloc: Global, event: &str, link: &str) -> Result<Result<OsvAdvisory
     Ok(OsvAdvisory::from_value(alloc, &tree))
 }
 
-/// Whether an event's text is read and printed as a version; or refused, where there is none.
+/// Returns whether an event's text is read and printed as a version; or refused, if there is no version.
 fn is_event(alloc: Global, event: &str, version: Option<&str>) -> Result<bool, Fail> {
     let read = document(alloc, event, "")?;
     let Some(version) = version else {
@@ -203,13 +203,13 @@ fn is_event(alloc: Global, event: &str, version: Option<&str>) -> Result<bool, F
     Ok(printed.contains(wanted.as_str()))
 }
 
-/// The kind of the refusal of a link.
+/// Returns the kind of the refusal of a link.
 fn link_refusal(alloc: Global, link: &str) -> Result<Option<ErrorKind>, Fail> {
     let document = document(alloc, "0", link)??;
     Ok(kind_of(document.rustsec_refs_imported(alloc)))
 }
 
-/// Whether the document of the valid advisory is published at a time.
+/// Returns whether the document of the valid advisory is published at a time.
 fn is_published(alloc: Global, time: &str) -> Result<bool, Fail> {
     let advisory = Advisory::from_str(alloc, VALID)?;
     let document = OsvAdvisory::from_rustsec(alloc, advisory, "m")?;

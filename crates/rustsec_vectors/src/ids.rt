@@ -1,4 +1,4 @@
-// IDs of advisories.
+//! IDs of advisories.
 
 use rustsec_fixtures::kind_of;
 use rustsec_texts::{Id, IdKind};
@@ -16,7 +16,7 @@ struct IdRow {
     page: Option<&'static str>,
 }
 
-/// Whether an ID has the text, the kind and the numbers of a row.
+/// Returns whether an ID has the text, the kind and the numbers of a row.
 fn has_parts(id: &Id, row: &IdRow) -> bool {
     id.as_str() == row.text
         && id.kind() == row.kind
@@ -24,7 +24,7 @@ fn has_parts(id: &Id, row: &IdRow) -> bool {
         && id.numerical_part() == row.number
 }
 
-/// Whether an ID has this page.
+/// Returns whether an ID has this page.
 fn has_page(alloc: Global, id: &Id, expected: Option<&str>) -> Result<bool, Fail> {
     let page = id.url(alloc)?;
     Ok(match (&page, expected) {
@@ -33,7 +33,7 @@ fn has_page(alloc: Global, id: &Id, expected: Option<&str>) -> Result<bool, Fail
     })
 }
 
-/// Whether a row's text is read as the row says.
+/// Returns whether a row's text is read as the row says.
 fn is_read(alloc: Global, row: &IdRow) -> Result<bool, Fail> {
     let id = Id::from_str(alloc, row.text)?;
     Ok(has_parts(&id, row) && has_page(alloc, &id, row.page)?)
@@ -52,12 +52,12 @@ fn expect_ids<T: AllocGlobal + Abort>(rt: &T, rows: &[IdRow]) -> Result<(), Fail
     Ok(())
 }
 
-/// Whether a text is refused as an ID.
+/// Returns whether a text is refused as an ID.
 fn is_refused(alloc: Global, text: &str) -> bool {
     kind_of(Id::from_str(alloc, text)) == Some(ErrorKind::Parse)
 }
 
-/// Checks that texts are no IDs.
+/// Checks that texts are not IDs.
 fn expect_no_ids<T: AllocGlobal + Abort>(rt: &T, texts: &[&str]) {
     for text in texts {
         assert!(rt; is_refused(rt.alloc(), text), "of {text}");
@@ -135,13 +135,13 @@ fn small_text_vectors_of_ids(rt: HostRuntime) -> Result<(), Fail> {
     expect_ids(&rt, SMALL_IDS)
 }
 
-/// Whether a text is an ID, and is kept as it stands.
+/// Returns whether a text is an ID and is kept unchanged.
 fn is_kept(alloc: Global, text: &str) -> Result<bool, Fail> {
     let id = Id::from_str(alloc, text)?;
     Ok(id.as_str() == text)
 }
 
-/// Checks that texts are IDs, and are kept as they stand.
+/// Checks that texts are IDs and are kept unchanged.
 fn expect_kept<T: AllocGlobal + Abort>(rt: &T, texts: &[&str]) -> Result<(), Fail> {
     for text in texts {
         assert!(rt; is_kept(rt.alloc(), text)?, "of {text}");
@@ -149,7 +149,7 @@ fn expect_kept<T: AllocGlobal + Abort>(rt: &T, texts: &[&str]) -> Result<(), Fai
     Ok(())
 }
 
-// The bounds of the year and of the numbers, and texts that are kept as they stand.
+// The bounds of the year and of the numbers, and texts that are kept unchanged.
 #[test]
 fn ids_at_their_bounds(rt: HostRuntime) -> Result<(), Fail> {
     expect_no_ids(

@@ -1,4 +1,4 @@
-// Collections and informational kinds by their texts.
+//! Collections and informational kinds by their texts.
 
 use rustsec_fixtures::kind_of;
 use rustsec_texts::{Collection, Informational, WarningKind};
@@ -6,7 +6,7 @@ use rustsec_versions::ErrorKind;
 use std::alloc::Global;
 use std::test::Fail;
 
-/// Whether a text is read as a collection, and that prints as the text.
+/// Returns whether a text is read as a collection, and that prints as the text.
 fn is_collection(alloc: Global, text: &str, expected: Collection) -> Result<bool, Fail> {
     let printed = expected.to_string(alloc)?;
     Ok(
@@ -16,13 +16,12 @@ fn is_collection(alloc: Global, text: &str, expected: Collection) -> Result<bool
     )
 }
 
-/// Whether a text is refused as a collection.
+/// Returns whether a text is refused as a collection.
 fn is_no_collection(alloc: Global, text: &str) -> bool {
     kind_of(Collection::from_str(alloc, text)) == Some(ErrorKind::Parse)
 }
 
-/// Whether a kind of advisory says of itself what these flags say: a notice, unmaintained, unsound,
-/// another kind.
+/// Returns whether a kind of advisory has these flags: a notice, unmaintained, unsound, another kind.
 fn says(kind: &Informational, flags: [bool; 4]) -> bool {
     let [notice, unmaintained, unsound, other] = flags;
     kind.is_notice() == notice
@@ -31,13 +30,13 @@ fn says(kind: &Informational, flags: [bool; 4]) -> bool {
         && kind.is_other() == other
 }
 
-/// Whether a text is read as a kind of advisory that says so of itself, and is kept.
+/// Returns whether a text is read as a kind of advisory that says so of itself, and is kept.
 fn text_says(alloc: Global, text: &str, flags: [bool; 4]) -> Result<bool, Fail> {
     let kind = Informational::from_str(alloc, text)?;
     Ok(kind.as_str() == text && says(&kind, flags))
 }
 
-/// Whether a text is read as this kind of advisory.
+/// Returns whether a text is read as this kind of advisory.
 fn is_informational(alloc: Global, text: &str, expected: &Informational) -> Result<bool, Fail> {
     let kind = Informational::from_str(alloc, text)?;
     Ok(kind == *expected)
@@ -64,20 +63,20 @@ fn collections(rt: HostRuntime) {
     }
 }
 
-/// Whether a kind of advisory prints as a text.
+/// Returns whether a kind of advisory prints as a text.
 fn kind_prints(alloc: Global, kind: &Informational, text: &str) -> Result<bool, Fail> {
     let printed = kind.to_string(alloc)?;
     Ok(printed.as_str() == text && kind.as_str() == text)
 }
 
-/// Whether a copy of a kind of advisory is equal to it.
+/// Returns whether a copy of a kind of advisory is equal to it.
 fn kind_is_copied(alloc: Global, kind: &Informational) -> Result<bool, Fail> {
     let copy = kind.clone(alloc)?;
     Ok(copy == *kind)
 }
 
-/// Whether a text is read as a kind that gives this warning, printed and copied. One that gives none is
-/// of another kind.
+/// Returns whether a text is read as a kind that gives this warning, printed and copied. One that gives none is of
+/// another kind.
 fn warns(alloc: Global, text: &str, warning: Option<WarningKind>) -> Result<bool, Fail> {
     let kind = Informational::from_str(alloc, text)?;
     Ok(

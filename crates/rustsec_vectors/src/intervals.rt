@@ -1,4 +1,4 @@
-// The intervals of requirements: their bounds, how they print, and which overlap.
+//! The intervals of requirements: their bounds, how they print, and which overlap.
 
 use rustsec_fixtures::{interval, kind_of, version};
 use rustsec_versions::{Bound, ErrorKind, UnaffectedRange, requirement_text};
@@ -7,7 +7,7 @@ use std::alloc::Global;
 use std::process::Abort;
 use std::test::Fail;
 
-/// Whether the interval of a requirement prints as a text.
+/// Returns whether the interval of a requirement prints as a text.
 fn prints(alloc: Global, text: &str, printed: &str) -> Result<bool, Fail> {
     let interval = interval(alloc, text)??;
     let found = interval.to_string(alloc)?;
@@ -22,7 +22,7 @@ fn expect_intervals<T: AllocGlobal + Abort>(rt: &T, rows: &[(&str, &str)]) -> Re
     Ok(())
 }
 
-/// Whether a requirement is refused, as it is no interval.
+/// Returns whether a requirement is refused, since it has no interval.
 fn is_refused(alloc: Global, text: &str) -> Result<bool, Fail> {
     let answer = interval(alloc, text)?;
     Ok(kind_of(answer) == Some(ErrorKind::BadParam))
@@ -36,7 +36,7 @@ fn expect_refused<T: AllocGlobal + Abort>(rt: &T, texts: &[&str]) -> Result<(), 
     Ok(())
 }
 
-/// Whether two requirements overlap, each with the other.
+/// Returns whether two requirements overlap, each with the other.
 fn overlap(alloc: Global, first: &str, second: &str) -> Result<(bool, bool), Fail> {
     let first = interval(alloc, first)??;
     let second = interval(alloc, second)??;
@@ -133,7 +133,7 @@ fn wildcards_behind_operators(rt: HostRuntime) -> Result<(), Fail> {
     )
 }
 
-// Bounds at the greatest number print as they stand.
+// Bounds at the greatest number print unchanged.
 #[test]
 fn bounds_at_the_greatest_number(rt: HostRuntime) -> Result<(), Fail> {
     expect_intervals(
@@ -156,20 +156,20 @@ fn bounds_at_the_greatest_number(rt: HostRuntime) -> Result<(), Fail> {
     )
 }
 
-/// The kind of the refusal of the interval up to a version; none where it is taken.
+/// Returns the kind of the error for the interval up to a version; none if it is accepted.
 fn refusal_up_to(alloc: Global, text: &str) -> Result<Option<ErrorKind>, Fail> {
     let end = Bound::Inclusive(version(alloc, text)?);
     Ok(kind_of(UnaffectedRange::new(alloc, Bound::Unbounded, end)))
 }
 
-/// The kind of the refusal of the interval between two versions; none where it is taken.
+/// Returns the kind of the error for the interval between two versions; none if it is accepted.
 fn refusal_between(alloc: Global, start: &str, end: &str) -> Result<Option<ErrorKind>, Fail> {
     let start = Bound::Inclusive(version(alloc, start)?);
     let end = Bound::Inclusive(version(alloc, end)?);
     Ok(kind_of(UnaffectedRange::new(alloc, start, end)))
 }
 
-// Bounds made by hand are compared as they stand, build metadata and greatest numbers included.
+// Bounds made by hand are compared as they are, build metadata and greatest numbers included.
 #[test]
 fn bounds_by_hand(rt: HostRuntime) -> Result<(), Fail> {
     assert!(rt; refusal_up_to(rt.alloc(), "1.2.18446744073709551615")?.is_none());
@@ -178,7 +178,7 @@ fn bounds_by_hand(rt: HostRuntime) -> Result<(), Fail> {
     Ok(())
 }
 
-/// The kind of the refusal of a requirement of one comparator with a patch number but no minor one.
+/// Returns the kind of the refusal of a requirement of one comparator with a patch number but no minor one.
 fn refusal_by_hand(alloc: Global, op: Op) -> Result<Option<ErrorKind>, Fail> {
     let comparator = Comparator {
         op,
@@ -200,7 +200,7 @@ fn requirements_by_hand(rt: HostRuntime) -> Result<(), Fail> {
     Ok(())
 }
 
-/// Whether a requirement is written again as a text.
+/// Returns whether a requirement is written again as a text.
 fn is_written(alloc: Global, text: &str, written: &str) -> Result<bool, Fail> {
     let req = VersionReq::parse(alloc, text)?;
     let found = requirement_text(alloc, &req)?;

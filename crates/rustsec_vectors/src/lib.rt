@@ -1,4 +1,4 @@
-//! Worked examples of all crates, each a test of its own name, whose answers come from outside: from
+//! Worked examples of all crates, each a test with a name of its own. Expected values come from outside: from
 //! the rules in `docs/DEFINITIONS.md`, worked by hand, or from the Rust crate.
 #![tactic(auto)]
 

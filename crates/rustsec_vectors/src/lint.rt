@@ -1,4 +1,4 @@
-// The errors that a linter finds in advisory files, and the command `lint`.
+//! The errors that a linter finds in advisory files, and the command `lint`.
 
 use crate::outputs::expect_outputs;
 use rustsec_advisory::linter::{self, ErrorKind, Linter};
@@ -9,13 +9,13 @@ use std::process::Abort;
 use std::rt::Files;
 use std::test::Fail;
 
-/// Whether a lint error prints as a text.
+/// Returns whether a lint error prints as a text.
 fn prints(alloc: Global, error: &linter::Error, text: &str) -> Result<bool, Fail> {
     let printed = error.to_string(alloc)?;
     Ok(printed.as_str() == text)
 }
 
-/// Whether lint errors print as these texts.
+/// Returns whether lint errors print as these texts.
 fn print(alloc: Global, errors: &[linter::Error], texts: &[&str]) -> Result<bool, Fail> {
     for (error, text) in errors.iter().zip(texts) {
         if !prints(alloc, error, text)? {
@@ -25,7 +25,7 @@ fn print(alloc: Global, errors: &[linter::Error], texts: &[&str]) -> Result<bool
     Ok(errors.len() == texts.len())
 }
 
-/// Whether a text has these lint errors, in a file that is a draft's, none's or one not known.
+/// Returns whether a text has these lint errors, in a file that is a draft's, none's or one not known.
 fn has_errors(
     alloc: Global,
     text: &str,
@@ -36,11 +36,11 @@ fn has_errors(
     print(alloc, linter.errors(), errors)
 }
 
-/// A change of the valid advisory: its first place of a text, what stands there then, and whether the
-/// file is a draft's; and the lint errors.
+/// A change of the valid advisory: its first place of a text, the replacement, and whether the file is a draft's; and
+/// the lint errors.
 type Row<'a> = (&'a str, &'a str, Option<bool>, &'a [&'a str]);
 
-/// Whether the valid advisory has the lint errors of a row, changed as it says.
+/// Returns whether the valid advisory has the lint errors of a row, changed as it says.
 fn holds(alloc: Global, row: &Row<'_>) -> Result<bool, Fail> {
     let (old, new, draft, errors) = row;
     let text = changed(alloc, VALID, old, new)?;
@@ -119,7 +119,7 @@ fn lint_single_faults(rt: HostRuntime) -> Result<(), Fail> {
     )
 }
 
-/// Whether the valid advisory has no lint errors with its package and its function's path changed.
+/// Returns whether the valid advisory has no lint errors with its package and its function's path changed.
 fn package_is_valid(alloc: Global, name: &str, path: &str) -> Result<bool, Fail> {
     let text = changed(alloc, VALID, "\"base\"", name)?;
     let text = changed(alloc, &text, "base::belongs::All", path)?;
@@ -247,7 +247,7 @@ fn lint_unknown_keys(rt: HostRuntime) -> Result<(), Fail> {
     )
 }
 
-/// The paths come in the order of their identifiers, which is not that of their texts.
+// The paths come in the order of their identifiers, which is not that of their texts.
 #[test]
 fn lint_functions_in_the_order_of_paths(rt: HostRuntime) -> Result<(), Fail> {
     expect_errors(
@@ -283,7 +283,7 @@ fn placeholder_lint(rt: HostRuntime) -> Result<(), Fail> {
     )
 }
 
-/// Whether `lint` of a file of these bytes writes a text, with this status. The file is removed again.
+/// Returns whether `lint` of a file of these bytes writes a text, with this status. The file is removed again.
 fn file_writes<T: Files + AllocGlobal>(
     rt: &T,
     path: &str,
@@ -352,7 +352,7 @@ fn lint_command_of_other_files(rt: HostRuntime) -> Result<(), Fail> {
     Ok(())
 }
 
-/// Texts, each on a line of its own.
+/// Joins texts, each on a line of its own.
 fn lines(alloc: Global, texts: &[&str]) -> Result<String, Fail> {
     let mut lines = String::new(alloc);
     for text in texts {
@@ -370,7 +370,7 @@ fn lint_command_with_errors(rt: HostRuntime) -> Result<(), Fail> {
     Ok(())
 }
 
-/// Whether a lint error is of an unknown key of `versions`, and its copy is equal to it.
+/// Returns whether a lint error is of an unknown key of `versions`, and its copy is equal to it.
 fn is_unknown_key(alloc: Global, error: &linter::Error, name: &str) -> Result<bool, Fail> {
     let kind = ErrorKind::key(alloc, name)?;
     let copy = error.clone(alloc)?;
@@ -382,7 +382,7 @@ fn is_unknown_key(alloc: Global, error: &linter::Error, name: &str) -> Result<bo
     )
 }
 
-/// Whether a file has an advisory of this ID, and one lint error, of an unknown key of `versions`.
+/// Returns whether a file has an advisory of this ID, and one lint error, of an unknown key of `versions`.
 fn has_unknown_key<T: Files + AllocGlobal>(
     rt: &T,
     path: &str,
@@ -408,14 +408,14 @@ fn linters_with_ample_memory(rt: HostRuntime) -> Result<(), Fail> {
     Ok(())
 }
 
-/// Whether the kind of an unknown key prints as a text.
+/// Returns whether the kind of an unknown key prints as a text.
 fn key_prints(alloc: Global, name: &str, text: &str) -> Result<bool, Fail> {
     let kind = ErrorKind::key(alloc, name)?;
     let printed = kind.to_string(alloc)?;
     Ok(printed.as_str() == text)
 }
 
-/// Whether a copy of the kind of an invalid value is equal to it, and it is not that of an unknown key.
+/// Returns whether a copy of the kind of an invalid value is equal to it, and it is not that of an unknown key.
 fn value_is_copied(alloc: Global, name: &str, value: &str) -> Result<bool, Fail> {
     let kind = ErrorKind::value(alloc, name, value)?;
     let copy = kind.clone(alloc)?;

@@ -1,4 +1,4 @@
-// Lockfiles: which texts are one, and their packages.
+//! Lockfiles: which texts are one, and their packages.
 
 use crate::packages::{self, Row};
 use rustsec_fixtures::{changed, kind_of};
@@ -37,13 +37,13 @@ const PACKAGES: &[Row] = &[
     ("local", "0.1.0", None, None),
 ];
 
-/// Whether a package is that of a row.
+/// Returns whether a package is that of a row.
 fn is_package(alloc: Global, package: &Package, row: &Row) -> Result<bool, Fail> {
     let expected = packages::package(alloc, row)?;
     Ok(*package == expected)
 }
 
-/// Whether a lockfile has these packages, in this order, and no others.
+/// Returns whether a lockfile has these packages, in this order, and no others.
 fn has_packages(alloc: Global, lockfile: &Lockfile, rows: &[Row]) -> Result<bool, Fail> {
     let packages = lockfile.packages.as_slice();
     for (package, row) in packages.iter().zip(rows) {
@@ -54,18 +54,18 @@ fn has_packages(alloc: Global, lockfile: &Lockfile, rows: &[Row]) -> Result<bool
     Ok(packages.len() == rows.len())
 }
 
-/// Whether a text is a lockfile with these packages.
+/// Returns whether a text is a lockfile with these packages.
 fn text_has(alloc: Global, text: &str, rows: &[Row]) -> Result<bool, Fail> {
     let lockfile = Lockfile::from_str(alloc, text)?;
     has_packages(alloc, &lockfile, rows)
 }
 
-/// Whether a text is refused as a lockfile.
+/// Returns whether a text is refused as a lockfile.
 fn is_refused(alloc: Global, text: &str) -> bool {
     kind_of(Lockfile::from_str(alloc, text)) == Some(ErrorKind::Parse)
 }
 
-/// Texts that are no lockfiles.
+/// Texts that are not lockfiles.
 const REFUSED: &[&str] = &[
     "package = 1\n",
     "package = \"base\"\n",
@@ -84,7 +84,7 @@ const REFUSED: &[&str] = &[
     "package\n",
 ];
 
-/// Checks that texts are no lockfiles.
+/// Checks that texts are not lockfiles.
 fn expect_refused<T: AllocGlobal + Abort>(rt: &T, texts: &[&str]) {
     for text in texts {
         assert!(rt; is_refused(rt.alloc(), text), "of {text}");
@@ -99,13 +99,13 @@ fn lockfile_texts(rt: HostRuntime) -> Result<(), Fail> {
     Ok(())
 }
 
-/// Whether a copy of a lockfile has these packages, and is equal to it.
+/// Returns whether a copy of a lockfile has these packages, and is equal to it.
 fn copy_has(alloc: Global, lockfile: &Lockfile, rows: &[Row]) -> Result<bool, Fail> {
     let copy = lockfile.clone(alloc)?;
     has_packages(alloc, &copy, rows)
 }
 
-/// Whether the lockfile of a table has these packages, and its copy too.
+/// Returns whether the lockfile of a table has these packages, and its copy too.
 fn table_has(alloc: Global, table: &toml::Table, rows: &[Row]) -> Result<bool, Fail> {
     let lockfile = Lockfile::from_table(alloc, table)?;
     Ok(has_packages(alloc, &lockfile, rows)? && copy_has(alloc, &lockfile, rows)?)
@@ -118,7 +118,7 @@ fn lockfile_tables(rt: HostRuntime) -> Result<(), Fail> {
     Ok(())
 }
 
-/// Whether the lockfile in a file of these bytes has these packages. The file is removed again.
+/// Returns whether the lockfile in a file of these bytes has these packages. The file is removed again.
 fn file_has<T: Files + AllocGlobal>(
     rt: &T,
     path: &str,
@@ -131,8 +131,7 @@ fn file_has<T: Files + AllocGlobal>(
     has_packages(rt.alloc(), &lockfile, rows)
 }
 
-/// The kind of the refusal of a file of these bytes; none where it is a lockfile. The file is removed
-/// again.
+/// Returns the kind of the error for a file of these bytes; none if it is a lockfile. The file is removed again.
 fn refusal<T: Files + AllocGlobal>(
     rt: &T,
     path: &str,
@@ -154,7 +153,7 @@ fn lockfile_files(rt: HostRuntime) -> Result<(), Fail> {
     Ok(())
 }
 
-// A mark before a TOML document is no part of it, as the crate `toml` reads it.
+// A mark before a TOML document is not part of it, as the crate `toml` reads it.
 #[test]
 fn lockfiles_behind_a_mark_and_with_line_ends(rt: HostRuntime) -> Result<(), Fail> {
     let marked = changed(rt.alloc(), TWO_PACKAGES, "", "\u{feff}")?;
@@ -164,7 +163,7 @@ fn lockfiles_behind_a_mark_and_with_line_ends(rt: HostRuntime) -> Result<(), Fai
     Ok(())
 }
 
-/// A lockfile above a megabyte, whose packages stand behind a comment of that length.
+// A lockfile above a megabyte, whose packages follow a comment of that length.
 #[test]
 fn a_lockfile_above_a_megabyte(rt: HostRuntime) -> Result<(), Fail> {
     let comment = "#\n".repeat(rt.alloc(), 600000)?;

@@ -1,4 +1,4 @@
-// Yanked packages by look-ups of the tests, and signatures.
+//! Yanked packages by look-ups of the tests, and signatures.
 
 use rustsec_fixtures::version;
 use rustsec_lock::package::{Name, Package};
@@ -11,24 +11,24 @@ use std::process::Abort;
 use std::rt::Files;
 use std::test::Fail;
 
-/// What a registry answers about a name: the versions that it lists, each with whether it is yanked, or a
+/// The answer of a registry for a name: the versions that it lists, each with whether it is yanked, or a
 /// failure.
 enum Said<'a> {
     Lists(&'a [(&'a str, bool)]),
     Fails(ErrorKind),
 }
 
-/// What a registry says of some names. It has no others.
+/// The answers of a registry for some names. It has no others.
 type Rows<'a> = &'a [(&'a str, Said<'a>)];
 
-/// A registry that says another thing each time it is asked, and the last of them from then on.
+/// A registry that answers differently at each look-up, and with its last answer from then on.
 #[derive(Drop)]
 struct Changing<'a> {
     says: &'a [Rows<'a>],
     asked: Cell<usize>,
 }
 
-/// The versions of a list.
+/// Returns the versions of a list.
 fn listed(alloc: Global, rows: &[(&str, bool)]) -> rustsec_versions::Result<Items<IndexVersion>> {
     let mut versions = Items::new(alloc);
     for (text, yanked) in rows {
@@ -41,7 +41,7 @@ fn listed(alloc: Global, rows: &[(&str, bool)]) -> rustsec_versions::Result<Item
     Ok(versions)
 }
 
-/// What stands at a name.
+/// Returns the answer for a name.
 fn said_of<'a>(rows: Rows<'a>, name: &str) -> Option<&'a Said<'a>> {
     for (row, said) in rows {
         if *row == name {
@@ -51,7 +51,7 @@ fn said_of<'a>(rows: Rows<'a>, name: &str) -> Option<&'a Said<'a>> {
     None
 }
 
-/// An answer, made anew.
+/// Returns an answer, made again.
 fn answer(
     alloc: Global,
     said: Option<&Said<'_>>,
@@ -86,7 +86,7 @@ impl<'a> Lookup for Changing<'a> {
     }
 }
 
-/// A cache over a registry that says this, one after the other.
+/// Returns a cache over a registry with these answers, one after the other.
 fn asked_anew<'a>(alloc: Global, says: &'a [Rows<'a>]) -> CachedIndex<Changing<'a>> {
     CachedIndex::new(
         alloc,
@@ -97,13 +97,13 @@ fn asked_anew<'a>(alloc: Global, says: &'a [Rows<'a>]) -> CachedIndex<Changing<'
     )
 }
 
-/// What is wanted at one place of the answers: a package of this name and major version, or a kind.
+/// The wanted answer at one place: a package of this name and major version, or a kind.
 enum Want<'a> {
     Yanked(&'a str, u64),
     Refused(ErrorKind),
 }
 
-/// Whether an answer is the wanted one.
+/// Returns whether an answer is the wanted one.
 fn is(answer: &std::result::Result<&Package, Error>, want: &Want<'_>) -> bool {
     match (answer, want) {
         (Ok(package), Want::Yanked(name, major)) => {
@@ -114,7 +114,7 @@ fn is(answer: &std::result::Result<&Package, Error>, want: &Want<'_>) -> bool {
     }
 }
 
-/// Whether the answers are the wanted ones, in order.
+/// Returns whether the answers are the wanted ones, in order.
 fn are(answers: &[std::result::Result<&Package, Error>], wants: &[Want<'_>]) -> bool {
     for (i, answer) in answers.iter().enumerate() {
         match wants.get(i) {
@@ -125,7 +125,7 @@ fn are(answers: &[std::result::Result<&Package, Error>], wants: &[Want<'_>]) -> 
     answers.len() == wants.len()
 }
 
-/// A package without a source.
+/// Returns a package without a source.
 fn package(alloc: Global, name: &str, text: &str) -> Result<Package, Fail> {
     let name = Name::from_str(alloc, name)?;
     let version = version(alloc, text)?;
@@ -137,7 +137,7 @@ fn package(alloc: Global, name: &str, text: &str) -> Result<Package, Fail> {
     })
 }
 
-/// Packages of names and versions.
+/// Returns packages with these names and versions.
 fn packages(alloc: Global, rows: &[(&str, &str)]) -> Result<Vec<Package>, Fail> {
     let mut packages = Vec::new(alloc);
     for (name, text) in rows {
@@ -146,7 +146,7 @@ fn packages(alloc: Global, rows: &[(&str, &str)]) -> Result<Vec<Package>, Fail> 
     Ok(packages)
 }
 
-/// Whether a cache answers over packages as it is wanted, or refuses with the wanted kind.
+/// Returns whether a cache answers over packages as it is wanted, or refuses with the wanted kind.
 fn finds(
     alloc: Global,
     index: &mut CachedIndex<Changing<'_>>,
@@ -160,8 +160,8 @@ fn finds(
     }
 }
 
-/// Packages, what the registry says of their names at each asking, and what is wanted of the calls one after
-/// another.
+/// Packages, the answers of the registry for their names at each look-up, and the wanted answers of the calls one
+/// after another.
 #[derive(Drop)]
 struct Row<'a> {
     packages: &'a [(&'a str, &'a str)],
@@ -169,7 +169,7 @@ struct Row<'a> {
     wants: &'a [std::result::Result<&'a [Want<'a>], ErrorKind>],
 }
 
-/// Whether each call answers as it is wanted.
+/// Returns whether each call answers as it is wanted.
 fn answers_as_wanted(alloc: Global, row: &Row<'_>) -> Result<bool, Fail> {
     let packages = packages(alloc, row.packages)?;
     let mut index = asked_anew(alloc, row.says);
@@ -272,7 +272,7 @@ fn look_up_out_of_memory(rt: HostRuntime) -> Result<(), Fail> {
     )
 }
 
-// The answer about `a` is kept though the call is refused, and `b` alone is asked about again.
+// The answer for `a` is kept though the call is refused, and only `b` is looked up again.
 #[test]
 fn refused_memory_keeps(rt: HostRuntime) -> Result<(), Fail> {
     expect(
@@ -295,7 +295,7 @@ fn refused_memory_keeps(rt: HostRuntime) -> Result<(), Fail> {
     )
 }
 
-/// Whether a signature and its copy hold these bytes, and another does not equal them.
+/// Returns whether a signature and its copy hold these bytes, and another does not equal them.
 fn keeps(alloc: Global, bytes: &[u8], other: &[u8]) -> Result<bool, Fail> {
     let signature = Signature::from_bytes(alloc, bytes)?;
     let copy = signature.clone(alloc)?;

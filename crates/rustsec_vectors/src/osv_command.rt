@@ -1,4 +1,4 @@
-// The command `osv`, over files that a test writes.
+//! The command `osv`, over files that a test writes.
 
 use crate::osv_export::{SHORT, SHORT_DOCUMENT};
 use crate::outputs::expect_outputs;
@@ -7,7 +7,7 @@ use std::fs;
 use std::rt::Files;
 use std::test::Fail;
 
-/// Whether `osv` of a file of this text, changed at a time, writes a text, with this status. The file is
+/// Returns whether `osv` of a file of this text, changed at a time, writes a text, with this status. The file is
 /// removed again.
 fn exports<T: Files + AllocGlobal>(
     rt: &T,
@@ -23,14 +23,14 @@ fn exports<T: Files + AllocGlobal>(
     Ok(holds)
 }
 
-/// Whether `osv` of the short advisory writes its document, changed at this time.
+/// Returns whether `osv` of the short advisory writes its document, changed at this time.
 fn exports_at<T: Files + AllocGlobal>(rt: &T, path: &str, modified: &str) -> Result<bool, Fail> {
     let document = changed(rt.alloc(), SHORT_DOCUMENT, "2020-01-01T00:00:00Z", modified)?;
     let line = format!(in rt.alloc(); "{document}\n")?;
     exports(rt, path, SHORT, modified, (0, line.as_str()))
 }
 
-/// Whether `osv` of the short advisory with one text in place of another is refused with this line.
+/// Returns whether `osv` of the short advisory with one text instead of another is refused with this line.
 fn is_refused<T: Files + AllocGlobal>(
     rt: &T,
     path: &str,

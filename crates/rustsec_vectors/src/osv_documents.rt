@@ -1,4 +1,4 @@
-// Trees of OSV documents, read and printed again.
+//! Trees of OSV documents, read and printed again.
 
 use rustsec_fixtures::kind_of;
 use rustsec_osv::{OsvAdvisory, OsvAffected, OsvEcosystemSpecific, OsvJsonRange};
@@ -8,15 +8,15 @@ use std::alloc::Global;
 use std::process::Abort;
 use std::test::Fail;
 
-/// What stands before the events of a document.
+/// The text before the events of a document.
 const BEFORE: &str =
     r#"{"affected":[{"database_specific":{"categories":[],"cvss":null,"informational":null},"ecosystem_specific":{"affected_functions":null,"affects":{"arch":[],"functions":[],"os":[]}},"package":{"ecosystem":"crates.io","name":"base","purl":"pkg:cargo/base"},"ranges":[{"events":["#;
 
-/// What stands between the events and the ID.
+/// The text between the events and the ID.
 const BETWEEN: &str =
     r#"],"type":"SEMVER"}],"versions":[]}],"aliases":[],"database_specific":{"license":"CC0-1.0"},"details":"D","#;
 
-/// What stands behind the day of the last change.
+/// The text after the day of the last change.
 const BEHIND: &str =
     r#","published":"2001-02-03T12:00:00Z","references":[{"type":"PACKAGE","url":"https://crates.io/crates/base"},{"type":"ADVISORY","url":"https://rustsec.org/advisories/RUSTSEC-2001-2101.html"}],"#;
 
@@ -112,7 +112,7 @@ const REFUSED: &[Parts] = &[
     ),
 ];
 
-/// The text of a document.
+/// Returns the text of a document.
 fn text_of(alloc: Global, parts: &Parts) -> Result<String, Fail> {
     let mut text = String::new(alloc);
     for part in [BEFORE, parts.0, BETWEEN, parts.1, BEHIND, parts.2] {
@@ -121,27 +121,27 @@ fn text_of(alloc: Global, parts: &Parts) -> Result<String, Fail> {
     Ok(text)
 }
 
-/// The tree of a document's text.
+/// Returns the tree of a document's text.
 fn tree_of(alloc: Global, parts: &Parts) -> Result<Value, Fail> {
     let text = text_of(alloc, parts)?;
     Ok(Value::from_str(alloc, &text)?)
 }
 
-/// How the document of a tree prints.
+/// Returns how the document of a tree prints.
 fn printed(alloc: Global, tree: &Value) -> Result<String, Fail> {
     let document = OsvAdvisory::from_value(alloc, tree)?;
     let tree = document.to_value(alloc)?;
     Ok(tree.to_string(alloc)?)
 }
 
-/// Whether a document is read, and prints as another one is written.
+/// Returns whether a document is read, and prints as another one is written.
 fn is_read(alloc: Global, row: &(Parts, Parts)) -> Result<bool, Fail> {
     let tree = tree_of(alloc, &row.0)?;
     let wanted = text_of(alloc, &row.1)?;
     Ok(printed(alloc, &tree)? == wanted)
 }
 
-/// How a document is refused.
+/// Returns how a document is refused.
 fn refusal(alloc: Global, parts: &Parts) -> Result<Option<ErrorKind>, Fail> {
     let tree = tree_of(alloc, parts)?;
     Ok(kind_of(OsvAdvisory::from_value(alloc, &tree)))
@@ -176,7 +176,7 @@ fn osv_refusals(rt: HostRuntime) -> Result<(), Fail> {
     expect_refused(&rt, REFUSED)
 }
 
-/// Whether what a document says of itself is what stands in it.
+/// Returns whether a document's own calls answer what its fields contain.
 fn says(alloc: Global, parts: &Parts) -> Result<bool, Fail> {
     let tree = tree_of(alloc, parts)?;
     let document = OsvAdvisory::from_value(alloc, &tree)?;
@@ -195,7 +195,7 @@ fn osv_accessors(rt: HostRuntime) -> Result<(), Fail> {
     Ok(())
 }
 
-/// Whether copies of a range and of its events are like them.
+/// Returns whether copies of a range and of its events are like them.
 fn range_is_copied(alloc: Global, range: &OsvJsonRange) -> Result<bool, Fail> {
     let copy = range.clone(alloc)?;
     let copied = &copy;
@@ -205,7 +205,7 @@ fn range_is_copied(alloc: Global, range: &OsvJsonRange) -> Result<bool, Fail> {
     Ok(copied.kind == range.kind && copied.events.len() == 2)
 }
 
-/// Whether copies of what an ecosystem adds are like it.
+/// Returns whether copies of what an ecosystem adds are like it.
 fn ecosystem_is_copied(alloc: Global, ecosystem: &OsvEcosystemSpecific) -> Result<bool, Fail> {
     let copy = ecosystem.clone(alloc)?;
     match &copy.affects {
@@ -214,7 +214,7 @@ fn ecosystem_is_copied(alloc: Global, ecosystem: &OsvEcosystemSpecific) -> Resul
     }
 }
 
-/// Whether copies of a member of `affected` are like it.
+/// Returns whether copies of a member of `affected` are like it.
 fn affected_is_copied(alloc: Global, affected: &OsvAffected) -> Result<bool, Fail> {
     let copy = affected.clone(alloc)?;
     let package = copy.package.clone(alloc)?;
@@ -222,7 +222,7 @@ fn affected_is_copied(alloc: Global, affected: &OsvAffected) -> Result<bool, Fai
     Ok(package.name.as_str() == "base" && database.categories.is_empty())
 }
 
-/// Whether copies of the parts of a member of `affected` are like them.
+/// Returns whether copies of the parts of a member of `affected` are like them.
 fn inner_parts_are_copied(alloc: Global, affected: &OsvAffected) -> Result<bool, Fail> {
     let (Some(ecosystem), Some(ranges)) = (&affected.ecosystem_specific, &affected.ranges) else {
         return Ok(false);
@@ -235,7 +235,7 @@ fn inner_parts_are_copied(alloc: Global, affected: &OsvAffected) -> Result<bool,
     }
 }
 
-/// Whether copies of references, vectors and a license are like them.
+/// Returns whether copies of references, vectors and a license are like them.
 fn outer_parts_are_copied(alloc: Global, document: &OsvAdvisory) -> Result<bool, Fail> {
     for severity in &document.severity {
         let _severity = severity.clone(alloc)?;
@@ -249,7 +249,7 @@ fn outer_parts_are_copied(alloc: Global, document: &OsvAdvisory) -> Result<bool,
     }
 }
 
-/// Whether copies of all parts of a document are like them.
+/// Returns whether copies of all parts of a document are like them.
 fn parts_are_copied(alloc: Global, parts: &Parts) -> Result<bool, Fail> {
     let tree = tree_of(alloc, parts)?;
     let document = OsvAdvisory::from_value(alloc, &tree)?;

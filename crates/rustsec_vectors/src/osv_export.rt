@@ -1,4 +1,4 @@
-// Documents of advisories, and what is read out of a document.
+//! Documents of advisories, and what is read out of a document.
 
 use rustsec_advisory::Advisory;
 use rustsec_fixtures::{VALID, changed, kind_of};
@@ -33,8 +33,7 @@ pub const SHORT_DOCUMENT: &str =
 const VALID_DOCUMENT: &str =
     r#"{"affected":[{"database_specific":{"categories":["code-execution","privilege-escalation"],"cvss":"CVSS:3.1/AV:N/AC:L/PR:N/UI:N/S:C/C:H/I:H/A:H","informational":null},"ecosystem_specific":{"affected_functions":null,"affects":{"arch":["x86"],"functions":["base::belongs::All"],"os":["windows"]}},"package":{"ecosystem":"crates.io","name":"base","purl":"pkg:cargo/base"},"ranges":[{"events":[{"introduced":"0.0.0-0"},{"fixed":"1.2.3"}],"type":"SEMVER"}],"versions":[]}],"aliases":["CVE-2001-2101"],"database_specific":{"license":"CC0-1.0"},"details":"You have no chance to survive. Make your time.","id":"RUSTSEC-2001-2101","modified":"2020-01-01T00:00:00Z","published":"2001-02-03T12:00:00Z","references":[{"type":"PACKAGE","url":"https://crates.io/crates/base"},{"type":"ADVISORY","url":"https://rustsec.org/advisories/RUSTSEC-2001-2101.html"},{"type":"WEB","url":"https://www.youtube.com/watch?v=jQE66WA2s-A"}],"related":[],"severity":[{"score":"CVSS:3.1/AV:N/AC:L/PR:N/UI:N/S:C/C:H/I:H/A:H","type":"CVSS_V3"}],"summary":"All your base are belong to us"}"#;
 
-/// What the short advisory has and what stands there instead; what its document has, and what then
-/// stands there.
+/// A part of the short advisory and its replacement; the part of its document, and its replacement.
 const CHANGES: &[(&str, &str, &str, &str)] = &[
     (
         "\">= 1.2.3\"",
@@ -104,7 +103,7 @@ const KINDS: &[(&str, OsvReferenceKind)] = &[
     ("HTTPS://CRATES.IO/crates/base", OsvReferenceKind::PACKAGE),
 ];
 
-/// What stands before the lists of a document without more than it must have.
+/// The text before the lists of a document with only the required keys.
 const HEAD: &str = r#"{"details":"","id":"x","modified":"","published":"","summary":"","#;
 
 /// References of a document, and the IDs that they import, each before a line feed; none if refused.
@@ -132,20 +131,20 @@ const LINKS: &[(&str, Option<&str>)] = &[
 const CRATES: &str =
     r#""affected":[{"database_specific":{},"package":{"ecosystem":"crates.io","name":"b"}},{"database_specific":{},"package":{"ecosystem":"npm","name":"a"}},{"database_specific":{},"package":{"ecosystem":"crates.io","name":"a_"}},{"database_specific":{},"package":{"ecosystem":"crates.io","name":"b"}}]}"#;
 
-/// The document of an advisory's text.
+/// Returns the document of an advisory's text.
 fn exported(alloc: Global, text: &str) -> Result<OsvAdvisory, Fail> {
     let advisory = Advisory::from_str(alloc, text)?;
     Ok(OsvAdvisory::from_rustsec(alloc, advisory, "2020-01-01T00:00:00Z")?)
 }
 
-/// Whether the document of an advisory's text prints as wanted.
+/// Returns whether the document of an advisory's text prints as wanted.
 fn prints(alloc: Global, text: &str, wanted: &str) -> Result<bool, Fail> {
     let document = exported(alloc, text)?;
     let tree = document.to_value(alloc)?;
     Ok(tree.to_string(alloc)?.as_str() == wanted)
 }
 
-/// Whether the document of the short advisory changes with it.
+/// Returns whether the document of the short advisory changes with it.
 fn changes(alloc: Global, row: &(&str, &str, &str, &str)) -> Result<bool, Fail> {
     let (old, new, shown, wanted) = row;
     let text = changed(alloc, SHORT, old, new)?;
@@ -176,7 +175,7 @@ fn osv_events_and_members(rt: HostRuntime) -> Result<(), Fail> {
     expect_changes(&rt, CHANGES)
 }
 
-/// How an advisory with these patched requirements is refused.
+/// Returns how an advisory with these patched requirements is refused.
 fn refusal(alloc: Global, patched: &str) -> Result<Option<ErrorKind>, Fail> {
     let text = changed(alloc, SHORT, "\">= 1.2.3\"", patched)?;
     let advisory = Advisory::from_str(alloc, &text)?;
@@ -192,7 +191,7 @@ fn star_alone_exported(rt: HostRuntime) -> Result<(), Fail> {
     Ok(())
 }
 
-/// What the last reference of the short advisory leads to, if it has this further one.
+/// Returns what the last reference of the short advisory leads to, if it has this further one.
 fn kind_with(alloc: Global, address: &str) -> Result<Option<OsvReferenceKind>, Fail> {
     let key = format!(in alloc; "references = [\"{address}\"]\ndate =")?;
     let text = changed(alloc, SHORT, "date =", &key)?;
@@ -223,14 +222,14 @@ fn reference_kinds(rt: HostRuntime) -> Result<(), Fail> {
     expect_kinds(&rt, KINDS)
 }
 
-/// A document with these lists.
+/// Returns a document with these lists.
 fn with_lists(alloc: Global, lists: &str) -> Result<OsvAdvisory, Fail> {
     let text = format!(in alloc; "{HEAD}{lists}")?;
     let tree = Value::from_str(alloc, &text)?;
     Ok(OsvAdvisory::from_value(alloc, &tree)?)
 }
 
-/// The IDs that a document imports, each before a line feed; none if a link is refused.
+/// Returns the IDs that a document imports, each before a line feed; none if a link is refused.
 fn imported(alloc: Global, lists: &str) -> Result<Option<String>, Fail> {
     let document = with_lists(alloc, lists)?;
     let Ok(ids) = document.rustsec_refs_imported(alloc) else {
@@ -244,13 +243,13 @@ fn imported(alloc: Global, lists: &str) -> Result<Option<String>, Fail> {
     Ok(Some(text))
 }
 
-/// How the IDs in a document's links are refused.
+/// Returns how the IDs in a document's links are refused.
 fn link_refusal(alloc: Global, lists: &str) -> Result<Option<ErrorKind>, Fail> {
     let document = with_lists(alloc, lists)?;
     Ok(kind_of(document.rustsec_refs_imported(alloc)))
 }
 
-/// Whether a document imports these IDs, or is refused as its text is.
+/// Returns whether a document imports these IDs, or is refused as its text is.
 fn imports(alloc: Global, lists: &str, wanted: &Option<&str>) -> Result<bool, Fail> {
     match wanted {
         Some(wanted) => match imported(alloc, lists)? {
@@ -277,7 +276,7 @@ fn imported_references(rt: HostRuntime) -> Result<(), Fail> {
     expect_imports(&rt, LINKS)
 }
 
-/// The names of a document's crates, each before a line feed.
+/// Returns the names of a document's crates, each before a line feed.
 fn crate_names(alloc: Global, lists: &str) -> Result<String, Fail> {
     let document = with_lists(alloc, lists)?;
     let names = document.crates(alloc)?;
@@ -289,7 +288,7 @@ fn crate_names(alloc: Global, lists: &str) -> Result<String, Fail> {
     Ok(text)
 }
 
-/// Whether a document has these crates.
+/// Returns whether a document has these crates.
 fn has_crates(alloc: Global, lists: &str, wanted: &str) -> Result<bool, Fail> {
     Ok(crate_names(alloc, lists)?.as_str() == wanted)
 }

@@ -1,4 +1,4 @@
-// What commands write, row by row.
+//! What commands write, row by row.
 
 use rustsec_fixtures::writes;
 use std::process::Abort;

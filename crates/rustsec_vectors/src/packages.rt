@@ -1,4 +1,4 @@
-// Names and packages of lockfiles.
+//! Names and packages of lockfiles.
 
 use rustsec_fixtures::{kind_of, version};
 use rustsec_lock::SourceId;
@@ -32,7 +32,7 @@ const ORDERED: &[Row] = &[
     ("base-x", "0.1.0", None, None),
 ];
 
-/// The source of a text, if there is one.
+/// Returns the source of a text, if any.
 fn source(alloc: Global, text: Option<&str>) -> Result<Option<SourceId>, Fail> {
     match text {
         Some(url) => Ok(Some(SourceId::from_url(alloc, url)?)),
@@ -40,7 +40,7 @@ fn source(alloc: Global, text: Option<&str>) -> Result<Option<SourceId>, Fail> {
     }
 }
 
-/// The text of a checksum, if there is one.
+/// Returns the text of a checksum, if any.
 fn checksum(alloc: Global, text: Option<&str>) -> Result<Option<Text>, Fail> {
     match text {
         Some(text) => Ok(Some(Text::from_str(alloc, text)?)),
@@ -48,7 +48,7 @@ fn checksum(alloc: Global, text: Option<&str>) -> Result<Option<Text>, Fail> {
     }
 }
 
-/// The package of a row.
+/// Returns the package of a row.
 pub fn package(alloc: Global, row: &Row) -> Result<Package, Fail> {
     Ok(Package {
         name: Name::from_str(alloc, row.0)?,
@@ -58,20 +58,20 @@ pub fn package(alloc: Global, row: &Row) -> Result<Package, Fail> {
     })
 }
 
-/// How a package stands to that of a row; nothing where their order and their equality differ.
+/// Compares a package with that of a row; none if their order and their equality differ.
 fn order_beside(alloc: Global, low: &Package, high: &Row) -> Result<Option<Ordering>, Fail> {
     let high = package(alloc, high)?;
     let order = low.cmp(&high);
     Ok((order.is_eq() == (*low == high)).then_some(order))
 }
 
-/// Whether a row's package stands so to that of another one.
+/// Returns whether a row's package compares so with that of another row.
 fn stands(alloc: Global, low: &Row, high: &Row, order: Ordering) -> Result<bool, Fail> {
     let low = package(alloc, low)?;
     Ok(order_beside(alloc, &low, high)? == Some(order))
 }
 
-/// Checks that a package stands so to those of a list as its place does.
+/// Checks that a package compares with those of a list as its place does.
 fn expect_place<T: AllocGlobal + Abort>(
     rt: &T,
     place: usize,
@@ -95,7 +95,7 @@ fn package_order(rt: HostRuntime) -> Result<(), Fail> {
     Ok(())
 }
 
-/// Whether a copy of a row's package is equal to it.
+/// Returns whether a copy of a row's package is equal to it.
 fn is_copied(alloc: Global, row: &Row) -> Result<bool, Fail> {
     let package = package(alloc, row)?;
     let copy = package.clone(alloc)?;
@@ -109,20 +109,20 @@ fn package_copies(rt: HostRuntime) -> Result<(), Fail> {
     Ok(())
 }
 
-/// Whether a name prints as a text.
+/// Returns whether a name prints as a text.
 fn prints(alloc: Global, name: &Name, text: &str) -> Result<bool, Fail> {
     let printed = name.to_string(alloc)?;
     Ok(printed.as_str() == text)
 }
 
-/// Whether a text is a name, and is kept, printed and copied.
+/// Returns whether a text is a name, and is kept, printed and copied.
 fn is_name(alloc: Global, text: &str) -> Result<bool, Fail> {
     let name = Name::from_str(alloc, text)?;
     let copy = name.clone(alloc)?;
     Ok(name.as_str() == text && copy == name && prints(alloc, &copy, text)?)
 }
 
-/// How the names of two texts stand.
+/// Compares the names of two texts.
 fn order_of_names(alloc: Global, low: &str, high: &str) -> Result<Ordering, Fail> {
     let low = Name::from_str(alloc, low)?;
     let high = Name::from_str(alloc, high)?;

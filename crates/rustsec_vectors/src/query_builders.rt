@@ -1,4 +1,4 @@
-// Queries: each test of an advisory alone, and pairs of them; vulnerabilities.
+//! Queries: each test of an advisory alone, and pairs of them; vulnerabilities.
 
 use rustsec_advisory::Advisory;
 use rustsec_lock::package::{Name, Package};
@@ -51,21 +51,21 @@ enum Ask<'a> {
     Informational(bool),
 }
 
-/// Architectures as a vector.
+/// Returns architectures as a vector.
 fn arch_list(alloc: Global, all: &[Arch]) -> Result<Vec<Arch>, Fail> {
     let mut list = Vec::new(alloc);
     list.extend_from_slice(all)?;
     Ok(list)
 }
 
-/// Systems as a vector.
+/// Returns systems as a vector.
 fn system_list(alloc: Global, all: &[OS]) -> Result<Vec<OS>, Fail> {
     let mut list = Vec::new(alloc);
     list.extend_from_slice(all)?;
     Ok(list)
 }
 
-/// The query of one text.
+/// Returns the query of one text.
 fn query_of_text(alloc: Global, ask: &Ask<'_>) -> Result<Query, Fail> {
     let query = Query::new(alloc);
     Ok(match ask {
@@ -76,7 +76,7 @@ fn query_of_text(alloc: Global, ask: &Ask<'_>) -> Result<Query, Fail> {
     })
 }
 
-/// The query of one field.
+/// Returns the query of one field.
 fn query_of(alloc: Global, ask: &Ask<'_>) -> Result<Query, Fail> {
     let query = query_of_text(alloc, ask)?;
     Ok(match ask {
@@ -91,21 +91,21 @@ fn query_of(alloc: Global, ask: &Ask<'_>) -> Result<Query, Fail> {
     })
 }
 
-/// The advisory with its first place of a text changed.
+/// Returns the advisory with its first place of a text changed.
 fn advisory_with(alloc: Global, old: &str, new: &str) -> Result<Advisory, Fail> {
     let (before, after) = VALID.split_once(old).ok_or("there is nothing to change")?;
     let text = format!(in alloc; "{before}{new}{after}")?;
     Ok(Advisory::from_str(alloc, &text)?)
 }
 
-/// Whether a query of one field matches the advisory with a change.
+/// Returns whether a query of one field matches the advisory with a change.
 fn matches(alloc: Global, ask: &Ask<'_>, old: &str, new: &str) -> Result<bool, Fail> {
     let query = query_of(alloc, ask)?;
     let advisory = advisory_with(alloc, old, new)?;
     Ok(query.matches(&advisory))
 }
 
-/// What is asked for, a change of the advisory, and whether it matches then.
+/// A field, a change of the advisory, and whether the query then matches.
 type Row<'a> = (Ask<'a>, &'a str, &'a str, bool);
 
 /// Checks which advisories match.
@@ -249,7 +249,7 @@ fn years_and_kinds(rt: HostRuntime) -> Result<(), Fail> {
     )
 }
 
-/// A package of this version from the default registry.
+/// Returns a package of this version from the default registry.
 fn package(alloc: Global, version: &str) -> Result<Package, Fail> {
     Ok(Package {
         name: Name::from_str(alloc, "base")?,
@@ -259,7 +259,7 @@ fn package(alloc: Global, version: &str) -> Result<Package, Fail> {
     })
 }
 
-/// Whether a year together with a package matches the advisory.
+/// Returns whether a year together with a package matches the advisory.
 fn both_match(alloc: Global, version: &str, year: u32) -> Result<bool, Fail> {
     let package = package(alloc, version)?;
     let query = Query::new(alloc).year(year).package(alloc, &package)?;
@@ -267,7 +267,7 @@ fn both_match(alloc: Global, version: &str, year: u32) -> Result<bool, Fail> {
     Ok(query.matches(&advisory))
 }
 
-/// Whether a query that is not of the package says the same of it.
+/// Returns whether a query for another package answers the same.
 fn package_matches(alloc: Global, version: &str, year: u32) -> Result<bool, Fail> {
     let package = package(alloc, version)?;
     let query = Query::new(alloc).year(year);
@@ -289,14 +289,14 @@ fn two_tests_together(rt: HostRuntime) -> Result<(), Fail> {
     Ok(())
 }
 
-/// Whether the published scope matches the advisory in a collection with a change.
+/// Returns whether the published scope matches the advisory in a collection with a change.
 fn in_scope(alloc: Global, new: &str) -> Result<bool, Fail> {
     let query = Query::crate_scope(alloc).clone(alloc)?;
     let advisory = advisory_with(alloc, "date", new)?;
     Ok(query.matches(&advisory))
 }
 
-/// The same of the default query.
+/// Returns whether the default query does so.
 fn in_default(alloc: Global, new: &str) -> Result<bool, Fail> {
     let query = Query::default(alloc);
     let advisory = advisory_with(alloc, "date", new)?;
@@ -324,7 +324,7 @@ fn crate_scope(rt: HostRuntime) -> Result<(), Fail> {
     Ok(())
 }
 
-/// The vulnerability of a package of this version, by the advisory with a change.
+/// Returns the vulnerability of a package of this version, by the advisory with a change.
 fn vulnerability(
     alloc: Global,
     version: &str,
@@ -336,8 +336,8 @@ fn vulnerability(
     Ok(Vulnerability::new(alloc, &advisory, &package)?)
 }
 
-/// Whether the only affected function is the listed one, if some function is affected; nothing if none
-/// is listed.
+/// Returns whether the only affected function is the listed one, if some function is affected; nothing if none is
+/// listed.
 fn functions(alloc: Global, version: &str, old: &str, new: &str) -> Result<Option<bool>, Fail> {
     let vulnerability = vulnerability(alloc, version, old, new)?;
     let Some(paths) = vulnerability.affected_functions(alloc)? else {
@@ -370,7 +370,7 @@ fn affected_functions(rt: HostRuntime) -> Result<(), Fail> {
     Ok(())
 }
 
-/// Whether a copy of a vulnerability is equal to it, and one of another version is not.
+/// Returns whether a copy of a vulnerability is equal to it, and one of another version is not.
 fn is_copied(alloc: Global) -> Result<bool, Fail> {
     let first = vulnerability(alloc, "1.2.2", "", "")?;
     let copy = first.clone(alloc)?;

@@ -1,4 +1,4 @@
-// The commands over readers and writers that take one byte a call, that fail, and that hold much.
+//! The commands over readers and writers that take one byte a call, that fail, and that hold much.
 
 use rustsec_commands::{Fault, answer, answer_ranges, run};
 use rustsec_fixtures::{ByteReader, ByteWriter, writes};
@@ -38,7 +38,7 @@ fn carry_out<T: Files + AllocGlobal>(
 /// The calls at which a read and a write fail, none at 0.
 type Failures = (u64, u64);
 
-/// Whether a call gives this answer for an input, and then this is written, if a read and a write fail.
+/// Returns whether a call gives this answer for an input, and then this is written, if a read and a write fail.
 fn gives<T: Files + AllocGlobal>(
     rt: &T,
     call: Call,
@@ -122,7 +122,7 @@ fn one_byte_a_call(rt: HostRuntime) {
     }
 }
 
-/// The number of the call that comes after so many.
+/// Returns the number of the call that follows this many calls.
 fn call_after(calls: usize) -> u64 {
     (calls as u64).saturating_add(1)
 }
@@ -185,7 +185,7 @@ fn writes_that_fail(rt: HostRuntime) {
     }
 }
 
-/// A filler so many times between two texts.
+/// Returns a filler, repeated this often, between two texts.
 fn far_apart(
     alloc: Global,
     first: &str,
@@ -197,7 +197,7 @@ fn far_apart(
     Ok(format!(in alloc; "{first}{filler}{last}")?)
 }
 
-/// A command, a text, a filler and how often it stands, another text; the status, and what is written.
+/// A command, a text, a filler and how often it is repeated, another text; the status, and what is written.
 type LongRow<'a> = (&'a str, &'a str, &'a str, usize, &'a str, u8, &'a str);
 
 /// Inputs above a megabyte, whose end decides.
@@ -231,7 +231,7 @@ const LONG: &[LongRow<'static>] = &[
     ),
 ];
 
-/// Whether a long input is answered as its row says.
+/// Returns whether a long input is answered as its row says.
 fn long_is_answered<T: Files + AllocGlobal>(rt: &T, row: &LongRow<'_>) -> Result<bool, Fail> {
     let (command, first, filler, count, last, status, text) = row;
     let input = far_apart(rt.alloc(), first, filler, *count, last)?;

@@ -1,11 +1,11 @@
-// The lines of code of the README.
+//! The lines of code of the README.
 
 use rustsec_versions::Versions;
 use semver::{Version, VersionReq};
 use std::alloc::Global;
 use std::test::Fail;
 
-/// Whether the README's version is affected, by its lines.
+/// Returns whether the README's version is affected, by its lines.
 fn is_affected(alloc: Global) -> Result<bool, Fail> {
     let patched = vec![in alloc; VersionReq::parse(alloc, ">= 1.2.3")?]?;
     let unaffected = vec![in alloc; VersionReq::parse(alloc, "< 1.0.0")?]?;

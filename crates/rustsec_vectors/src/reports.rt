@@ -1,4 +1,4 @@
-// Reports: which pairs they list, their JSON trees, and what of them applies to compiled programs.
+//! Reports: which pairs they list, their JSON trees, and what of them applies to compiled programs.
 
 use rustsec_advisory::Affected;
 use rustsec_database::{Database, SourceFile};
@@ -19,7 +19,7 @@ use std::test::Fail;
 
 // ---- JSON trees
 
-/// Settings that ask for all warnings of informational advisories.
+/// Returns settings that ask for all warnings of informational advisories.
 fn all_warnings(alloc: Global) -> Result<Settings, Fail> {
     let mut settings = Settings::new(alloc);
     let wanted = &mut settings.informational_warnings;
@@ -29,7 +29,7 @@ fn all_warnings(alloc: Global) -> Result<Settings, Fail> {
     Ok(settings)
 }
 
-/// The report of no package by no advisory.
+/// Returns the report of no package by no advisory.
 fn empty_report(alloc: Global) -> Result<Report, Fail> {
     let settings = all_warnings(alloc)?;
     let lockfile = Lockfile::from_str(alloc, "")?;
@@ -37,7 +37,7 @@ fn empty_report(alloc: Global) -> Result<Report, Fail> {
     Ok(Report::generate(alloc, &database, &lockfile, &settings)?)
 }
 
-/// Whether a report is written as a text.
+/// Returns whether a report is written as a text.
 fn is_written(alloc: Global, report: &Report, text: &str) -> Result<bool, Fail> {
     let value = report.to_value(alloc)?;
     let found = value.to_string(alloc)?;
@@ -50,7 +50,7 @@ const EMPTY: &str = "{\"lockfile\":{\"dependency-count\":0},\"settings\":{\"igno
     \"target_arch\":[],\"target_os\":[]},\"vulnerabilities\":{\"count\":0,\"found\":false,\
     \"list\":[]},\"warnings\":{}}";
 
-/// Whether the empty report is written as it should be.
+/// Returns whether the empty report is written as it should be.
 fn empty_is_written(alloc: Global) -> Result<bool, Fail> {
     let report = empty_report(alloc)?;
     is_written(alloc, &report, EMPTY)
@@ -65,7 +65,7 @@ fn empty_report_text(rt: HostRuntime) -> Result<(), Fail> {
 
 // ---- the filter
 
-/// A notice about a package, whose advisory affects one system.
+/// Returns a notice about a package, whose advisory affects one system.
 fn notice(alloc: Global, system: OS) -> Result<Warning, Fail> {
     let package = Package {
         name: Name::from_str(alloc, "base")?,
@@ -85,7 +85,7 @@ fn notice(alloc: Global, system: OS) -> Result<Warning, Fail> {
     )?)
 }
 
-/// The notice alone, by its kind.
+/// Returns the notice alone, by its kind.
 fn notices(alloc: Global, system: OS) -> Result<WarningInfo, Fail> {
     let mut list = Items::new(alloc);
     list.push(notice(alloc, system)?)?;
@@ -94,7 +94,7 @@ fn notices(alloc: Global, system: OS) -> Result<WarningInfo, Fail> {
     Ok(warnings)
 }
 
-/// How many notices a format leaves, none where the kind is gone, after one call or two.
+/// Returns how many notices a format leaves, none if the kind is gone, after one call or two.
 fn left(
     alloc: Global,
     system: OS,
@@ -155,7 +155,7 @@ fn filter_keeps_empty_kind(rt: HostRuntime) -> Result<(), Fail> {
 
 // ---- which pairs a report lists
 
-/// A file of an advisory for `base`, patched from version 2 on.
+/// Returns a file of an advisory for `base`, patched from version 2 on.
 fn file(alloc: Global, id: &str, extra: &str) -> Result<SourceFile, Fail> {
     let path = format!(in alloc; "crates/base/{id}.md")?;
     let text = format!(in alloc;
@@ -168,13 +168,13 @@ fn file(alloc: Global, id: &str, extra: &str) -> Result<SourceFile, Fail> {
     })
 }
 
-/// A file of an informational advisory.
+/// Returns a file of an informational advisory.
 fn informational_file(alloc: Global, kind: &str) -> Result<SourceFile, Fail> {
     let extra = format!(in alloc; "informational = \"{kind}\"")?;
     file(alloc, "RUSTSEC-2001-0003", &extra)
 }
 
-/// A plain advisory, a withdrawn one, and an informational one of a kind.
+/// Returns a plain advisory, a withdrawn one, and an informational one of a kind.
 fn database(alloc: Global, kind: &str) -> Result<Database, Fail> {
     let mut files = Vec::new(alloc);
     files.push(file(alloc, "RUSTSEC-2001-0001", "")?)?;
@@ -194,14 +194,14 @@ const OTHERS: &str = "[[package]]\nname = \"base\"\nversion = \"1.0.0\"\n\
     [[package]]\nname = \"base\"\nversion = \"1.0.0\"\n\
     source = \"sparse+https://index.crates.io/\"\n";
 
-/// The four packages, the first one once or twice.
+/// Returns the four packages, the first one once or twice.
 fn lockfile(alloc: Global, twice: bool) -> Result<Lockfile, Fail> {
     let again = if twice { FIRST } else { "" };
     let text = format!(in alloc; "{FIRST}{again}{OTHERS}")?;
     Ok(Lockfile::from_str(alloc, &text)?)
 }
 
-/// What is asked for, and what is to be found.
+/// The settings of a report, and its expected contents.
 #[derive(Clone, Copy)]
 struct Row<'a> {
     twice: bool,
@@ -212,7 +212,7 @@ struct Row<'a> {
     packages: usize,
 }
 
-/// Settings of severity High, which ask for warnings of a kind and ignore an advisory.
+/// Returns settings of severity High, which ask for warnings of a kind and ignore an advisory.
 fn settings(alloc: Global, row: &Row<'_>) -> Result<Settings, Fail> {
     let mut settings = Settings::new(alloc);
     settings.severity = Some(Severity::High);
@@ -223,7 +223,7 @@ fn settings(alloc: Global, row: &Row<'_>) -> Result<Settings, Fail> {
     Ok(settings)
 }
 
-/// The report of a row.
+/// Returns the report of a row.
 fn report(alloc: Global, row: &Row<'_>) -> Result<Report, Fail> {
     let database = database(alloc, row.kind)?;
     let lockfile = lockfile(alloc, row.twice)?;
@@ -231,7 +231,7 @@ fn report(alloc: Global, row: &Row<'_>) -> Result<Report, Fail> {
     Ok(Report::generate(alloc, &database, &lockfile, &settings)?)
 }
 
-/// Whether all vulnerabilities are of the default registry and by one advisory.
+/// Returns whether all vulnerabilities are of the default registry and by one advisory.
 fn are_of_first(list: &[Vulnerability], id: &str) -> bool {
     for vulnerability in list {
         let source = &vulnerability.package.source;
@@ -243,7 +243,7 @@ fn are_of_first(list: &[Vulnerability], id: &str) -> bool {
     true
 }
 
-/// Whether a report has what a row wants.
+/// Returns whether a report has what a row wants.
 fn is_wanted(report: &Report, row: &Row<'_>) -> bool {
     let info = &report.vulnerabilities;
     let warnings = report.warnings.get(&WarningKind::Unmaintained);
@@ -255,7 +255,7 @@ fn is_wanted(report: &Report, row: &Row<'_>) -> bool {
         && report.lockfile.dependency_count == row.packages
 }
 
-/// Whether the report of a row has what the row wants.
+/// Returns whether the report of a row has what the row wants.
 fn is_as_wanted(alloc: Global, row: &Row<'_>) -> Result<bool, Fail> {
     let report = report(alloc, row)?;
     Ok(is_wanted(&report, row))
@@ -270,7 +270,7 @@ fn expect_reports<T: AllocGlobal + Abort>(rt: &T, rows: &[Row<'_>]) -> Result<()
     Ok(())
 }
 
-/// Whether a copy of the report of a row has the same tree.
+/// Returns whether a copy of the report of a row has the same tree.
 fn report_is_copied(alloc: Global, row: &Row<'_>) -> Result<bool, Fail> {
     let report = report(alloc, row)?;
     let copy = report.clone(alloc)?;
@@ -279,14 +279,14 @@ fn report_is_copied(alloc: Global, row: &Row<'_>) -> Result<bool, Fail> {
     is_written(alloc, &copy, text.as_str())
 }
 
-/// Whether a copy of a report's vulnerabilities is equal to them.
+/// Returns whether a copy of a report's vulnerabilities is equal to them.
 fn vulnerabilities_are_copied(alloc: Global, row: &Row<'_>) -> Result<bool, Fail> {
     let report = report(alloc, row)?;
     let copy = report.vulnerabilities.clone(alloc)?;
     Ok(copy.count == report.vulnerabilities.count && copy.list == report.vulnerabilities.list)
 }
 
-/// How many warnings `find_warnings` finds for a row by copied settings.
+/// Returns how many warnings `find_warnings` finds for a row by copied settings.
 fn warnings_found(alloc: Global, row: &Row<'_>) -> Result<Option<usize>, Fail> {
     let settings = settings(alloc, row)?;
     let copy = settings.clone(alloc)?;

@@ -1,5 +1,5 @@
-// The commands `report` and `audit` over roots on the disk: whole reports, as the Rust crate writes them, which words
-// are paths, and what is refused first.
+//! The commands `report` and `audit` over roots on the disk: whole reports, as the Rust crate writes them, which
+//! words are paths, and what is refused first.
 
 use crate::audit_command::expect_over_root;
 use crate::outputs::expect_outputs;
@@ -11,7 +11,7 @@ use std::test::Fail;
 const FOUR: &str =
     "{\"lockfile\":{\"dependency-count\":4},\"settings\":{\"ignore\":[],\"informational_warnings\":[\"notice\",\"unmaintained\",\"unsound\"],\"severity\":null,\"target_arch\":[],\"target_os\":[]},\"vulnerabilities\":{\"count\":1,\"found\":true,\"list\":[{\"advisory\":{\"aliases\":[],\"categories\":[],\"collection\":\"crates\",\"cvss\":null,\"date\":\"2001-02-03\",\"description\":\"D\",\"expect-deleted\":false,\"id\":\"RUSTSEC-2001-0001\",\"informational\":null,\"keywords\":[],\"license\":\"CC0-1.0\",\"package\":\"base\",\"references\":[],\"related\":[],\"source\":null,\"title\":\"T\",\"url\":null,\"withdrawn\":null},\"affected\":null,\"package\":{\"checksum\":null,\"name\":\"base\",\"source\":\"registry+https://github.com/rust-lang/crates.io-index\",\"version\":\"1.0.0\"},\"versions\":{\"patched\":[\">=2.0.0\"],\"unaffected\":[]}}]},\"warnings\":{\"unmaintained\":[{\"advisory\":{\"aliases\":[],\"categories\":[],\"collection\":\"crates\",\"cvss\":null,\"date\":\"2001-02-03\",\"description\":\"D\",\"expect-deleted\":false,\"id\":\"RUSTSEC-2001-0003\",\"informational\":\"unmaintained\",\"keywords\":[],\"license\":\"CC0-1.0\",\"package\":\"base\",\"references\":[],\"related\":[],\"source\":null,\"title\":\"T\",\"url\":null,\"withdrawn\":null},\"affected\":null,\"kind\":\"unmaintained\",\"package\":{\"checksum\":null,\"name\":\"base\",\"source\":\"registry+https://github.com/rust-lang/crates.io-index\",\"version\":\"1.0.0\"},\"versions\":{\"patched\":[\">=2.0.0\"],\"unaffected\":[]}}]}}\n";
 
-/// An advisory with nearly all keys, a title with quotes and functions that stand in no order of their bytes.
+/// An advisory with nearly all keys, a title with quotes and functions that are not in the order of their bytes.
 const FULL: &[(&str, &str)] = &[(
     "crates/base/RUSTSEC-2001-0004.md",
     "```toml\n[advisory]\nid = \"RUSTSEC-2001-0004\"\npackage = \"base\"\ndate = \"2001-02-03\"\nurl = \"https://example.com/a?b=c\"\nreferences = [\"https://example.com/1\", \"https://example.com/2\"]\ncategories = [\"memory-corruption\", \"code-execution\"]\nkeywords = [\"x\", \"quick\"]\naliases = [\"CVE-2001-0001\", \"GHSA-aaaa-bbbb-cccc\"]\nrelated = [\"RUSTSEC-2001-0001\"]\ncvss = \"CVSS:3.1/AV:N/AC:L/PR:N/UI:N/S:C/C:H/I:H/A:H\"\nlicense = \"CC0-1.0\"\n\n[versions]\npatched = [\"^0.9.4\", \">= 2.0.0\"]\nunaffected = [\"< 0.5.0\"]\n\n[affected]\narch = [\"x86\", \"x86_64\"]\nos = [\"windows\", \"linux\"]\nfunctions = { \"base0::b\" = [\"< 2.0.0\"], \"base::a\" = [\"< 2.0.0\", \"> 0.1.0\"] }\n```\n\n# A \"title\" \\ here\n\nFirst line.\nA \"second\" one.\n",
@@ -49,10 +49,10 @@ fn whole_reports(rt: HostRuntime) -> Result<(), Fail> {
     )
 }
 
-/// A file that is no advisory.
+/// A file that is not an advisory.
 const NO_ADVISORY: &[(&str, &str)] = &[("crates/base/RUSTSEC-2001-0001.md", "no advisory")];
 
-// The two words behind `audit` are paths whatever they are. The database is read before the lockfile.
+// The two arguments after `audit` are always paths. The database is read before the lockfile.
 #[test]
 fn audit_reads_the_database_first(rt: HostRuntime) -> Result<(), Fail> {
     let (io, parse) = ("refused: I/O operation failed\n", "refused: parse error\n");

@@ -1,4 +1,4 @@
-// The sources of packages.
+//! The sources of packages.
 
 use rustsec_fixtures::kind_of;
 use rustsec_lock::{SourceId, SourceKind};
@@ -83,25 +83,25 @@ const SOURCES: &[Source] = &[
     ("registry+ ", SourceKind::Registry, " ", false),
 ];
 
-/// Whether a source has the parts of a row.
+/// Returns whether a source has the parts of a row.
 fn has_parts(source: &SourceId, row: &Source) -> bool {
     let (_, kind, url, is_default) = row;
     source.kind() == *kind && source.url() == *url && source.is_default_registry() == *is_default
 }
 
-/// Whether a source prints as a text.
+/// Returns whether a source prints as a text.
 fn prints(alloc: Global, source: &SourceId, text: &str) -> Result<bool, Fail> {
     let printed = source.to_string(alloc)?;
     Ok(printed.as_str() == text)
 }
 
-/// Whether a copy of a source is equal to it.
+/// Returns whether a copy of a source is equal to it.
 fn is_copied(alloc: Global, source: &SourceId) -> Result<bool, Fail> {
     let copy = source.clone(alloc)?;
     Ok(copy == *source)
 }
 
-/// Whether a row's text is read as the row says, printed and copied.
+/// Returns whether a row's text is read as the row says, printed and copied.
 fn is_read(alloc: Global, row: &Source) -> Result<bool, Fail> {
     let source = SourceId::from_url(alloc, row.0)?;
     Ok(has_parts(&source, row) && prints(alloc, &source, row.0)? && is_copied(alloc, &source)?)
@@ -115,12 +115,12 @@ fn source_ids(rt: HostRuntime) -> Result<(), Fail> {
     Ok(())
 }
 
-/// Whether a text is refused as a source.
+/// Returns whether a text is refused as a source.
 fn is_refused(alloc: Global, text: &str) -> bool {
     kind_of(SourceId::from_url(alloc, text)) == Some(ErrorKind::Parse)
 }
 
-/// Checks that texts are no sources.
+/// Checks that texts are not sources.
 fn expect_refused<T: AllocGlobal + Abort>(rt: &T, texts: &[&str]) {
     for text in texts {
         assert!(rt; is_refused(rt.alloc(), text), "of {text}");
@@ -144,7 +144,7 @@ fn source_ids_refused(rt: HostRuntime) {
     );
 }
 
-/// Whether the default source prints as a text.
+/// Returns whether the default source prints as a text.
 fn default_prints(alloc: Global, text: &str) -> Result<bool, Fail> {
     let source = SourceId::default(alloc)?;
     prints(alloc, &source, text)
@@ -157,20 +157,20 @@ fn default_source_id(rt: HostRuntime) -> Result<(), Fail> {
     Ok(())
 }
 
-/// How a source stands to that of a text; nothing where their order and their equality differ.
+/// Compares a source with that of a text; none if their order and their equality differ.
 fn order_beside(alloc: Global, source: &SourceId, other: &str) -> Result<Option<Ordering>, Fail> {
     let other = SourceId::from_url(alloc, other)?;
     let order = source.cmp(&other);
     Ok((order.is_eq() == (*source == other)).then_some(order))
 }
 
-/// Whether a source stands so to the one of another text.
+/// Returns whether a source compares so with that of another text.
 fn stands(alloc: Global, text: &str, other: &str, order: Ordering) -> Result<bool, Fail> {
     let source = SourceId::from_url(alloc, text)?;
     Ok(order_beside(alloc, &source, other)? == Some(order))
 }
 
-/// Checks that a source stands so to those of a list as its place does.
+/// Checks that a source compares with those of a list as its place does.
 fn expect_place<T: AllocGlobal + Abort>(
     rt: &T,
     place: usize,

@@ -1,4 +1,4 @@
-// The ranges that lists keep, and how many comparisons a search among them makes.
+//! The ranges that lists keep, and how many comparisons a search among them makes.
 
 use rustsec_fixtures::{lists, version};
 use rustsec_versions::{Steps, Versions, ranges_for_advisory};
@@ -38,7 +38,7 @@ const fn asked_of<'a>(
     }
 }
 
-/// Whether the search gives the row's answer, within its comparisons, and so does the plain test.
+/// Returns whether the search gives the row's answer, within its comparisons, and so does the plain test.
 fn answers(versions: &Versions, asked: &Version, row: &Row<'_>) -> bool {
     let mut steps = Steps::new();
     let affected = versions.is_vulnerable_counted(asked, &mut steps);
@@ -47,19 +47,19 @@ fn answers(versions: &Versions, asked: &Version, row: &Row<'_>) -> bool {
         && versions.is_vulnerable(asked) == row.affected
 }
 
-/// Whether the version of a row is answered as it says.
+/// Returns whether the version of a row is answered as it says.
 fn is_answered(alloc: Global, versions: &Versions, row: &Row<'_>) -> Result<bool, Fail> {
     let asked = version(alloc, row.version)?;
     Ok(answers(versions, &asked, row))
 }
 
-/// How many ranges lists leave.
+/// Returns how many ranges lists leave.
 fn range_count(alloc: Global, versions: &Versions) -> Result<usize, Fail> {
     let ranges = ranges_for_advisory(alloc, versions)?;
     Ok(ranges.len())
 }
 
-/// Whether a row holds.
+/// Returns whether a row holds.
 fn holds(alloc: Global, row: &Row<'_>) -> Result<bool, Fail> {
     let versions = lists(alloc, row.patched, &[])??;
     Ok(range_count(alloc, &versions)? == row.ranges && is_answered(alloc, &versions, row)?)

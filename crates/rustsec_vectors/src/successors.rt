@@ -1,4 +1,4 @@
-// The successor of a version: the least one above it.
+//! The successor of a version: the least one above it.
 
 use rustsec_fixtures::version;
 use rustsec_versions::successor;
@@ -7,7 +7,7 @@ use std::cmp::Ordering;
 use std::process::Abort;
 use std::test::Fail;
 
-/// Whether the successor of a version prints as a text, or there is none.
+/// Returns whether the successor of a version prints as a text, or there is none.
 fn has_successor(alloc: Global, text: &str, expected: Option<&str>) -> Result<bool, Fail> {
     let version = version(alloc, text)?;
     let Some(found) = successor(alloc, &version)? else {
@@ -28,7 +28,7 @@ fn expect_successors<T: AllocGlobal + Abort>(
     Ok(())
 }
 
-/// How two versions stand, in precedence.
+/// Compares two versions, in precedence.
 fn precedence(alloc: Global, low: &str, high: &str) -> Result<Ordering, Fail> {
     let low = version(alloc, low)?;
     let high = version(alloc, high)?;

@@ -1,5 +1,5 @@
-// Lists of requirements by the library's calls: which are accepted, which versions they leave affected,
-// and their ranges.
+//! Lists of requirements by the library's calls: which are accepted, which versions they leave affected, and their
+//! ranges.
 
 use rustsec_advisory::Advisory;
 use rustsec_fixtures::{VALID, changed, interval, kind_of, lists, some_affects, version};
@@ -19,7 +19,7 @@ struct Row<'a> {
     affected: &'a [(&'a str, bool)],
 }
 
-/// Whether a side of a range prints as a text, a dash where it is missing.
+/// Returns whether a side of a range prints as a text, or as a dash if it is missing.
 fn prints(alloc: Global, side: &Option<Version>, text: &str) -> Result<bool, Fail> {
     match side {
         Some(version) => {
@@ -30,7 +30,7 @@ fn prints(alloc: Global, side: &Option<Version>, text: &str) -> Result<bool, Fai
     }
 }
 
-/// Whether the sides of ranges print as these texts.
+/// Returns whether the sides of ranges print as these texts.
 fn are(alloc: Global, ranges: &[OsvRange], sides: &[(&str, &str)]) -> Result<bool, Fail> {
     for (range, (introduced, fixed)) in ranges.iter().zip(sides) {
         if !prints(alloc, &range.introduced, introduced)? || !prints(alloc, &range.fixed, fixed)? {
@@ -40,13 +40,13 @@ fn are(alloc: Global, ranges: &[OsvRange], sides: &[(&str, &str)]) -> Result<boo
     Ok(ranges.len() == sides.len())
 }
 
-/// Whether lists have these ranges.
+/// Returns whether lists have these ranges.
 fn has_ranges(alloc: Global, lists: &Versions, sides: &[(&str, &str)]) -> Result<bool, Fail> {
     let ranges = ranges_for_advisory(alloc, lists)?;
     are(alloc, &ranges, sides)
 }
 
-/// Whether a version is affected by lists and in their ranges, if both say the same.
+/// Returns whether a version is affected by lists and in their ranges, if both say the same.
 fn verdict(
     alloc: Global,
     lists: &Versions,
@@ -58,7 +58,7 @@ fn verdict(
     Ok((some_affects(ranges, &asked) == affected).then_some(affected))
 }
 
-/// Whether lists and their ranges leave these versions affected.
+/// Returns whether lists and their ranges leave these versions affected.
 fn leave(
     alloc: Global,
     lists: &Versions,
@@ -73,13 +73,13 @@ fn leave(
     Ok(true)
 }
 
-/// Whether lists leave these versions affected, by themselves and by their ranges.
+/// Returns whether lists leave these versions affected, by themselves and by their ranges.
 fn has_verdicts(alloc: Global, lists: &Versions, affected: &[(&str, bool)]) -> Result<bool, Fail> {
     let ranges = ranges_for_advisory(alloc, lists)?;
     leave(alloc, lists, &ranges, affected)
 }
 
-/// Whether a row's lists have the ranges and the verdicts of the row.
+/// Returns whether a row's lists have the ranges and the verdicts of the row.
 fn holds(alloc: Global, row: &Row<'_>) -> Result<bool, Fail> {
     let lists = lists(alloc, row.patched, row.unaffected)??;
     Ok(has_ranges(alloc, &lists, row.ranges)? && has_verdicts(alloc, &lists, row.affected)?)
@@ -98,7 +98,7 @@ fn expect<T: AllocGlobal + Abort>(rt: &T, rows: &[Row<'_>]) -> Result<(), Fail> 
     Ok(())
 }
 
-/// Whether lists are refused for what they hold.
+/// Returns whether lists are refused for what they hold.
 fn are_refused(alloc: Global, patched: &[&str], unaffected: &[&str]) -> Result<bool, Fail> {
     let answer = lists(alloc, patched, unaffected)?;
     Ok(kind_of(answer) == Some(ErrorKind::BadParam))
@@ -401,7 +401,7 @@ fn numbers_at_each_limit(rt: HostRuntime) -> Result<(), Fail> {
     expect(&rt, AT_EACH_LIMIT)
 }
 
-/// Whether a range has the version of a text.
+/// Returns whether a range has the version of a text.
 fn affects(alloc: Global, range: &OsvRange, text: &str) -> Result<bool, Fail> {
     let version = version(alloc, text)?;
     Ok(range.affects(&version))
@@ -438,19 +438,19 @@ fn affects_by_the_order_of_the_type(rt: HostRuntime) -> Result<(), Fail> {
     )
 }
 
-/// The interval from a version on.
+/// Returns the interval from a version on.
 fn from(alloc: Global, text: &str) -> Result<UnaffectedRange, Fail> {
     let bound = Bound::Inclusive(version(alloc, text)?);
     Ok(UnaffectedRange::new(alloc, bound, Bound::Unbounded)?)
 }
 
-/// The interval up to a version.
+/// Returns the interval up to a version.
 fn up_to(alloc: Global, text: &str) -> Result<UnaffectedRange, Fail> {
     let bound = Bound::Inclusive(version(alloc, text)?);
     Ok(UnaffectedRange::new(alloc, Bound::Unbounded, bound)?)
 }
 
-/// Whether the interval from a version on overlaps that up to another one, and itself.
+/// Returns whether the interval from a version on overlaps that up to another one, and itself.
 fn overlaps(alloc: Global, low: &str, high: &str) -> Result<(bool, bool), Fail> {
     let above = from(alloc, low)?;
     let below = up_to(alloc, high)?;
@@ -464,7 +464,7 @@ fn overlap_by_the_order_of_the_type(rt: HostRuntime) -> Result<(), Fail> {
     Ok(())
 }
 
-/// Whether an interval holds the version of a text.
+/// Returns whether an interval holds the version of a text.
 fn holds_version(alloc: Global, interval: &UnaffectedRange, text: &str) -> Result<bool, Fail> {
     let version = version(alloc, text)?;
     Ok(interval.holds(&version))
@@ -485,7 +485,7 @@ fn expect_held<T: AllocGlobal + Abort>(
     Ok(())
 }
 
-// An interval holds versions by precedence, in which build metadata plays no part.
+// An interval holds versions by precedence, which ignores build metadata.
 #[test]
 fn holds_by_precedence(rt: HostRuntime) -> Result<(), Fail> {
     let till = interval(rt.alloc(), "<= 1.2.3")??;
@@ -496,7 +496,7 @@ fn holds_by_precedence(rt: HostRuntime) -> Result<(), Fail> {
     )
 }
 
-/// Patched requirements of which some overlap, with what they leave.
+/// Patched requirements, with some overlaps, and the versions that they leave affected.
 const MERGED: &[Row<'static>] = &[
     Row {
         patched: &[">= 1.0.0, < 1.5.0", ">= 1.4.0, < 2.0.0"],
@@ -562,7 +562,7 @@ fn touching_stays_apart(rt: HostRuntime) -> Result<(), Fail> {
     expect(&rt, TOUCHING)
 }
 
-/// Whether the advisory with these patched requirements finds these versions vulnerable.
+/// Returns whether the advisory with these patched requirements finds these versions vulnerable.
 fn advisory_finds(alloc: Global, patched: &str, rows: &[(&str, bool)]) -> Result<bool, Fail> {
     let text = changed(alloc, VALID, "[\">= 1.2.3\"]", patched)?;
     let advisory = Advisory::from_str(alloc, &text)?;

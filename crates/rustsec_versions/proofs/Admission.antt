@@ -1,4 +1,4 @@
--- How the intervals of a list of requirements follow a loop over it.
+-- How a loop over a list of requirements builds the intervals of the list.
 use Rattle.std.proofs.Common.{◌≡◌, ℕ, Bool, ◌+◌, ◌<◌, ◌++◌, true, false, List, [], ◌∷◌, Some, None, length, take, get_or, map, refl, sym, ◌∙◌}
 use Rattle.std.specs.Prelude.{filter_map, is_some}
 use Rattle.std.proofs.lemmas.List.{map-append, take_more}
@@ -19,7 +19,7 @@ interval-more : (rs : List VersionReq) (i : ℕ) (r : VersionReq) (x : Interval)
 interval-more rs i r x lt at is =
     rw (take_more rs i r lt, ← at, map-append, filter_map-append, is) refl
 
--- the same of a marked list
+-- one more interval of a list with marks
 pub marked-more : (b : Bool) (rs : List VersionReq) (i : ℕ) (r : VersionReq) (x : Interval) → i < length rs → r ≡ get_or rs i r
     → interval_of (comparators_of r) ≡ Some x
     → marked b (map comparators_of (take (i + 1) rs)) ≡ marked b (map comparators_of (take i rs)) ++ mark b x ∷ []

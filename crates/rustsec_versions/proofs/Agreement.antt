@@ -45,7 +45,7 @@ pub intervals-admissible : (rs : List (List Held)) → AllAdmissible (filter_map
 intervals-admissible [] = tt
 intervals-admissible (r ∷ rs) = admissible_option (interval_of r) (filter_map interval_of rs) (interval_of-admissible r) (intervals-admissible rs)
 
--- ---- the order of the requirements plays no part
+-- ---- the order of the requirements does not matter
 
 pub same-intervals : (ls ms : Lists) → SameRequirements ls ms → IsPermutation (intervals ls) (intervals ms)
 same-intervals ls ms p = IsPermutation-filter_map interval_of (ls.patched ++ ls.unaffected) (ms.patched ++ ms.unaffected) p
@@ -88,7 +88,7 @@ module _ (ls : Lists) (all : all_admissible (ls.patched ++ ls.unaffected) ≡ tr
   same-clear : accepted ls ≡ are_clear (map (λ x. x.now) xs)
   same-clear = accepted-clear ls all ∙ clear_shuffled (shuffled _ _ same)
 
-  -- where the sweep finds two that clash
+  -- if the sweep finds two that clash
   pub sweep-refused : all_swept (map (λ x. x.now) xs) ≡ None → accepted ls ≡ false
   sweep-refused none = same-clear ∙ all_swept-none _ spans-sound spans-admissible (starts-rise xs sorted) none
 
@@ -148,7 +148,7 @@ module _ (ls : Lists) where
   own-admissible : AllAdmissible (intervals ls)
   own-admissible = intervals-admissible (ls.patched ++ ls.unaffected)
 
-  -- wherever the requirements stand, they have one list of ranges
+  -- pairs of lists with the same requirements have one list of ranges
   pub ranges-one : (ms : Lists) (rs us : List Range) → SameRequirements ls ms → AreMergedRanges ls rs → AreMergedRanges ms us → us ≡ rs
   ranges-one ms rs us p r u =
       merged-ranges-one (intervals ls) (intervals ms) r.merged u.merged rs us own-sound own-admissible (same-intervals ls ms p) r.are_merged u.are_merged
@@ -182,11 +182,11 @@ module _ (ls : Lists) where
     pub kept-order : (ms : Lists) (us : List Range) → SameRequirements ls ms → AreMergedRanges ms us → us ≡ rs
     kept-order ms us p r = ranges-one ms rs us p kept.ranges r
 
-    -- any ranges of the same lists are as many
+    -- any two lists of ranges of the same requirements have the same length
     pub kept-length : (us : List Range) → AreMergedRanges ls us → length us ≡ length rs
     kept-length us r = ap length (kept-order ls us (IsPermutation-refl (ls.patched ++ ls.unaffected)) r)
 
-    -- intervals of which no two overlap are their own merged ones
+    -- intervals that do not overlap are their own merged intervals
     pub kept-apart : accepted_apart ls ≡ true → (us : List Range) → AreRanges (intervals ls) us ↔ (us ≡ rs)
     kept-apart h us =
         let r = kept.ranges in

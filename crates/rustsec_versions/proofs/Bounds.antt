@@ -21,13 +21,13 @@ at_most-self v = elim (cases_Bool (is_at_most v v)) [
 
 -- ---- the order of starts
 
--- a start begins by itself
+-- the order of starts is reflexive
 pub begins_by-self : (s : Endpoint) → begins_by s s ≡ true
 begins_by-self unbounded = refl
 begins_by-self (exclusive s) = at_most-self s
 begins_by-self (inclusive s) = at_most-self s
 
--- what begins by a second start begins by a third one that the second begins by
+-- the order of starts is transitive
 pub begins_by-trans : (s t u : Endpoint) → begins_by s t ≡ true → begins_by t u ≡ true → begins_by s u ≡ true
 begins_by-trans unbounded t u h k = refl
 begins_by-trans (exclusive s) unbounded u h k = cc h
@@ -45,7 +45,7 @@ begins_by-trans (inclusive s) (exclusive t) (inclusive u) h k = below-weak s u (
 begins_by-trans (inclusive s) (inclusive t) (exclusive u) h k = at_most-trans s t u h k
 begins_by-trans (inclusive s) (inclusive t) (inclusive u) h k = at_most-trans s t u h k
 
--- of two starts, one begins by the other
+-- the order of starts is total
 pub begins_by-total : (s t : Endpoint) → begins_by s t ≡ false → begins_by t s ≡ true
 begins_by-total unbounded t h = cc h
 begins_by-total (exclusive s) unbounded h = refl
@@ -55,7 +55,7 @@ begins_by-total (exclusive s) (inclusive t) h = not_below s t h
 begins_by-total (inclusive s) (exclusive t) h = not_at_most s t h
 begins_by-total (inclusive s) (inclusive t) h = below-weak t s (not_at_most s t h)
 
--- starts that begin by one another are equal
+-- the order of starts is antisymmetric
 pub begins_by-same : (s t : Endpoint) → IsSoundEnd s → IsSoundEnd t → begins_by s t ≡ true → begins_by t s ≡ true → s ≡ t
 begins_by-same unbounded unbounded p q h k = refl
 begins_by-same unbounded (exclusive t) p q h k = cc k
@@ -69,13 +69,13 @@ begins_by-same (inclusive s) (inclusive t) p q h k = ap inclusive (at_most-same 
 
 -- ---- the order of ends
 
--- an end ends by itself
+-- the order of ends is reflexive
 pub ends_by-self : (e : Endpoint) → ends_by e e ≡ true
 ends_by-self unbounded = refl
 ends_by-self (exclusive e) = at_most-self e
 ends_by-self (inclusive e) = at_most-self e
 
--- what ends by a second end ends by a third one that the second ends by
+-- the order of ends is transitive
 pub ends_by-trans : (d e f : Endpoint) → ends_by d e ≡ true → ends_by e f ≡ true → ends_by d f ≡ true
 ends_by-trans d e unbounded h k = refl
 ends_by-trans d unbounded (exclusive f) h k = cc k
@@ -93,7 +93,7 @@ ends_by-trans (inclusive d) (exclusive e) (inclusive f) h k = below-weak d f (be
 ends_by-trans (inclusive d) (inclusive e) (exclusive f) h k = at_most-below d e f h k
 ends_by-trans (inclusive d) (inclusive e) (inclusive f) h k = at_most-trans d e f h k
 
--- of two ends, one ends by the other
+-- the order of ends is total
 pub ends_by-total : (d e : Endpoint) → ends_by d e ≡ false → ends_by e d ≡ true
 ends_by-total d unbounded h = cc h
 ends_by-total unbounded (exclusive e) h = refl
@@ -103,7 +103,7 @@ ends_by-total (exclusive d) (inclusive e) h = not_at_most d e h
 ends_by-total (inclusive d) (exclusive e) h = not_below d e h
 ends_by-total (inclusive d) (inclusive e) h = below-weak e d (not_at_most d e h)
 
--- ends that end by one another are equal
+-- the order of ends is antisymmetric
 pub ends_by-same : (d e : Endpoint) → IsSoundEnd d → IsSoundEnd e → ends_by d e ≡ true → ends_by e d ≡ true → d ≡ e
 ends_by-same unbounded unbounded p q h k = refl
 ends_by-same unbounded (exclusive e) p q h k = cc h
@@ -117,7 +117,7 @@ ends_by-same (inclusive d) (inclusive e) p q h k = ap inclusive (at_most-same d 
 
 -- ---- starts and ends
 
--- what a start reaches, each start that begins by it reaches
+-- if a start reaches an end, each start at or below it reaches the end
 pub begins_by-reaches : (s t e : Endpoint) → begins_by s t ≡ true → reaches precedence t e ≡ true → reaches precedence s e ≡ true
 begins_by-reaches unbounded t e h near = refl
 begins_by-reaches (exclusive s) unbounded e h near = cc h
@@ -135,7 +135,7 @@ begins_by-reaches (inclusive s) (exclusive t) (inclusive e) h near = below-weak 
 begins_by-reaches (inclusive s) (inclusive t) (exclusive e) h near = at_most-below s t e h near
 begins_by-reaches (inclusive s) (inclusive t) (inclusive e) h near = at_most-trans s t e h near
 
--- a start that reaches an end reaches each end that this one ends by
+-- if a start reaches an end, it reaches each end at or above it
 pub ends_by-reaches : (s d e : Endpoint) → ends_by d e ≡ true → reaches precedence s d ≡ true → reaches precedence s e ≡ true
 ends_by-reaches unbounded d e h near = refl
 ends_by-reaches (exclusive s) d unbounded h near = refl
@@ -153,7 +153,7 @@ ends_by-reaches (inclusive s) (exclusive d) (inclusive e) h near = below-weak s 
 ends_by-reaches (inclusive s) (inclusive d) (exclusive e) h near = at_most-below s d e near h
 ends_by-reaches (inclusive s) (inclusive d) (inclusive e) h near = at_most-trans s d e near h
 
--- a start that reaches an end begins by each start that doesn't
+-- a start that reaches an end is at or below each start that does not
 pub reaches-begins_by : (s t e : Endpoint) → reaches precedence s e ≡ true → reaches precedence t e ≡ false → begins_by s t ≡ true
 reaches-begins_by unbounded t e near far = refl
 reaches-begins_by (exclusive s) unbounded e near far = cc far
@@ -173,7 +173,7 @@ reaches-begins_by (inclusive s) (inclusive t) (inclusive e) near far = below-wea
 
 -- ---- bounds and versions
 
--- what is after a start is after each start that begins by it
+-- a version after a start is after each start at or below it
 pub begins_by-after : (s t : Endpoint) → begins_by s t ≡ true → (v : Parts) → is_after t v ≡ true → is_after s v ≡ true
 begins_by-after unbounded t h v after = refl
 begins_by-after (exclusive s) unbounded h v after = cc h
@@ -183,7 +183,7 @@ begins_by-after (exclusive s) (inclusive t) h v after = below-at_most s t v h af
 begins_by-after (inclusive s) (exclusive t) h v after = below-weak s v (at_most-below s t v h after)
 begins_by-after (inclusive s) (inclusive t) h v after = at_most-trans s t v h after
 
--- what is before an end is before each end that this one ends by
+-- a version before an end is before each end at or above it
 pub ends_by-before : (d e : Endpoint) → ends_by d e ≡ true → (v : Parts) → is_before d v ≡ true → is_before e v ≡ true
 ends_by-before d unbounded h v before = refl
 ends_by-before unbounded (exclusive e) h v before = cc h
@@ -217,7 +217,7 @@ rises-begins_by (inclusive s) (exclusive t) p q h = elim (cases_Bool (is_at_most
 
 -- ---- the later one of two ends
 
--- the first end ends by the later one
+-- the first end is at or below the later one
 pub later-first : (d e : Endpoint) → ends_by d (later_end d e) ≡ true
 later-first d e = elim (cases_Bool (ends_by d e)) [
   | inl low ↦ rw low low

@@ -47,7 +47,7 @@ StartsFrom (Some u) cs = FollowOn (Some u) cs
 
 -- ---- bounds
 
--- a start that is not at or below an end is, by their cuts, at or above it
+-- a start that is not at or below an end has its cut at or above the cut of the end
 pub start-after : (s e : Endpoint) → reaches precedence s e ≡ false → is_start s ≡ true → is_end e ≡ true → IsSoundEnd s
     → Follows (upper_cut e) (lower_cut s)
 start-after unbounded e far a b sound = cc far
@@ -66,7 +66,7 @@ start-after (exclusive s) (inclusive e) far a b sound =
     let above = at_most-below e s t.0 (not_below s e far) ((successor-least s t.0 t.1).above) in
     rw (t.1, u.1) ((successor-least e u.0 u.1).least t.0 ((successor-valid s t.0 sound.version t.1).0) above)
 
--- a start that is at or below its end is so by the cuts
+-- if a start is at or below its end, so are their cuts
 pub cut-in_order : (s e : Endpoint) → reaches precedence s e ≡ true → is_start s ≡ true → is_end e ≡ true → IsSoundEnd e
     → InOrder (lower_cut s) (upper_cut e)
 cut-in_order unbounded e near a b sound = tt
@@ -138,7 +138,7 @@ abbrev pub AllAdmissible : List Interval → Type 0
 AllAdmissible [] = Unit {0}
 AllAdmissible (i ∷ is) = (is_admissible i ≡ true) × AllAdmissible is
 
--- of two that do not overlap, the later one starts behind the other
+-- of two intervals that do not overlap, the later one starts after the other ends
 later-starts : (i j : Interval) → IsSoundInterval i → IsSoundInterval j → is_admissible i ≡ true → is_admissible j ≡ true
     → is_lt (start_order j.start i.start) ≡ false → overlap precedence i j ≡ false → Follows (upper_cut i.end) (lower_cut j.start)
 later-starts i j p q a b rise far =
@@ -150,7 +150,7 @@ pub not-or-first : (a b : Bool) → (not (a || b)) ≡ true → a ≡ false
 not-or-first true b h = cc h
 not-or-first false b h = refl
 
--- intervals in the order of their starts, of which no two overlap, follow one another
+-- intervals in the order of their starts that do not overlap follow one another
 pub chain : (is : List Interval) → AllSound is → AllAdmissible is → StartsRise is → are_apart precedence is ≡ true → IsChain (map cut is)
 chain [] sound all rise apart = tt
 chain (i ∷ []) sound all rise apart =

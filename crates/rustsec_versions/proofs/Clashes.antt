@@ -1,4 +1,4 @@
--- No two places clash exactly where no interval clashes with a later one.
+-- No two places clash exactly if no interval clashes with a later one.
 use Rattle.std.proofs.Common.{◌≡◌, ◌==◌, ◌<◌, ◌+◌, ◌&&◌, ◌||◌, ℕ, Bool, true, false, List, [], ◌∷◌, ◌++◌, Option, Some, None, map, refl, sym, ap, ◌∙◌, arith}
 use Rattle.std.specs.Option.{option_map}
 use Rattle.std.specs.Prelude.{filter_map, is_some, not}
@@ -76,7 +76,7 @@ clash-sym p q =
 clash-self : (p : Placed) → clash p p ≡ false
 clash-self p = rw (is_same-self p.place) refl
 
--- one more place clashes with itself never, and with the others as they do with it
+-- a new place does not clash with itself, and clashes with another place exactly if that one clashes with it
 some_clash-cons : (p : Placed) (ps : List Placed) → some_clash (p ∷ ps) ≡ (list_any (clash p) ps || some_clash ps)
 some_clash-cons p ps =
     let turned : list_any (λ q. clash q p) ps ≡ list_any (clash p) ps = any-same (λ q. clash q p) (clash p) (λ q. clash-sym q p) ps in
@@ -237,7 +237,7 @@ not-not : (b : Bool) → not (not b) ≡ b
 not-not true = refl
 not-not false = refl
 
--- lists of admissible requirements are accepted where no two of their intervals clash
+-- lists of admissible requirements are accepted if no two of their intervals clash
 pub accepted-clear : (ls : Lists) → all_admissible (ls.patched ++ ls.unaffected) ≡ true → accepted ls ≡ are_clear (marks ls)
 unfolding accepted
 accepted-clear ls all =
@@ -260,7 +260,7 @@ or-second : (a b : Bool) → (a || b) ≡ false → b ≡ false
 or-second true b h = cc h
 or-second false b h = h
 
--- what overlaps none of some intervals clashes with none of them
+-- an interval that does not overlap any of a list does not clash with any of them
 pub none-clash : (c : Marked) (cs : List Marked) → list_any (overlap precedence c.interval) (spans cs) ≡ false → list_any (clashes c) cs ≡ false
 none-clash c [] h = refl
 none-clash c (d ∷ cs) h =
@@ -278,7 +278,7 @@ any-marked : (i : Interval) (is : List Interval) → list_any (clashes (mark fal
 any-marked i [] = refl
 any-marked i (j ∷ is) = ap (λ (b : Bool). overlap precedence i j || b) (any-marked i is)
 
--- unaffected intervals clash where they overlap
+-- unaffected intervals clash if they overlap
 marked-apart : (is : List Interval) → are_clear (map (mark false) is) ≡ are_apart precedence is
 marked-apart [] = refl
 marked-apart (i ∷ is) = rw (any-marked i is, marked-apart is) refl
@@ -286,7 +286,8 @@ marked-apart (i ∷ is) = rw (any-marked i is, marked-apart is) refl
 as-unaffected : Lists → Lists
 as-unaffected ls = record { patched = []; unaffected = ls.patched ++ ls.unaffected }
 
--- what is accepted with each requirement as an unaffected one has admissible requirements, and their intervals are apart
+-- lists that are accepted with each requirement as an unaffected one have admissible requirements, and their
+-- intervals do not overlap
 pub apart-all : (ls : Lists) → accepted_apart ls ≡ true → all_admissible (ls.patched ++ ls.unaffected) ≡ true
 unfolding accepted
 apart-all ls h = and-first _ _ h
@@ -330,7 +331,7 @@ pub accepted-none : accepted no_lists ≡ true
 unfolding accepted
 accepted-none = refl
 
--- ---- build metadata plays no part in what is affected
+-- ---- what is affected does not depend on build metadata
 
 after-build : (s : Endpoint) (v : Parts) (b : List ℕ) → is_after s (with_build b v) ≡ is_after s v
 after-build unbounded v b = refl

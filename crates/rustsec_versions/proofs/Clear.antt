@@ -1,4 +1,4 @@
--- Intervals of which no two clash: in any order, and what an unaffected one of them overlaps.
+-- Intervals that do not clash: in any order, and what an unaffected one of them overlaps.
 use Rattle.std.proofs.Common.{◌≡◌, ◌&&◌, ◌||◌, Bool, true, false, List, [], ◌∷◌, refl, sym, ap, ◌∙◌, inl, inr}
 use Rattle.std.specs.Prelude.{Contains, not}
 use Rattle.std.specs.List.{list_any}
@@ -46,7 +46,7 @@ not-true false h = refl
 one-clash : (p q o : Bool) → p ≡ false → o ≡ true → (not (p && q) && o) ≡ true
 one-clash p q o h k = rw (h, k) refl
 
--- where no two clash, an unaffected interval overlaps itself alone
+-- if no two clash, an unaffected interval overlaps itself alone
 pub clear-alone : (cs : List Marked) → are_clear cs ≡ true → (c d : Marked) → Contains cs c → Contains cs d → c.is_patched ≡ false
     → overlap precedence c.interval d.interval ≡ true → d.interval ≡ c.interval
 clear-alone [] clear c d at there own near = absurd (contains-nil c at)

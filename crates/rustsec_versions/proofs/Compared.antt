@@ -11,7 +11,7 @@ use Rattle.semver.specs.declared.VersionReq.{VersionReq}
 use Rattle.rustsec_versions.specs.Equality.{comparator_eq, op_number}
 use Rattle.rustsec_versions.specs.Views.{comparators_of}
 
--- where a test is one of the views, so is the test of lists
+-- if a test of elements is a test of their views, so is the test of lists
 pub pointwise-map : {A B : Type 0} (E : A → A → Bool) (F : B → B → Bool) (view : A → B) → ((x y : A) → E x y ≡ F (view x) (view y))
     → (xs ys : List A) → pointwise E xs ys ≡ pointwise F (map view xs) (map view ys)
 pointwise-map E F view each [] [] = refl

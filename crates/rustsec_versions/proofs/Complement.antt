@@ -1,4 +1,5 @@
--- The gaps between intervals that follow one another: they hold what no interval holds, stand in turn, and are the ranges by their cuts.
+-- The gaps between intervals that follow one another: they hold what no interval holds, they follow one another, and
+-- their cuts give the ranges.
 use Rattle.std.proofs.Common.{◌≡◌, ◌&&◌, ◌||◌, ◌+◌, ◌<◌, ℕ, zero, suc, Bool, true, false, List, [], ◌∷◌, Option, Some, get_or, length, map, refl, ap, ◌∙◌, arith}
 use Rattle.std.specs.Prelude.{not}
 use Rattle.std.specs.List.{AllAdjacentBelow, list_any}
@@ -20,11 +21,11 @@ use Rattle.rustsec_versions.proofs.Sound.{IsSoundEnd, IsSoundInterval, admissibl
 
 -- ---- intervals that follow one another
 
--- what is before an end is not behind a start
+-- a version before an end is not after a start
 abbrev pub IsBehind : Endpoint → Endpoint → Type 0
 IsBehind e s = (v : Parts) → is_before e v ≡ true → is_after s v ≡ false
 
--- what is not behind its start is before its end
+-- a version that is not after its start is before its end
 abbrev pub IsOrdered : Interval → Type 0
 IsOrdered i = (v : Parts) → is_after i.start v ≡ false → is_before i.end v ≡ true
 
@@ -36,7 +37,7 @@ abbrev pub IsRow : List Interval → Type 0
 IsRow [] = Unit {0}
 IsRow (i ∷ is) = IsOrdered i × AreBehind i.end is × IsRow is
 
--- what the gaps begin from: what is not behind it is not behind the first start
+-- what the gaps begin from: a version that is not after it is not after the first start
 abbrev pub BeginsFrom : Endpoint → List Interval → Type 0
 BeginsFrom from [] = Unit {0}
 BeginsFrom from (i ∷ is) = (v : Parts) → is_after from v ≡ false → is_after i.start v ≡ false
@@ -65,7 +66,7 @@ next-behind i j p q b rise far =
     let near = earlier-reaches i.start j.start j.end p.start q.start rise (admissible-reaches j b) in
     behind j.start i.end (rw near at far)
 
--- intervals in the order of their starts, of which no two overlap, follow one another
+-- intervals in the order of their starts that do not overlap follow one another
 pub row : (is : List Interval) → AllSound is → AllAdmissible is → StartsRise is → are_apart precedence is ≡ true → IsRow is
 row [] sound all rise apart = tt
 row (i ∷ []) sound all rise apart = (ordered i.start i.end (admissible-reaches i all.0), tt, tt)
@@ -83,7 +84,7 @@ double true false h = refl
 double false true h = refl
 double false false h = cc h
 
--- what is not behind an end is before it
+-- a version that is not after the opposite of an end is before the end
 not-behind : (e : Endpoint) (v : Parts) → is_after (turned e) v ≡ false → is_before e v ≡ true
 not-behind unbounded v h = refl
 not-behind (exclusive e) v h = not_at_most e v h
@@ -116,8 +117,8 @@ after-held unbounded rest v x h = refl
 after-held (exclusive e) rest v x h = h ∙ ap (λ (b : Bool). b && not x) (double _ _ (below-not v e))
 after-held (inclusive e) rest v x h = h ∙ ap (λ (b : Bool). b && not x) (below-not e v)
 
--- one interval and the gaps round it, by the tests of a version: behind what the gaps begin from, behind the start,
--- before the end, and in a later interval
+-- one interval and the gaps around it, by the tests of a version: after the bound from which the gaps begin, after
+-- the start, before the end, and in a later interval
 round : (f a b x : Bool) → (f ≡ false → a ≡ false) → (a ≡ false → b ≡ true) → (b ≡ true → x ≡ false)
     → ((f && not a) || (not b && not x)) ≡ (f && not ((a && b) || x))
 round false true b x p q r = cc (p refl)
@@ -146,7 +147,7 @@ gaps-hold from (i ∷ is) v s r =
     ∙ ap (λ (b : Bool). (is_after from v && not (is_after i.start v)) || b) (after-held i.end (gaps_between (turned i.end) is) v later rest)
     ∙ round (is_after from v) (is_after i.start v) (is_before i.end v) later (s v) (r.0 v) (none-later i.end is v r.1 r.2)
 
--- ---- the gaps stand in turn
+-- ---- the gaps follow one another
 
 abbrev pub Turn : Interval → Interval → Type 0
 Turn g h = (v : Parts) → is_after h.start v ≡ true → (is_after g.start v ≡ true) × (is_before g.end v ≡ false)
@@ -156,7 +157,7 @@ AllTurn [] = Unit {0}
 AllTurn (g ∷ []) = Unit {0}
 AllTurn (g ∷ h ∷ gs) = Turn g h × AllTurn (h ∷ gs)
 
--- what is behind the start of the first gap is behind a bound
+-- a version after the start of the first gap is after a bound
 abbrev pub LeadsOn : Endpoint → List Interval → Type 0
 LeadsOn from [] = Unit {0}
 LeadsOn from (g ∷ gs) = (v : Parts) → is_after g.start v ≡ true → is_after from v ≡ true
@@ -190,7 +191,7 @@ turn-cons : (g : Interval) (from : Endpoint) (gs : List Interval)
 turn-cons g from [] step l t = tt
 turn-cons g from (h ∷ gs) step l t = (λ v k. step v (l v k), t)
 
--- a version behind the end of an interval is behind its start
+-- a version after the end of an interval is after its start
 behind-both : (s e : Endpoint) (v : Parts) → IsOrdered (record { start = s; end = e }) → is_before e v ≡ false → is_after s v ≡ true
 behind-both s e v o h = not-false (is_after s v) (not (is_before e v)) (λ k. rw (o v k) refl) (rw h refl)
 
@@ -230,7 +231,7 @@ turn-at (g ∷ h ∷ gs) t v (suc k) d high =
     let e : suc k + 1 ≡ suc (k + 1) = omega arith in
     rw e (turn-at (h ∷ gs) t.1 v k d (omega arith))
 
--- no bound is one from which all intervals begin
+-- all intervals begin from no bound at all
 pub from-nothing : (is : List Interval) → BeginsFrom unbounded is
 from-nothing [] = tt
 from-nothing (i ∷ is) = λ v h. cc h
@@ -309,7 +310,7 @@ fit-valid [] a k d h = absurd (omega arith)
 fit-valid (g ∷ gs) a zero d h = a.0.0
 fit-valid (g ∷ gs) a (suc k) d h = fit-valid gs a.1 k d (omega arith)
 
--- a valid version is in a range where it is in its gap
+-- a valid version is in a range exactly if it is in its gap
 pub fit-held : (gs : List Interval) (v : Parts) → AllFit gs → IsVersion v → in_ranges (map cut gs) v ≡ list_any (λ g. holds g v) gs
 fit-held [] v a valid = refl
 fit-held (g ∷ gs) v a valid = rw (← holds-cut g v a.0.1 a.0.2 valid, fit-held gs v a.1 valid) refl

@@ -5,15 +5,15 @@ use Rattle.std.specs.List.{list_any}
 use Rattle.std.proofs.lemmas.List.Folds.{list_any_at}
 
 module _ {X : Type 0} where
-  -- no element stands in the empty list
+  -- the empty list has no element
   pub contains-nil : (x : X) → Contains [] x → ⊥
   contains-nil x c = let low = c.1 in absurd (omega (arith, low))
 
-  -- the first element stands in a list
+  -- a list contains its first element
   pub contains-here : (x : X) (xs : List X) → Contains (x ∷ xs) x
   contains-here x xs = (0, omega arith, refl)
 
-  -- what stands in the rest of a list stands in it
+  -- a list contains the elements of its rest
   pub contains-there : (x y : X) (ys : List X) → Contains ys x → Contains (y ∷ ys) x
   contains-there x y ys c = let low = c.1 in (suc c.0, omega (arith, low), c.2)
 
@@ -21,16 +21,16 @@ module _ {X : Type 0} where
   contains-at x y ys zero low e = inl e
   contains-at x y ys (suc k) low e = inr (k, omega (arith, low), e)
 
-  -- an element is the first one or stands in the rest
+  -- an element is the first one or an element of the rest
   pub contains-cases : (x y : X) (ys : List X) → Contains (y ∷ ys) x → (y ≡ x) ⊎ Contains ys x
   contains-cases x y ys c = contains-at x y ys c.0 c.1 c.2
 
-  -- a test that an element passes, some element passes
+  -- if an element passes a test, some element passes it
   pub any-contained : (test : X → Bool) (xs : List X) (x : X) → Contains xs x → test x ≡ true → list_any test xs ≡ true
   any-contained test xs x c h = list_any_at test xs c.0 x c.1 (subst (λ (y : X). test y ≡ true) (sym c.2) h)
 
 module _ {X Y : Type 0} (f : X → Y) where
-  -- what stands in the list that a function gives is what it gives of an element
+  -- an element of a mapped list is the image of an element
   pub contains-from_map : (xs : List X) (y : Y) → Contains (map f xs) y → (x : X) × (Contains xs x × (f x ≡ y))
   contains-from_map [] y c = absurd (contains-nil y c)
   contains-from_map (x ∷ xs) y c = elim (contains-cases y (f x) (map f xs) c) [

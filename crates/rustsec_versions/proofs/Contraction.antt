@@ -1,4 +1,4 @@
--- Merged intervals stay the same where two that overlap are taken as one, or one that overlaps no other comes before the rest.
+-- Merged intervals stay the same if two that overlap are replaced by one, or if one that overlaps no other is added.
 use Rattle.std.proofs.Common.{◌≡◌, ◌&&◌, ◌||◌, ◌⊎◌, Bool, true, false, List, [], ◌∷◌, refl, sym, ap, ◌∙◌, inl, inr, subst}
 use Rattle.std.specs.Prelude.{Contains, not}
 use Rattle.std.specs.List.{list_any}
@@ -55,7 +55,7 @@ left-out false b h k = cc (sym (h refl) ∙ k)
 
 -- ---- an interval and the one that it goes on to
 
--- a test that rises with ends passes the later of two where it passes one
+-- a test that is monotone in ends passes the later of two ends if it passes one
 later : (test : Endpoint → Bool) → ((d e : Endpoint) → ends_by d e ≡ true → test d ≡ true → test e ≡ true)
     → (d e : Endpoint) → test (later_end d e) ≡ (test d || test e)
 later test rises d e = elim (cases_Bool (ends_by d e)) [
@@ -63,7 +63,7 @@ later test rises d e = elim (cases_Bool (ends_by d e)) [
   | inr high ↦ rw high (stronger (test d) (test e) (rises e d (ends_by-total d e high)))
 ]
 
--- two tests of a start and an end, of which the second start's passes wherever the first end's fails
+-- two tests of a start and an end, such that the second start's test passes if the first end's fails
 both : (a b c d : Bool) → (c ≡ true → a ≡ true) → (b ≡ false → c ≡ true) → (a && (b || d)) ≡ ((a && b) || (c && d))
 both true true c d h k = refl
 both true false c d h k = rw (k refl) refl
@@ -111,7 +111,8 @@ linked (onward x w c h q) r = onward x w c h (linked q r)
 
 -- ---- two that overlap, taken as one
 
--- an interval stands for one of the shorter list: each of the two for the stretched one, any other for itself
+-- the interval of the shorter list that an interval maps to: the stretched one for each of the two, itself for any
+-- other
 data Stands (i j : Interval) (rest : List Interval) : Interval → Interval → Type 0 where
   first : Stands i j rest i (stretched i j)
   second : Stands i j rest j (stretched i j)
@@ -128,7 +129,7 @@ module _ (i j : Interval) (rest : List Interval) where
   stands-for x y second = contains-here (stretched i j) rest
   stands-for x y (other k c) = contains-there k (stretched i j) rest c
 
-  -- each interval of the longer list stands for one
+  -- each interval of the longer list maps to one of the shorter list
   standing : (x : Interval) → Contains (i ∷ j ∷ rest) x → (y : Interval) × Stands i j rest x y
   standing x c = elim (contains-cases x i (j ∷ rest) c) [
     | inl e ↦ (stretched i j, subst (λ (z : Interval). Stands i j rest z (stretched i j)) e first)
@@ -138,7 +139,7 @@ module _ (i j : Interval) (rest : List Interval) where
     ]
   ]
 
-  -- for each of the shorter list one stands with the same start, and one with the same end
+  -- for each interval of the shorter list, one with the same start maps to it, and one with the same end
   stood-start : (y : Interval) → Contains (stretched i j ∷ rest) y → (x : Interval) × Stands i j rest x y × (x.start ≡ y.start)
   stood-start y c = elim (contains-cases y (stretched i j) rest c) [
     | inl e ↦ subst (λ (z : Interval). (x : Interval) × Stands i j rest x z × (x.start ≡ z.start)) e (i, first, refl)
@@ -173,14 +174,14 @@ module _ (i j : Interval) (rest : List Interval) (all : AllAdmissible (i ∷ j �
   for-reaches x y second = ends_by-reaches i.start i.end _ (later-first i.end j.end) (admissible-reaches i all.0)
   for-reaches x y (other k c) = all-reach rest all.1.1 k c
 
-  -- what an interval overlaps, the one that it stands for overlaps
+  -- what an interval overlaps, its image overlaps
   taken : (x y : Interval) → Stands i j rest x y → (k : Interval) → reaches precedence k.start k.end ≡ true → overlap precedence x k ≡ true
       → overlap precedence y k ≡ true
   taken x y first k near h = stretched-overlap i j begins meet k near ∙ or-first _ _ h
   taken x y second k near h = stretched-overlap i j begins meet k near ∙ or-second _ _ h
   taken x y (other z c) k near h = h
 
-  -- what that one overlaps, an interval overlaps that is joined with the first
+  -- what the image overlaps, some interval overlaps that is joined with the first one
   given : (x y : Interval) → Stands i j rest x y → (k : Interval) → reaches precedence k.start k.end ≡ true → overlap precedence y k ≡ true
       → (u : Interval) × Contains (i ∷ j ∷ rest) u × IsJoined (i ∷ j ∷ rest) x u × IsJoined (i ∷ j ∷ rest) u x × (overlap precedence u k ≡ true)
   given x y first k near h =
@@ -199,7 +200,7 @@ module _ (i j : Interval) (rest : List Interval) (all : AllAdmissible (i ∷ j �
       ]
   given x y (other z c) k near h = (z, contains-there z i (j ∷ rest) (contains-there z j rest c), itself z, itself z, h)
 
-  -- where two of the shorter list overlap, those that stand for them are joined
+  -- if two intervals of the shorter list overlap, the intervals that map to them are joined
   step : (x y w z : Interval) → Stands i j rest x y → Stands i j rest w z → overlap precedence y z ≡ true → IsJoined (i ∷ j ∷ rest) x w
   step x y w z s t h =
       let u = given x y s z (for-reaches w z t) h in
@@ -238,7 +239,7 @@ module _ (i j : Interval) (rest : List Interval) (all : AllAdmissible (i ∷ j �
             ends_by-trans u.end t.0.end m.end (stands-ends i j rest u t.0 t.1) (g.greatest t.0 (stands-for i j rest u t.0 t.1) t.2);
       }
 
-  -- two intervals that overlap can be taken as one, from the start of the first
+  -- two intervals that overlap can be replaced by one, which begins at the start of the first
   pub contract : (ms : List Interval) → AreMerged (stretched i j ∷ rest) ms → AreMerged (i ∷ j ∷ rest) ms
   contract ms a = record {
     each = λ x c. let t = standing i j rest x c in
@@ -252,7 +253,7 @@ module _ (i j : Interval) (rest : List Interval) (all : AllAdmissible (i ∷ j �
 
 -- ---- one that overlaps no other
 
--- an interval overlaps no element of a list where the test says so
+-- the test for overlap fails for each element of a list if it fails for the list
 any-none : (i : Interval) (is : List Interval) → list_any (overlap precedence i) is ≡ false → (k : Interval) → Contains is k → overlap precedence i k ≡ false
 any-none i [] far k c = absurd (contains-nil k c)
 any-none i (j ∷ is) far k c = elim (contains-cases k j is c) [
@@ -318,7 +319,7 @@ module _ (i : Interval) (is : List Interval) (all : AllAdmissible (i ∷ is)) (f
 pub nothing : AreMerged [] []
 nothing = record { each = λ i c. absurd (contains-nil i c); only = λ m c. absurd (contains-nil m c); apart = refl }
 
--- intervals of which no two overlap are their own merged ones
+-- intervals that do not overlap are their own merged intervals
 pub apart-merged : (is : List Interval) → AllAdmissible is → are_apart precedence is ≡ true → AreMerged is is
 apart-merged [] all apart = nothing
 apart-merged (i ∷ is) all apart =

@@ -12,11 +12,11 @@ use Rattle.rustsec_versions.specs.Successor.{IsLeastAbove}
 use Rattle.rustsec_versions.proofs.LeastAbove.{successor-least, successor-there}
 use Rattle.rustsec_versions.proofs.PrecedenceLaws.{at_most-below, at_most-not_below, below-at_most, not_at_most}
 
--- above a version is from the one least above on
+-- a version above another one is at or above its successor
 least-from : (s t v : Parts) → IsLeastAbove s t → IsVersion v → is_below s v ≡ is_at_most t v
 least-from s t v l valid = both_ways _ _ (λ h. l.least v valid h) (λ h. below-at_most s t v l.above h)
 
--- at or below a version is below the one least above it
+-- a version at or below another one is below its successor
 least-till : (e t v : Parts) → IsLeastAbove e t → IsVersion v → is_at_most v e ≡ is_below v t
 least-till e t v l valid = both_ways _ _ (λ h. at_most-below v e t h l.above)
     (λ h. elim (cases_Bool (is_at_most v e)) [
@@ -38,6 +38,6 @@ end-cut (inclusive e) v h valid =
     let t = successor-there e h in
     rw t.1 (least-till e t.0 v (successor-least e t.0 t.1) valid)
 
--- a valid version is held where it lies between the cuts
+-- an interval holds a valid version exactly if the version is between its cuts
 pub holds-cut : (i : Interval) (v : Parts) → is_start i.start ≡ true → is_end i.end ≡ true → IsVersion v → holds i v ≡ in_range (cut i) v
 holds-cut i v s e valid = rw (start-cut i.start v s valid, end-cut i.end v e valid) refl

@@ -1,4 +1,4 @@
--- A search by halving: what it finds among gaps that stand in order, and how many comparisons it makes.
+-- A binary search: what it finds among gaps that follow one another, and how many comparisons it makes.
 use Rattle.std.proofs.Common.{◌≡◌, ◌+◌, ◌<◌, ◌≤◌, ◌^◌, ◌&&◌, ℕ, zero, suc, Bool, true, false, List, length, get_or, refl, sym, arith, inl, inr, ◌∙◌, ◌-◌, ◌⊎◌}
 use Rattle.std.specs.List.{list_any}
 use Rattle.std.proofs.Math.Nat.{pow-suc, pow-zero}
@@ -15,7 +15,7 @@ one-back : (gs : List Interval) (v : Parts) (k : ℕ) (d : Interval) → AreInTu
     → is_after (get_or gs (k + 1) d).start v ≡ true → is_after (get_or gs k d).start v ≡ true
 one-back gs v k d t l h = (t.turn v k d l h).0
 
--- what begins before a gap that begins at or below a version does so too
+-- if a gap begins at or below a version, so does each earlier gap
 back : (gs : List Interval) (v : Parts) (n k : ℕ) (d : Interval) → AreInTurn gs → k + n < length gs
     → is_after (get_or gs (k + n) d).start v ≡ true → is_after (get_or gs k d).start v ≡ true
 back gs v zero k d t l h =
@@ -31,13 +31,13 @@ begun-before gs v k m d t low l h =
     let e : m ≡ k + (m - k) = omega arith in
     back gs v (m - k) k d t (omega arith) (rw e at h)
 
--- where the gap at a place begins at or below a version, so do those before it
+-- if the gap at a place begins at or below a version, so do the gaps before it
 pub all-begun : (gs : List Interval) (v : Parts) (m : ℕ) (e : Interval) → AreInTurn gs → m < length gs → is_after (get_or gs m e).start v ≡ true
     → (k : ℕ) (d : Interval) → k < m + 1 → is_after (get_or gs k d).start v ≡ true
 all-begun gs v m e t l h k d low =
     begun-before gs v k m d t (omega arith) l (rw (get_or_default gs m e d l) at h)
 
--- and where it begins above the version, so do those behind it
+-- and if it begins above the version, so do the gaps after it
 pub none-begun : (gs : List Interval) (v : Parts) (m : ℕ) (e : Interval) → AreInTurn gs → m < length gs → is_after (get_or gs m e).start v ≡ false
     → (k : ℕ) (d : Interval) → m ≤ k → k < length gs → is_after (get_or gs k d).start v ≡ false
 none-begun gs v m e t l h k d low high = elim (cases_Bool (is_after (get_or gs k d).start v)) [

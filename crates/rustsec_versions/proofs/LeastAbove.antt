@@ -30,7 +30,7 @@ cmp-less x y h = grind (arith, nat_tests)
 cmp-same : (x : ℕ) → nat_cmp x x ≡ Equal
 cmp-same x = grind (arith, nat_tests)
 
--- what decides a comparison decides it still, and where nothing did the rest does
+-- what decides the first comparison decides both; otherwise the second one decides
 then-least : (r s t : Ordering) → ordering_then r s ≡ Less → (s ≡ Less → is_le t ≡ true) → is_le (ordering_then r t) ≡ true
 then-least Less s t h f = refl
 then-least Equal s t h f = f h

@@ -88,7 +88,7 @@ merged-fit is ms a b w =
       apart = w.apart;
     }
 
--- ---- intervals that stand alone
+-- ---- intervals that overlap no other
 
 -- no chain joins an interval that overlaps no other one with another one
 pub joined-alone : {is : List Interval} {i k : Interval} (a : Interval) → ((j : Interval) → Contains is j → overlap precedence a j ≡ true → j ≡ a)
@@ -103,7 +103,7 @@ whole-overlaps i = rw (reaches-unbounded i.start) refl
 overlaps-whole : (i : Interval) → overlap precedence i whole ≡ true
 overlaps-whole i = rw (reaches-unbounded i.start) refl
 
--- where the interval without bounds is among intervals that are apart, it is the only one
+-- if the interval without bounds is among intervals that do not overlap, it is the only one
 pub merged-whole : (ms : List Interval) → are_apart precedence ms ≡ true → AllAdmissible ms → Contains ms whole → ms ≡ whole ∷ []
 merged-whole [] h a c = absurd (contains-nil whole c)
 merged-whole (m ∷ []) h a c = elim (contains-cases whole m [] c) [

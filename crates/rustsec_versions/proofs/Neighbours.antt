@@ -1,4 +1,4 @@
--- Behind the order of starts, an interval that is over before the next one overlaps no later one.
+-- In a list sorted by start, an interval that does not overlap its successor overlaps no later interval.
 use Rattle.std.proofs.Common.{◌≡◌, ◌&&◌, Bool, true, false, List, [], ◌∷◌, refl, sym, ◌∙◌, inl, inr}
 use Rattle.std.specs.List.{list_any}
 use Rattle.std.proofs.lemmas.Bool.{cases_Bool}
@@ -20,7 +20,7 @@ later-short i j k sound rise far = elim (cases_Bool (reaches precedence k.start 
   | inr short ↦ short
 ]
 
--- an interval that is over before the first of some others overlaps none of them
+-- an interval that ends before the first of some others begins overlaps none of them
 pub beyond : (i j : Interval) (is : List Interval) → AllSound (j ∷ is) → StartsRise (j ∷ is) → reaches precedence j.start i.end ≡ false
     → list_any (overlap precedence i) (j ∷ is) ≡ false
 beyond i j [] sound rise far = rw (and-false (reaches precedence i.start j.end) _ far) refl
@@ -28,7 +28,7 @@ beyond i j (k ∷ is) sound rise far =
     let next = later-short i j k (sound.0, (sound.1.0, tt)) (rise.0, tt) far in
     rw (and-false (reaches precedence i.start j.end) _ far) (beyond i k is sound.1 rise.1 next)
 
--- of two that do not overlap, the one that starts first is over before the other
+-- of two intervals that do not overlap, the one that starts first ends before the other begins
 pub over-before : (i j : Interval) → AllSound (i ∷ j ∷ []) → AllAdmissible (j ∷ []) → StartsRise (i ∷ j ∷ []) → overlap precedence i j ≡ false
     → reaches precedence j.start i.end ≡ false
 over-before i j sound all rise far =

@@ -21,7 +21,7 @@ use Rattle.rustsec_versions.proofs.Unique.{AreRanges-unique}
 -- ---- lists with the same elements
 
 module _ {X : Type 0} where
-  -- a list in which no element stands twice
+  -- a list without repeats
   IsOnce : List X → Type 0
   IsOnce [] = Unit {0}
   IsOnce (x ∷ xs) = (Contains xs x → ⊥) × IsOnce xs
@@ -48,7 +48,7 @@ module _ {X : Type 0} where
     | inr later ↦ let f = fronted x ys later in (y ∷ f.0, both (keep y f.1) (turn y x f.0))
   ]
 
-  -- of two lists without repeats with the same elements, one is the other in some order
+  -- of two lists without repeats with the same elements, one is a permutation of the other
   elements-permuted : (xs ys : List X) → IsOnce xs → IsOnce ys → ((x : X) → Contains xs x → Contains ys x)
       → ((x : X) → Contains ys x → Contains xs x) → IsPermutation xs ys
   unfolding IsOnce
@@ -138,7 +138,7 @@ merged-permutation is js ms p v =
       apart = v.apart;
     }
 
--- the merged intervals are the same in whatever order the intervals stand
+-- the merged intervals do not depend on the order of the intervals
 pub merged-one : (is js ms ns : List Interval) → AllSound is → AllAdmissible is → IsPermutation is js → AreMerged is ms → AreMerged js ns → IsPermutation ms ns
 merged-one is js ms ns a b p v w =
     let s = shuffled is js p in
@@ -151,7 +151,7 @@ merged-one is js ms ns a b p v w =
     elements-permuted ms ns (apart-once ms m.admissible m.apart) (apart-once ns n.admissible n.apart)
     (λ x h. merged-found is js ms ns x c there back v w h) (λ x h. merged-found js is ns ms x a back there w v h)
 
--- the ranges of the merged intervals are the same in whatever order the intervals stand
+-- nor do their ranges
 pub merged-ranges-one : (is js ms ns : List Interval) (rs us : List Range) → AllSound is → AllAdmissible is → IsPermutation is js → AreMerged is ms
     → AreMerged js ns → AreRanges ms rs → AreRanges ns us → us ≡ rs
 merged-ranges-one is js ms ns rs us a b p v w r u =

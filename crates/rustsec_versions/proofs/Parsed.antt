@@ -6,7 +6,7 @@ use Rattle.semver.specs.Parse.{Parts, version_parts}
 use Rattle.semver.proofs.Grammar.{version_parts-sound}
 use Rattle.rustsec_versions.specs.Precedence.{IsVersion}
 
--- what the crate that reads versions calls valid is a valid version
+-- a version that the crate `semver` calls valid is a valid version
 pub IsVersion-valid : (v : Parts) → IsValid v → IsVersion v
 IsVersion-valid v h = record { major = h.0; minor = h.1; patch = h.2; pre = h.3 }
 

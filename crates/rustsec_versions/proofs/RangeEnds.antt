@@ -1,4 +1,4 @@
--- The first and the last of the gaps, and when there is none.
+-- The first and the last of the gaps, and when there are no gaps.
 use Rattle.std.proofs.Common.{◌≡◌, ◌&&◌, ◌||◌, ◌<◌, ◌++◌, ℕ, zero, suc, Bool, true, false, List, [], ◌∷◌, Option, Some, None, map, refl, sym, ap, ◌∙◌, arith, subst, IsPermutation}
 use Rattle.std.specs.Prelude.{is_none, is_some, not, swap}
 use Rattle.std.specs.List.{list_all, list_any}
@@ -49,7 +49,7 @@ unfolding LastIs
 last_none P r [] e = cc e
 last_none P r (f ∷ front) e = cc e
 
--- a gap is the last exactly where it has no fix
+-- a gap is the last exactly if it has no fix
 EndsAs : Bool → List Range → Type 0
 EndsAs all rs = LastIs (λ r. is_none r.fixed ≡ all) rs
 
@@ -75,7 +75,7 @@ gaps-last_fix from cs c = gaps-last from cs c
 
 -- ---- the first gap
 
--- behind a range that is over, each begins somewhere
+-- after a range with an end, each range has a beginning
 all_begin : (up : Option Parts) (cs : List Range) → FollowOn up cs → IsChain cs → list_all (λ c. is_some c.introduced) cs ≡ true
 all_begin up [] f c = refl
 all_begin up (r ∷ cs) f c = begins up r.introduced r.fixed cs f (all_begin r.fixed cs c.1 c.2)
@@ -100,7 +100,7 @@ first_gap (Some l) up cs f c r rest e =
     let same : record { introduced = None; fixed = Some l } ≡ r = head_same _ r _ rest e in
     ap (λ (x : Range). is_none x.introduced) (sym same) ∙ sym (all_begin up cs f c)
 
--- the first gap lacks its introduction exactly where each range begins somewhere
+-- the first gap lacks its introduction exactly if each range has a beginning
 pub gaps-first_introduction : (cs : List Range) → IsChain cs → (r : Range) (rest : List Range) → gaps_from None cs ≡ r ∷ rest
     → is_none r.introduced ≡ list_all (λ c. is_some c.introduced) cs
 unfolding gaps_from
@@ -135,7 +135,7 @@ map_none (i ∷ is) e = cc e
 interval_same : (i j : Interval) → i.start ≡ j.start → i.end ≡ j.end → i ≡ j
 interval_same i j h k = λ n. record { start = h n; end = k n }
 
--- there is no gap exactly where the one interval has no bounds
+-- there is no gap exactly if the one interval has no bounds
 pub gaps-none : (is : List Interval) → AllAdmissible is → IsChain (map cut is) → gaps_from None (map cut is) ≡ [] → is ≡ whole ∷ []
 unfolding gaps_from
 gaps-none [] a c e = cc e

@@ -44,7 +44,7 @@ introductions_step None None (Some u) cs s f ih = ih (Some u) f
 introductions_step None (Some l) (Some u) cs s f ih = ih (Some u) f
 introductions_step (Some w) (Some l) (Some u) cs s f ih = ap (λ (vs : List Parts). w ∷ vs) (ih (Some u) f)
 
--- the introductions of the gaps are where the ranges between them are over
+-- the introductions of the gaps are where the ranges between them end
 pub gaps-introduced : (from : Option Parts) (cs : List Range) → StartsFrom from cs → IsChain cs
     → filter_map (λ r. r.introduced) (gaps_from from cs) ≡ cons_option from (filter_map (λ c. c.fixed) cs)
 unfolding gaps_from
@@ -98,7 +98,7 @@ ends_step lo None cs f c r = r
 ends_step lo (Some u) [] f c r = tt
 ends_step lo (Some u) (d ∷ cs) f c r = ends_two u d.introduced d.fixed (filter_map (λ c. c.fixed) cs) f c.0 (none_behind d.fixed cs c.1) r
 
--- where they are over
+-- where they end
 pub chain-ends : (cs : List Range) → IsChain cs → Rises (filter_map (λ c. c.fixed) cs)
 chain-ends [] c = tt
 chain-ends (r ∷ cs) c = ends_step r.introduced r.fixed cs c.1 c.2 (chain-ends cs c.2)

@@ -1,4 +1,4 @@
--- The message about a refused text.
+-- The message for a refused text.
 use Rattle.std.proofs.Common.{◌≡◌, ◌⊎◌, inl, inr, ℕ, List, ◌++◌, None, codes, ap, ◌∙◌}
 use Rattle.rustsec_values.specs.Beginnings.{IsBeginning}
 use Rattle.rustsec_versions.specs.declared.error.ErrorKind.TheVariants as kind

@@ -30,6 +30,6 @@ pub Rises-tail : (v : Parts) (vs : List Parts) → Rises (v ∷ vs) → Rises vs
 Rises-tail v [] r = tt
 Rises-tail v (w ∷ vs) r = r.1
 
--- below what a rising list begins with, a list rises too
+-- a list that rises still rises with a version at or below its first element before it
 pub Rises-cons : (u v : Parts) (vs : List Parts) → is_at_most u v ≡ true → Rises (v ∷ vs) → Rises (u ∷ v ∷ vs)
 Rises-cons u v vs h r = (h, r)

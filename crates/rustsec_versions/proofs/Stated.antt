@@ -36,7 +36,7 @@ stated_two c d s t h k =
     let b = only_if-Some (names_version d) (side_of d.0 d) t k in
     rw (a.0, b.0, a.1, b.1) refl
 
--- the second pre-release is no SemVer text
+-- the second pre-release is not SemVer text
 pub stated_second : (c d : Held) → only_if (names_version d) (Some (side_of d.0 d)) ≡ None → stated (c ∷ d ∷ []) ≡ None
 stated_second c d h = rw (none_if _ _ h, and-false) refl
 

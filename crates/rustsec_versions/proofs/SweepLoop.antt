@@ -10,7 +10,7 @@ use Rattle.rustsec_versions.specs.Sweep.{Marked, stretched_mark, swept}
 abbrev pub left : List (Bor Marked) → ℕ → List Marked
 left xs i = map (λ x. x.now) (drop i xs)
 
--- what is left of the sweep, behind what is done
+-- what is left of the sweep, after the part that is done
 abbrev pub onward : List Marked → Marked → List (Bor Marked) → ℕ → Option (List Marked)
 onward done c xs i = option_map (λ ms. done ++ ms) (swept c (left xs i))
 
@@ -19,26 +19,26 @@ split : (done : List Marked) (c : Marked) (o : Option (List Marked))
 split done c None = refl
 split done c (Some ms) = ap (λ (l : List Marked). Some l) (sym (append_assoc done (c ∷ []) ms))
 
--- the next one does not overlap
+-- the next interval does not overlap
 pub sweep-far : (done : List Marked) (c x : Marked) (xs : List (Bor Marked)) (i : ℕ) (b : Bor Marked) → i < length xs → b ≡ get_or xs i b → b.now ≡ x
     → overlap version_order c.interval x.interval ≡ false → onward done c xs i ≡ onward (done ++ c ∷ []) x xs (i + 1)
 unfolding swept
 sweep-far done c x xs i b l at is far = rw (drop_more xs i b l, ← at, is, far) (split done c (swept x (left xs (i + 1))))
 
--- it does, and both are patched
+-- the next interval overlaps, and both are patched
 pub sweep-near : (done : List Marked) (c x : Marked) (xs : List (Bor Marked)) (i : ℕ) (b : Bor Marked) → i < length xs → b ≡ get_or xs i b → b.now ≡ x
     → overlap version_order c.interval x.interval ≡ true → (c.is_patched && x.is_patched) ≡ true
     → onward done c xs i ≡ onward done (stretched_mark c x) xs (i + 1)
 unfolding swept
 sweep-near done c x xs i b l at is near both = rw (drop_more xs i b l, ← at, is, near, both) refl
 
--- it does, and one is not
+-- the next interval overlaps, and one of the two is not patched
 pub sweep-clash : (done : List Marked) (c x : Marked) (xs : List (Bor Marked)) (i : ℕ) (b : Bor Marked) → i < length xs → b ≡ get_or xs i b → b.now ≡ x
     → overlap version_order c.interval x.interval ≡ true → (c.is_patched && x.is_patched) ≡ false → onward done c xs i ≡ None
 unfolding swept
 sweep-clash done c x xs i b l at is near other = rw (drop_more xs i b l, ← at, is, near, other) refl
 
--- there is none
+-- there is no next interval
 pub sweep-end : (done : List Marked) (c : Marked) (xs : List (Bor Marked)) (i : ℕ) → length xs ≤ i → onward done c xs i ≡ Some (done ++ c ∷ [])
 unfolding swept
 sweep-end done c xs i l = rw (drop_all i xs l) refl

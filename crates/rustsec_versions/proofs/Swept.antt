@@ -1,4 +1,4 @@
--- What the sweep gives: the merged intervals where no two clash, and nothing where two do.
+-- The result of the sweep: the merged intervals if no two clash, and nothing if two do.
 use Rattle.std.proofs.Common.{◌≡◌, ◌&&◌, ◌||◌, Bool, true, false, cond, List, [], ◌∷◌, Option, Some, None, refl, sym, ap, ◌∙◌, subst, inl, inr}
 use Rattle.std.specs.Prelude.{not}
 use Rattle.std.specs.BTreeMap.Comparable.{le_lt_trans}

@@ -39,7 +39,7 @@ bound-there bound.Unbounded h e = h refl
 bound-there (bound.Exclusive v) h e = cc e
 bound-there (bound.Inclusive v) h e = cc e
 
--- an interval that is over somewhere
+-- an interval with an end
 pub walk-on : (done : List Interval) (from next : Endpoint) (xs : List Marked) (i : ℕ) (x : Marked) → i < length xs → x ≡ get_or xs i x
     → turned x.interval.end ≡ next → (next ≡ unbounded → ⊥)
     → done ++ gaps_between from (spans (drop i xs))
@@ -52,7 +52,7 @@ pub walk-over : (done : List Interval) (from : Endpoint) (xs : List Marked) (i :
 walk-over done from xs i x l at e =
     walk-more done from xs i x l at ∙ rw (after-none x.interval.end _ e) (append-nil (done ++ gap_to from x.interval.start []))
 
--- the gap behind the last interval
+-- the gap after the last interval
 pub walk-end : (done : List Interval) (from : Endpoint) (xs : List Marked) (i : ℕ) → length xs ≤ i
     → done ++ gaps_between from (spans (drop i xs)) ≡ done ++ record { start = from; end = unbounded } ∷ []
 unfolding gaps_between

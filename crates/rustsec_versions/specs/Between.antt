@@ -1,6 +1,6 @@
--- The gaps between intervals that stand in the order of their starts: from each one's end to the next one's start.
--- A gap has bounds as an interval has, and may be empty.
--- It only helps proofs: what public contracts say of affected versions stands in Lists, and of the ranges in Ranges.
+-- The gaps between intervals in the order of their starts: from each interval's end to the next one's start. A gap
+-- has bounds, as an interval has, and may be empty. It only helps proofs: `Lists` defines the affected versions for
+-- public contracts, and `Ranges` the ranges.
 use Rattle.std.specs.Prelude.{◌≡◌, true, false, List, [], ◌∷◌, length, map}
 use Rattle.std.specs.List.{All, AllAdjacentBelow, list_any}
 use Rattle.semver.specs.Parse.{Parts}
@@ -9,7 +9,7 @@ use Rattle.rustsec_versions.specs.Interval.{Endpoint, Interval, exclusive, holds
 use Rattle.rustsec_versions.specs.Lists.{Lists, affected}
 use Rattle.rustsec_versions.specs.StoredRanges.{AreRangesOf}
 
--- where what an interval leaves begins, by its end, or is over, by its start
+-- the bound on the other side of the same cut: exclusive becomes inclusive, and inclusive exclusive
 abbrev pub turned : Endpoint → Endpoint
 turned unbounded = unbounded
 turned (exclusive v) = inclusive v
@@ -32,12 +32,12 @@ unfoldable pub gaps_between : Endpoint → List Interval → List Interval
 gaps_between from [] = record { start = from; end = unbounded } ∷ []
 gaps_between from (i ∷ is) = gap_to from i.start (gaps_after i.end (gaps_between (turned i.end) is))
 
--- what is behind the start of a gap is behind the start and the end of the one before it
+-- a version after the start of a gap is after the start and the end of the gap before it
 pub record AreInTurn (gs : List Interval) : Type 0 where
   pub turn : (v : Parts) → AllAdjacentBelow (λ g h. is_after h.start v ≡ true → (is_after g.start v ≡ true) × (is_before g.end v ≡ false)) gs (length gs)
 
--- the gaps that accepted lists keep: they hold the versions that the lists leave affected, also those that are no
--- valid versions, and by the versions least above their bounds they are the ranges
+-- the gaps that accepted lists keep: they hold the versions that the lists leave affected, valid or not, and the
+-- successors of their bounds give the ranges
 pub record AreGapsOf (ls : Lists) (gs : List Interval) : Type 0 where
   pub ranges : AreRangesOf ls (map cut gs)
   pub decide : (v : Parts) → list_any (λ g. holds g v) gs ≡ affected ls v

@@ -1,4 +1,4 @@
--- When two versions, bounds, intervals or requirements are equal: where all their parts are, build included.
+-- When two versions, bounds, intervals or requirements are equal: if all their parts are, build metadata included.
 -- It carries meaning: public contracts cite it.
 use Rattle.std.specs.Prelude.{ℕ, Bool, [], List, nat_eq}
 use Rattle.std.specs.Cmp.{IsEquivalence, and_equiv, nat_eq_equiv, on_equiv}
@@ -16,7 +16,7 @@ abbrev pub version_eq : Parts → Parts → Bool
 version_eq = eq_of_both (on (λ (v : Parts). v.0) nat_eq) (eq_of_both (on (λ (v : Parts). v.1) nat_eq)
     (eq_of_both (on (λ (v : Parts). v.2) nat_eq) (eq_of_both (on (λ (v : Parts). v.3) (pointwise nat_eq)) (on (λ (v : Parts). v.4) (pointwise nat_eq)))))
 
--- the kind of a bound, and its version, which is 0.0.0 where there is none
+-- the kind of a bound, and its version, which is 0.0.0 if it is unbounded
 abbrev pub bound_kind : Endpoint → ℕ
 bound_kind unbounded = 0
 bound_kind (exclusive v) = 1

@@ -1,5 +1,5 @@
--- `==` of versions, intervals, requirements and lists of them holds exactly between the same values.
--- It only helps proofs: what equal means stands in Equality.
+-- `==` of versions, intervals, requirements and lists of them holds exactly between the same values. It only helps
+-- proofs: `Equality` defines "equal".
 use Rattle.std.specs.Prelude.{◌≡◌, ◌&&◌, ℕ, Bool, true, false, List, nat_eq, refl}
 use Rattle.std.specs.Bool.{Decides}
 use Rattle.std.specs.Cmp.Lexicographic.{bytes_decides, pointwise, pointwise_decides}

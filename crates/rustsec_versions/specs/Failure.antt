@@ -1,5 +1,5 @@
--- What a contract sees of an error, and how it speaks of refusals.
--- It carries meaning: public contracts cite it.
+-- What a contract sees of an error, and how contracts describe refusals. It carries meaning: public contracts cite
+-- it.
 use Rattle.std.specs.Prelude.{◌≡◌, ◌⊎◌, ◌++◌, ℕ, List, [], Option, Some, None, codes}
 use Rattle.rustsec_versions.specs.declared.error.ErrorKind.{ErrorKind}
 use Rattle.rustsec_versions.specs.declared.error.ErrorKind.TheVariants as kind
@@ -10,7 +10,7 @@ pub record Failure : Type 0 where
   pub message : List ℕ
   pub cause : Option (List ℕ)
 
--- a text, empty where it is missing
+-- a text, empty if it is missing
 abbrev pub or_empty : Option (List ℕ) → List ℕ
 or_empty None = []
 or_empty (Some text) = text

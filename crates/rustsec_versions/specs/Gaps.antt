@@ -1,5 +1,5 @@
--- The walk that makes the ranges: over intervals in the order of their starts, from each one's end to the next one's start.
--- It only helps proofs: what a public contract says of the ranges stands in Ranges (`AreRanges`).
+-- The walk that makes the ranges: over intervals in the order of their starts, from each interval's end to the next
+-- one's start. It only helps proofs: public contracts define the ranges by `AreRanges` of `Ranges`.
 use Rattle.std.specs.Prelude.{ℕ, List, [], ◌∷◌, Option, Some, None}
 use Rattle.std.specs.Cmp.{IsTotalOrder, nat_cmp_total, on_total, then_total}
 use Rattle.std.specs.Ordering.{nat_cmp, on, then_cmp}

@@ -32,8 +32,8 @@ is_before (inclusive e) v = is_at_most v e
 abbrev pub holds : Interval → Parts → Bool
 holds i v = is_after i.start v && is_before i.end v
 
--- whether a start is at or below an end, in an order of versions: an unbounded side counts, a lower version
--- counts, and equal versions count only where both bounds are inclusive
+-- whether a start is at or below an end, in an order of versions: an unbounded side counts, a lower version counts,
+-- and equal versions count only if both bounds are inclusive
 abbrev pub reaches : (Parts → Parts → Ordering) → Endpoint → Endpoint → Bool
 reaches order unbounded e = true
 reaches order (exclusive s) unbounded = true
@@ -43,7 +43,7 @@ reaches order (inclusive s) (exclusive e) = is_lt (order s e)
 reaches order (exclusive s) (inclusive e) = is_lt (order s e)
 reaches order (exclusive s) (exclusive e) = is_lt (order s e)
 
--- two intervals overlap where each one's start is at or below the other's end. This is a test on the bounds,
--- and not on the versions between them
+-- two intervals overlap if each one's start is at or below the other's end. This is a test on the bounds, not on the
+-- versions between them
 abbrev pub overlap : (Parts → Parts → Ordering) → Interval → Interval → Bool
 overlap order i j = reaches order i.start j.end && reaches order j.start i.end

@@ -72,16 +72,16 @@ all_admissible rs = list_all (λ r. is_some (interval_of r)) rs
 abbrev pub some_clash : List Placed → Bool
 some_clash ps = list_any (λ p. list_any (clash p) ps) ps
 
--- lists are accepted where each requirement is admissible and no two places clash
+-- lists are accepted if each requirement is admissible and no two places clash
 unfoldable pub accepted : Lists → Bool
 accepted ls = all_admissible (ls.patched ++ ls.unaffected) && not (some_clash (joined ls))
 
--- the same where no two requirements may overlap, wherever they stand: as if all were unaffected ones
+-- as `accepted`, but no two requirements may overlap, whichever lists they are in: as if all were unaffected ones
 abbrev pub accepted_apart : Lists → Bool
 accepted_apart ls = accepted (record { patched = []; unaffected = ls.patched ++ ls.unaffected })
 
 -- ---- verdicts
 
--- a version is affected where no requirement's interval holds it
+-- a version is affected if no requirement's interval holds it
 unfoldable pub affected : Lists → Parts → Bool
 affected ls v = not (list_any (λ i. holds i v) (intervals ls))

@@ -5,7 +5,7 @@ use Rattle.rustsec_versions.specs.Apart.{are_apart}
 use Rattle.rustsec_versions.specs.Interval.{Endpoint, Interval, exclusive, inclusive, overlap, unbounded}
 use Rattle.rustsec_versions.specs.Precedence.{is_at_most, is_below, precedence}
 
--- whether a start is the other one or before it: at one version an inclusive start is before an exclusive one
+-- whether a start is equal to the other or before it: at one version an inclusive start is before an exclusive one
 abbrev pub begins_by : Endpoint → Endpoint → Bool
 begins_by unbounded t = true
 begins_by (exclusive s) unbounded = false
@@ -15,7 +15,7 @@ begins_by (inclusive s) unbounded = false
 begins_by (inclusive s) (exclusive t) = is_at_most s t
 begins_by (inclusive s) (inclusive t) = is_at_most s t
 
--- whether an end is the other one or before it: at one version an exclusive end is before an inclusive one
+-- whether an end is equal to the other or before it: at one version an exclusive end is before an inclusive one
 abbrev pub ends_by : Endpoint → Endpoint → Bool
 ends_by d unbounded = true
 ends_by unbounded (exclusive e) = false
@@ -37,8 +37,8 @@ pub record IsMergedOf (is : List Interval) (i m : Interval) : Type 0 where
   pub end : (j : Interval) × (Contains is j × (IsJoined is i j × (j.end ≡ m.end)))
   pub greatest : (j : Interval) → Contains is j → IsJoined is i j → ends_by j.end m.end ≡ true
 
--- the merged intervals of a list: that of each of its intervals, and no other. No two of them overlap, so none stands
--- twice, as an interval whose start is at or below its end overlaps itself
+-- the merged intervals of a list: those of its intervals, and no others. No two of them overlap, so none occurs
+-- twice, since an interval whose start is at or below its end overlaps itself
 pub record AreMerged (is ms : List Interval) : Type 0 where
   pub each : (i : Interval) → Contains is i → (m : Interval) × (Contains ms m × IsMergedOf is i m)
   pub only : (m : Interval) → Contains ms m → (i : Interval) × (Contains is i × IsMergedOf is i m)

@@ -1,6 +1,5 @@
--- Which versions are valid, and their two orders: precedence (SemVer 2.0.0, section 11), and the order of
--- the type `Version`, which looks at build metadata after everything else.
--- It carries meaning: public contracts cite it.
+-- Which versions are valid, and their two orders: precedence (SemVer 2.0.0, section 11), and the order of the type
+-- `Version`: precedence, then build metadata. It carries meaning: public contracts cite it.
 use Rattle.std.specs.Prelude.{◌≡◌, ◌<◌, ◌^◌, ℕ, Bool, true, List}
 use Rattle.std.specs.Ordering.{is_le, is_lt, nat_cmp, ordering_then}
 use Rattle.std.specs.declared.cmp.Ordering.{Ordering}
@@ -19,11 +18,11 @@ pub record IsVersion (v : Parts) : Type 0 where
 abbrev pub by_numbers : Parts → Parts → Ordering → Ordering
 by_numbers a b rest = ordering_then (nat_cmp a.0 b.0) (ordering_then (nat_cmp a.1 b.1) (ordering_then (nat_cmp a.2 b.2) rest))
 
--- precedence: the numbers, then the pre-release; build metadata plays no part (section 11)
+-- precedence: the numbers, then the pre-release; build metadata is ignored (section 11)
 abbrev pub precedence : Parts → Parts → Ordering
 precedence a b = by_numbers a b (pre_cmp a.3 b.3)
 
--- the order of the type: the numbers, the pre-release, then build metadata, of which none is the lowest
+-- the order of the type: the numbers, the pre-release, then build metadata; missing build metadata is the lowest
 abbrev pub version_order : Parts → Parts → Ordering
 version_order a b = by_numbers a b (ordering_then (pre_cmp a.3 b.3) (build_cmp a.4 b.4))
 

@@ -1,6 +1,6 @@
--- Ranges of affected versions, `[introduced, fixed)`, either side possibly missing: what one means, what a list of
--- them means, and which list intervals have of which no two overlap.
--- It carries meaning: public contracts cite it.
+-- Ranges of affected versions, `[introduced, fixed)`, each side possibly missing: the meaning of one range, the
+-- meaning of a list of ranges, and the list of ranges between intervals that do not overlap. It carries meaning:
+-- public contracts cite it.
 use Rattle.std.specs.Prelude.{◌≡◌, ◌&&◌, ◌+◌, ◌≤◌, ◌↔◌, Bool, true, false, List, [], ◌∷◌, ◌++◌, Option, Some, None, filter_map, is_none, is_some, length}
 use Rattle.std.specs.List.{AllAdjacentBelow, list_all, list_any}
 use Rattle.std.specs.List.Sorted.{IsPermutation, IsSorted}
@@ -17,7 +17,7 @@ pub record Range : Type 0 where
 
 -- ---- meaning
 
--- whether a version is at or above where a range begins; a missing side is no test
+-- whether a version is at or above where a range begins; a missing side always passes
 abbrev pub is_from : Option Parts → Parts → Bool
 is_from None v = true
 is_from (Some introduced) v = is_at_most introduced v
@@ -31,11 +31,11 @@ is_till (Some fixed) v = is_below v fixed
 abbrev pub in_range : Range → Parts → Bool
 in_range r v = is_from r.introduced v && is_till r.fixed v
 
--- a version is in a list of ranges where it is in some range of it
+-- a version is in a list of ranges if it is in one of the ranges
 abbrev pub in_ranges : List Range → Parts → Bool
 in_ranges rs v = list_any (λ r. in_range r v) rs
 
--- the same tests in the order of `Version`, which looks at build metadata last
+-- the same tests in the order of `Version`: precedence, then build metadata
 abbrev pub affects_from : Option Parts → Parts → Bool
 affects_from None v = true
 affects_from (Some introduced) v = is_le (version_order introduced v)
@@ -55,7 +55,7 @@ lower_cut unbounded = None
 lower_cut (inclusive v) = Some v
 lower_cut (exclusive v) = successor v
 
--- where an interval with an end is over: at its exclusive end, or at the version least above its inclusive one
+-- where an interval with an end ends: at its exclusive end, or at the version least above its inclusive one
 abbrev pub upper_cut : Endpoint → Option Parts
 upper_cut unbounded = None
 upper_cut (exclusive v) = Some v
@@ -99,21 +99,21 @@ whole = record { start = unbounded; end = unbounded }
 
 -- the ranges between intervals
 pub record AreRanges (is : List Interval) (rs : List Range) : Type 0 where
-  -- the fixes are the lower cuts, each as often as it stands, in rising order
+  -- the fixes are the lower cuts, each as often as it occurs, in rising order
   pub fixed : IsPermutation (lower_cuts is) (filter_map (λ r. r.fixed) rs)
   pub fixed_rise : IsSorted precedence (filter_map (λ r. r.fixed) rs)
-  -- the introductions are the upper cuts, each as often as it stands, in rising order
+  -- the introductions are the upper cuts, each as often as it occurs, in rising order
   pub introduced : IsPermutation (upper_cuts is) (filter_map (λ r. r.introduced) rs)
   pub introduced_rise : IsSorted precedence (filter_map (λ r. r.introduced) rs)
   -- each introduction is at most its fix; each range but the last has a fix, each but the first an
   -- introduction, and a fix is at most the next introduction
   pub in_order : list_all (λ r. is_in_order r.introduced r.fixed) rs ≡ true
   pub followed : AllAdjacentBelow (λ r s. is_followed r.fixed s.introduced ≡ true) rs (length rs)
-  -- the first lacks its introduction exactly where no interval lacks a start, and the last its fix exactly
-  -- where none lacks an end
+  -- the first range lacks its introduction exactly if no interval lacks a start, and the last lacks its fix exactly
+  -- if none lacks an end
   pub first : (r : Range) (rest : List Range) → rs ≡ r ∷ rest → is_none r.introduced ≡ list_all (λ i. has_bound i.start) is
   pub last : (r : Range) (front : List Range) → rs ≡ front ++ r ∷ [] → is_none r.fixed ≡ list_all (λ i. has_bound i.end) is
-  -- at most one more range than intervals, and none at all exactly where the one interval has no bounds
+  -- at most one more range than intervals, and no range exactly if the one interval has no bounds
   pub bound : length rs ≤ length is + 1
   pub empty : (rs ≡ []) ↔ (is ≡ whole ∷ [])
 
@@ -123,6 +123,6 @@ pub record AreRanges (is : List Interval) (rs : List Range) : Type 0 where
 abbrev pub SameInEachList : Lists → Lists → Type 0
 SameInEachList ls ms = IsPermutation ls.patched ms.patched × IsPermutation ls.unaffected ms.unaffected
 
--- two pairs of lists with the same requirements, each as often, wherever they stand
+-- two pairs of lists with the same requirements, each as often, whichever lists they are in
 abbrev pub SameRequirements : Lists → Lists → Type 0
 SameRequirements ls ms = IsPermutation (ls.patched ++ ls.unaffected) (ms.patched ++ ms.unaffected)

@@ -9,11 +9,11 @@ abbrev pub ShowsText : List ℕ → List ℕ → List ℕ → Failure → Type 0
 ShowsText wrong found expected e =
     (shown : List ℕ) × IsBeginning 60 found shown × (e.message ≡ wrong ++ (codes " `" ++ (shown ++ (codes "`, expected " ++ expected))))
 
--- an error with the place where it came up before its message
+-- an error with its place before the message
 abbrev pub at_place : List ℕ → Failure → Failure
 at_place place e = record e { message = place ++ (codes ": " ++ e.message) }
 
--- a message and the cause behind it
+-- a message, followed by the cause
 abbrev pub with_cause : List ℕ → Option (List ℕ) → List ℕ
 with_cause message None = message
 with_cause message (Some cause) = message ++ (codes ": " ++ cause)
@@ -21,6 +21,6 @@ with_cause message (Some cause) = message ++ (codes ": " ++ cause)
 abbrev pub whole_message : Failure → List ℕ
 whole_message e = with_cause e.message e.cause
 
--- the refusal of a file's text as that of the file
+-- the error of a file, from the error of its text
 abbrev pub of_file : List ℕ → Failure → Failure
 of_file path e = record { kind = e.kind; message = codes "error parsing " ++ path; cause = Some (whole_message e) }

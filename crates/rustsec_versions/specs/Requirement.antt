@@ -1,5 +1,5 @@
--- Which requirements are admissible, and the interval of one that is: the versions that it names as not affected.
--- It carries meaning: public contracts cite it.
+-- Which requirements are admissible, and the interval of one that is: the versions that it states as unaffected. It
+-- carries meaning: public contracts cite it.
 use Rattle.std.specs.Prelude.{ℕ, suc, zero, ◌+◌, ◌^◌, ◌&&◌, ◌||◌, nat_lt, Bool, true, List, [], ◌∷◌, length, Option, Some, None, unwrap_or, option_map, codes}
 use Rattle.std.specs.List.{list_all}
 use Rattle.semver.specs.Grammar.{is_pre_release}
@@ -10,7 +10,7 @@ use Rattle.rustsec_values.specs.Reading.{only_if}
 use Rattle.rustsec_versions.specs.Precedence.{precedence}
 use Rattle.rustsec_versions.specs.Interval.{Endpoint, Interval, exclusive, inclusive, reaches, unbounded}
 
--- ---- the versions that a comparator speaks of
+-- ---- the version that a comparator names
 
 -- the version that a comparator names: missing numbers are zero, the pre-release is kept, no build
 abbrev pub named : Held → Parts
@@ -28,7 +28,7 @@ names_version c = fits c.1 && (fits (unwrap_or c.2 0) && (fits (unwrap_or c.3 0)
 abbrev pub least_of : ℕ → ℕ → ℕ → Parts
 least_of major minor patch = (major, minor, patch, codes "0", [])
 
--- the least version of the next major number, of the next minor one and of the next patch, where that number fits
+-- the least version of the next major number, of the next minor one and of the next patch, if that number fits
 abbrev pub next_major : ℕ → Option Parts
 next_major a = only_if (fits (a + 1)) (Some (least_of (a + 1) 0 0))
 
@@ -48,7 +48,7 @@ caret_end zero None None = next_major 0
 caret_end zero (Some zero) (Some c) = next_patch 0 0 c
 caret_end zero (Some b) c = next_minor 0 b
 
--- where `~` ends: at the next minor number, or at the next major one where no minor is given
+-- where `~` ends: at the next minor number, or at the next major one if no minor is given
 abbrev pub tilde_end : ℕ → Option ℕ → Option ℕ → Option Parts
 tilde_end a None (Some c) = None
 tilde_end a None None = next_major a
@@ -71,7 +71,7 @@ of_one op.Caret c = option_map (up_to (named c)) (caret_end c.1 c.2 c.3)
 of_one op.Tilde c = option_map (up_to (named c)) (tilde_end c.1 c.2 c.3)
 of_one op.Wildcard c = None
 
--- what a comparator gives beside another one: the start, the end or neither
+-- what one of two comparators gives: the start, the end or neither
 pub data Side : Type 0 where
   lower : Endpoint → Side
   upper : Endpoint → Side
@@ -106,15 +106,15 @@ of_comparators (c ∷ []) = of_one c.0 c
 of_comparators (c ∷ d ∷ []) = of_sides (side_of c.0 c) (side_of d.0 d)
 of_comparators (c ∷ d ∷ e ∷ rest) = None
 
--- the interval that a requirement states, where each comparator names a valid version
+-- the interval that a requirement states, if each comparator names a valid version
 abbrev pub stated : List Held → Option Interval
 stated cs = only_if (list_all names_version cs) (of_comparators cs)
 
--- whether there is a version least above this one: for all but a release of the greatest patch
+-- whether a version has a successor: each has one but a release of the greatest patch
 abbrev pub has_successor : Parts → Bool
 has_successor v = nat_lt 0 (length v.3) || fits (v.2 + 1)
 
--- an exclusive start and an inclusive end want the version least above theirs
+-- an exclusive start and an inclusive end need the successor of their version
 abbrev pub is_start : Endpoint → Bool
 is_start unbounded = true
 is_start (inclusive v) = true
@@ -125,7 +125,7 @@ is_end unbounded = true
 is_end (exclusive v) = true
 is_end (inclusive v) = has_successor v
 
--- an interval is admissible where its start is at or below its end, and the versions that its bounds want are there
+-- an interval is admissible if its start is at or below its end, and the successors that its bounds need exist
 abbrev pub is_admissible : Interval → Bool
 is_admissible i = reaches precedence i.start i.end && (is_start i.start && is_end i.end)
 
@@ -133,6 +133,6 @@ abbrev pub admitted : Option Interval → Option Interval
 admitted None = None
 admitted (Some i) = only_if (is_admissible i) (Some i)
 
--- the interval of a requirement, where it is admissible
+-- the interval of a requirement, if it is admissible
 abbrev pub interval_of : List Held → Option Interval
 interval_of cs = admitted (stated cs)

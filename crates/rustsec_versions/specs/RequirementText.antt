@@ -23,13 +23,13 @@ abbrev pub star : Op → List ℕ
 star op.Wildcard = codes ".*"
 star _ = []
 
--- a dot and a number, where it is there
+-- a dot and a number, if the number is present
 abbrev pub dotted : Option ℕ → List ℕ
 dotted None = []
 dotted (Some number) = codes "." ++ decimal number
 
--- a comparator: its operator, its major number, then the minor, the patch and, behind a dash, the pre-release,
--- where each is there
+-- a comparator: its operator, its major number, then the minor and the patch if present, and a dash and the
+-- pre-release unless it is empty
 abbrev pub comparator_text : Held → List ℕ
 comparator_text c = op_text c.0 ++ (decimal c.1 ++ (dotted c.2 ++ (dotted c.3 ++ (marked 45 c.4 ++ star c.0))))
 

@@ -28,7 +28,7 @@ pub record AreRangesOf (ls : Lists) (rs : List Range) : Type 0 where
   pub agree : (v : Parts) → IsVersion v → in_ranges rs v ≡ affected ls v
   pub agree_affects : (v : Parts) → IsVersion v → list_any (λ r. affects r v) rs ≡ affected ls v
 
--- a number has the fewest binary digits that can write it; 0 has none
+-- the number of binary digits of a number: the fewest with which it can be written; 0 has none
 pub record HasBinaryDigits (n digits : ℕ) : Type 0 where
   pub enough : n < 2 ^ digits
   pub fewest : (d : ℕ) → n < 2 ^ d → digits ≤ d

@@ -1,7 +1,6 @@
--- The sweep that merges intervals: over intervals in the order of their starts, each one is taken into the merged interval so
--- far where the two overlap and both stand in the patched list. Where they overlap and one does not, two clash, and there is
--- no answer.
--- It only helps proofs: what public contracts say of merged intervals stands in Merged.
+-- The sweep that merges intervals: over intervals in the order of their starts, it joins each one with the merged
+-- interval so far if the two overlap and both are patched. If they overlap and one is not patched, two clash, and
+-- there is no answer. It only helps proofs: `Merged` defines merged intervals for public contracts.
 use Rattle.std.specs.Prelude.{Bool, true, false, not, ◌&&◌, List, [], ◌∷◌, ◌++◌, Option, Some, None, cond, filter_map, map, option_map}
 use Rattle.std.specs.List.{list_any}
 use Rattle.semver.specs.Parse.{Held}
@@ -11,7 +10,7 @@ use Rattle.rustsec_versions.specs.Merged.{ends_by}
 use Rattle.rustsec_versions.specs.Precedence.{precedence, version_order}
 use Rattle.rustsec_versions.specs.Requirement.{interval_of}
 
--- an interval of a requirement, and whether this stands in the patched list
+-- the interval of a requirement, and whether the requirement is in the patched list
 pub record Marked : Type 0 where
   pub interval : Interval
   pub is_patched : Bool
@@ -34,7 +33,7 @@ spans cs = map (λ c. c.interval) cs
 abbrev pub later_end : Endpoint → Endpoint → Endpoint
 later_end d e = cond (ends_by d e) e d
 
--- an interval that goes on to the end of another one, if that is later
+-- an interval with its end extended to that of another one, if that is later
 abbrev pub stretched : Interval → Interval → Interval
 stretched i j = record { start = i.start; end = later_end i.end j.end }
 

@@ -20,7 +20,7 @@ endpoint_of bound.Unbounded = unbounded
 endpoint_of (bound.Exclusive v) = exclusive (parts_of v)
 endpoint_of (bound.Inclusive v) = inclusive (parts_of v)
 
--- its version, where there is one
+-- its version, unless it is unbounded
 abbrev pub bound_version_of : Bound → Option Parts
 bound_version_of bound.Unbounded = None
 bound_version_of (bound.Exclusive v) = Some (parts_of v)

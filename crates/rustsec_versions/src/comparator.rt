@@ -1,4 +1,4 @@
-//! The bounds that the comparators of a requirement state.
+//! The bounds that the comparators of a requirement give.
 
 ghost use Rattle.std.specs.Prelude.{◌≡◌, ◌&&◌, ◌<◌, ◌^◌, ◌+◌, IfErr, IfOk, None, Some, [], ◌∷◌, true};
 ghost use Rattle.semver.specs.Grammar.{is_pre_release};
@@ -14,7 +14,7 @@ use crate::interval::Bound;
 use semver::{BuildMetadata, Comparator, Op, Prerelease, Version, VersionReq};
 use std::alloc::{AllocError, Global};
 
-/// Whether an error of `semver` says that memory was refused.
+/// Returns whether an error of `semver` means that memory was refused.
 pub fn is_out_of_memory(e: semver::Error) -> bool
     ensures memory { e ≡ memory_error → result ≡ true }
     ensures only { result ≡ true → e ≡ memory_error }
@@ -22,7 +22,7 @@ pub fn is_out_of_memory(e: semver::Error) -> bool
     e == semver::Error::from(AllocError)
 }
 
-/// A copy of a pre-release that is SemVer text.
+/// Returns a copy of a pre-release, or `BadParam` if it is not SemVer text.
 fn checked_pre(alloc: Global, pre: &Prerelease) -> Result<Prerelease>
     ensures ok { IfOk result (λ p. only_if (is_pre_release (pre_text pre.now)) (Some (pre_text pre.now))
         ≡ Some (pre_text p)) }
@@ -35,7 +35,7 @@ fn checked_pre(alloc: Global, pre: &Prerelease) -> Result<Prerelease>
     }
 }
 
-/// The least version of three numbers.
+/// Returns the least version with these three numbers: the pre-release `0`.
 pub(crate) fn least_of(alloc: Global, major: u64, minor: u64, patch: u64) -> Result<Version>
     ensures ok { IfOk result (λ v. parts_of v ≡ least_of major minor patch) }
     ensures err { IfErr result IsMemory }
@@ -52,7 +52,7 @@ pub(crate) fn least_of(alloc: Global, major: u64, minor: u64, patch: u64) -> Res
     }
 }
 
-/// The refusal of a number that is too large for a version.
+/// Returns the error for a number that is too large for a version.
 fn too_large(alloc: Global) -> Error
     ensures { IsOfKind ErrorKind.BadParam result }
 {
@@ -92,7 +92,7 @@ fn next_patch(alloc: Global, major: u64, minor: u64, patch: u64) -> Result<Versi
     least_of(alloc, major, minor, next)
 }
 
-/// Where `^` ends.
+/// Returns the exclusive end of a `^` comparator.
 fn caret_end(alloc: Global, c: &Comparator) -> Result<Version>
     ensures ok { IfOk result (λ v. caret_end c.now.major c.now.minor c.now.patch ≡ Some (parts_of v)) }
     ensures err { IfErr result (IsRefusal ErrorKind.BadParam (caret_end c.now.major c.now.minor c.now.patch ≡ None)) }
@@ -106,7 +106,7 @@ fn caret_end(alloc: Global, c: &Comparator) -> Result<Version>
     }
 }
 
-/// Where `~` ends.
+/// Returns the exclusive end of a `~` comparator.
 fn tilde_end(alloc: Global, c: &Comparator) -> Result<Version>
     ensures ok { IfOk result (λ v. tilde_end c.now.major c.now.minor c.now.patch ≡ Some (parts_of v)) }
     ensures err { IfErr result (IsRefusal ErrorKind.BadParam (tilde_end c.now.major c.now.minor c.now.patch ≡ None)) }
@@ -124,7 +124,7 @@ fn no_minor(alloc: Global) -> Error
     Error::bad_param(alloc, "a comparator has a patch number but no minor one")
 }
 
-/// The version of these parts, without build metadata.
+/// Returns the version with these parts, without build metadata.
 fn version_of(major: u64, minor: u64, patch: u64, pre: Prerelease) -> Version
     ensures parts { parts_of result ≡ (major, minor, patch, pre_text pre, []) }
     ensures fit { (fits major && (fits minor && fits patch)) ≡ true }
@@ -138,7 +138,7 @@ fn version_of(major: u64, minor: u64, patch: u64, pre: Prerelease) -> Version
     }
 }
 
-/// The version that a comparator names.
+/// Returns the version that a comparator names; missing numbers are zero.
 fn named(alloc: Global, c: &Comparator) -> Result<Version>
     ensures ok { IfOk result (λ v. only_if (names_version (comparator_view c.now)) (Some (named (comparator_view c.now)))
         ≡ Some (parts_of v)) }
@@ -151,7 +151,7 @@ fn named(alloc: Global, c: &Comparator) -> Result<Version>
     Ok(version_of(major, minor, patch, pre))
 }
 
-/// The bounds of a comparator by its operator, where it names this version.
+/// Returns the bounds of one comparator with this version, by its operator.
 fn bounds_by_op(alloc: Global, c: &Comparator, version: Version) -> Result<(Bound, Bound)>
     requires { parts_of version ≡ named (comparator_view c.now) }
     ensures ok { IfOk result (λ b. of_one c.now.op (comparator_view c.now) ≡ Some (interval_between b.0 b.1)) }
@@ -181,7 +181,7 @@ fn bounds_by_op(alloc: Global, c: &Comparator, version: Version) -> Result<(Boun
     }
 }
 
-/// The bounds of one comparator.
+/// Returns the bounds of one comparator.
 fn bounds_of_one(alloc: Global, c: &Comparator) -> Result<(Bound, Bound)>
     ensures ok { IfOk result (λ b. stated (comparator_view c.now ∷ []) ≡ Some (interval_between b.0 b.1)) }
     ensures err { IfErr result (IsRefusal ErrorKind.BadParam (stated (comparator_view c.now ∷ []) ≡ None)) }
@@ -190,7 +190,7 @@ fn bounds_of_one(alloc: Global, c: &Comparator) -> Result<(Bound, Bound)>
     bounds_by_op(alloc, c, version)
 }
 
-/// What a comparator gives beside another one.
+/// What one of two comparators gives.
 #[derive(Drop)]
 pub(crate) enum Side {
     Lower(Bound),
@@ -198,7 +198,7 @@ pub(crate) enum Side {
     Neither,
 }
 
-/// The side that a comparator gives by its operator, where it names this version.
+/// Returns the side that a comparator with this version gives, by its operator.
 fn side_by_op(c: &Comparator, version: Version) -> Side
     requires { parts_of version ≡ named (comparator_view c.now) }
     ensures { side_view result ≡ side_of c.now.op (comparator_view c.now) }
@@ -212,7 +212,7 @@ fn side_by_op(c: &Comparator, version: Version) -> Side
     }
 }
 
-/// The side that a comparator gives.
+/// Returns the side that a comparator gives.
 fn side_of(alloc: Global, c: &Comparator) -> Result<Side>
     ensures ok { IfOk result (λ s. only_if (names_version (comparator_view c.now)) (Some (side_of c.now.op (comparator_view c.now)))
         ≡ Some (side_view s)) }
@@ -222,7 +222,7 @@ fn side_of(alloc: Global, c: &Comparator) -> Result<Side>
     Ok(side_by_op(c, version))
 }
 
-/// What is wrong with two comparators that are no lower and upper bound, by their operators.
+/// Returns why two operators are not a lower and an upper bound.
 fn no_two_sides(first: Op, second: Op) -> &'static str {
     match (first, second) {
         (Op::Greater | Op::GreaterEq, Op::Greater | Op::GreaterEq) => "there are two lower bounds",
@@ -232,7 +232,7 @@ fn no_two_sides(first: Op, second: Op) -> &'static str {
 }
 
 #[tactic(auto, using(crate::proofs::Stated::stated_two, crate::proofs::Stated::stated_second))]
-/// The bounds of two comparators, of which one gives the start and the other the end.
+/// Returns the bounds of two comparators: one must give the start, the other the end.
 fn bounds_of_two(alloc: Global, c: &Comparator, d: &Comparator) -> Result<(Bound, Bound)>
     ensures ok { IfOk result (λ b. stated (comparator_view c.now ∷ comparator_view d.now ∷ [])
         ≡ Some (interval_between b.0 b.1)) }
@@ -248,7 +248,7 @@ fn bounds_of_two(alloc: Global, c: &Comparator, d: &Comparator) -> Result<(Bound
 }
 
 #[tactic(auto, using(crate::proofs::Stated::stated_more))]
-/// The bounds of a requirement.
+/// Returns the bounds of a requirement.
 pub(crate) fn bounds_of(alloc: Global, req: &VersionReq) -> Result<(Bound, Bound)>
     ensures ok { IfOk result (λ b. stated (comparators_of req.now) ≡ Some (interval_between b.0 b.1)) }
     ensures err { IfErr result (IsRefusal ErrorKind.BadParam (stated (comparators_of req.now) ≡ None)) }

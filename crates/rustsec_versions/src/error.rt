@@ -8,25 +8,25 @@ use std::alloc::{AllocError, Global};
 use std::fmt;
 use std::marker::Model;
 
-/// What a call of these crates answers.
+/// The result of a call that may refuse or run out of memory.
 pub type Result<T> = std::result::Result<T, Error>;
 
 /// The kind of an error.
 #[derive(Clone, Copy, Debug, PartialEq, Eq)]
 pub enum ErrorKind {
-    /// A value that the call does not take.
+    /// An argument that the call does not accept.
     BadParam = 1,
     /// A file or a folder that cannot be read.
     Io = 2,
-    /// Something that was looked for and is not there.
+    /// What the call looked for is missing.
     NotFound = 3,
     /// A lock on the file system that was not free in time.
     LockTimeout = 4,
-    /// A text that is not of its grammar.
+    /// A text that does not follow its grammar.
     Parse = 5,
     /// A fault of a registry's index.
     Registry = 6,
-    /// A file that stands at the wrong place of a database.
+    /// A file at the wrong place in a database.
     Repo = 7,
     /// A version that cannot be used.
     Version = 8,
@@ -35,7 +35,7 @@ pub enum ErrorKind {
 }
 
 impl ErrorKind {
-    /// The text that `Display` prints.
+    /// Returns the text that `Display` prints.
     pub fn text(self) -> &'static str
         ensures { result.now ≡ kind_text self }
     {
@@ -61,7 +61,7 @@ impl fmt::Display for ErrorKind {
     }
 }
 
-/// An error: its kind, a message and, where there is one, the text of its cause.
+/// An error: its kind, a message and, if it has a cause, the text of the cause.
 #[derive(Debug, Drop)]
 pub struct Error {
     kind: ErrorKind,
@@ -78,7 +78,7 @@ impl Model for Error {
 }
 
 impl Error {
-    /// An error with a copy of this message, or `OutOfMemory` where there is none for the copy.
+    /// Returns an error with a copy of this message, or `OutOfMemory` if the copy fails.
     pub fn new(alloc: Global, kind: ErrorKind, message: &str) -> Error
         ensures { (result ≡ record { kind = kind; message = message.now; cause = None })
             ⊎ (result ≡ out_of_memory) }
@@ -93,7 +93,7 @@ impl Error {
         }
     }
 
-    /// The same with a copy of the text of a cause.
+    /// Returns an error as `new` does, with a copy of the text of a cause.
     pub fn with_source(alloc: Global, kind: ErrorKind, message: &str, cause: &str) -> Error
         ensures { (result ≡ record { kind = kind; message = message.now; cause = Some cause.now })
             ⊎ (result ≡ out_of_memory) }
@@ -108,21 +108,21 @@ impl Error {
         }
     }
 
-    /// A refusal of what a caller asked for.
+    /// Returns a `BadParam` error with this message.
     pub(crate) fn bad_param(alloc: Global, message: &str) -> Error
         ensures { IsOfKind ErrorKind.BadParam result }
     {
         Error::new(alloc, ErrorKind::BadParam, message)
     }
 
-    /// The kind.
+    /// Returns the kind.
     pub fn kind(&self) -> ErrorKind
         ensures { result ≡ self.now.kind }
     {
         self.kind
     }
 
-    /// The message, which is empty if the kind is `OutOfMemory`.
+    /// Returns the message, which is empty if the kind is `OutOfMemory`.
     pub fn message(&self) -> &str
         ensures { result.now ≡ self.now.message }
     {
@@ -132,14 +132,14 @@ impl Error {
         }
     }
 
-    /// The text of the cause, where there is one.
+    /// Returns the text of the cause, if any.
     pub fn cause(&self) -> Option<&str>
         ensures { option_map (λ t. t.now) result ≡ self.now.cause }
     {
         self.cause.as_ref().map(|cause| cause.as_str())
     }
 
-    /// An equal error.
+    /// Returns an equal error.
     ///
     /// # Errors
     ///
@@ -177,7 +177,7 @@ impl From<AllocError> for Error {
 
     ghost from_gives = { λ _ e. e ≡ out_of_memory };
 
-    /// The error of refused memory, which takes none.
+    /// Returns the `OutOfMemory` error, which takes no memory.
     fn from(_: AllocError) -> Error {
         Error {
             kind: ErrorKind::OutOfMemory,

@@ -1,4 +1,4 @@
-//! The gaps between intervals of versions that are not affected: the affected versions.
+//! Intervals of affected versions: the gaps between the intervals of requirements.
 
 ghost use Rattle.std.specs.Prelude.{◌≡◌, ◌++◌, [], IfErr, IfOk, OnOk};
 ghost use Rattle.rustsec_versions.specs.Between.{gap_to, gaps_between, turned};
@@ -16,7 +16,7 @@ use rustsec_values::ExactClone;
 use std::alloc::{AllocError, Global};
 use std::marker::Model;
 
-/// The affected versions between two bounds, which may be none.
+/// An interval of affected versions; it may be empty.
 #[derive(Debug, Drop)]
 pub(crate) struct Gap {
     pub(crate) start: Bound,
@@ -47,8 +47,8 @@ impl ExactClone for Gap {
 }
 
 impl Gap {
-    /// The range of the same valid versions: from the version least above an exclusive start on, and below
-    /// the version least above an inclusive end.
+    /// Returns the range of the same valid versions: it begins at the successor of an exclusive start and ends at the
+    /// successor of an inclusive end.
     pub(crate) fn range(&self, alloc: Global) -> Result<OsvRange>
         requires { HasValidBounds self.now }
         ensures ok { IfOk result (λ r. r ≡ cut self.now) }
@@ -60,7 +60,7 @@ impl Gap {
     }
 }
 
-/// Where what an interval leaves begins, by its end, or is over, by its start.
+/// Returns the bound on the other side of the same cut: an exclusive end becomes an inclusive start, and so on.
 fn turned(bound: &Bound) -> std::result::Result<Bound, AllocError>
     ensures { IfOk result (λ b. endpoint_of b ≡ turned (endpoint_of bound.now)) }
 {
@@ -71,7 +71,7 @@ fn turned(bound: &Bound) -> std::result::Result<Bound, AllocError>
     }
 }
 
-/// Appends the gap before an interval with this start, where it has one.
+/// Appends the gap before an interval with this start, if the start is bounded.
 fn add_gap(from: Bound, start: &Bound, gaps: &mut Vec<Gap>) -> std::result::Result<(), AllocError>
     ensures { OnOk result (gaps.new.items ≡ gaps.old.items ++ gap_to (endpoint_of from) (endpoint_of start.now) []) }
 {
@@ -81,7 +81,7 @@ fn add_gap(from: Bound, start: &Bound, gaps: &mut Vec<Gap>) -> std::result::Resu
     }
 }
 
-/// The gaps between intervals that stand in the order of their starts.
+/// Returns the gaps between intervals that are sorted by their starts.
 pub(crate) fn gaps(alloc: Global, intervals: &[Merged]) -> std::result::Result<Vec<Gap>, AllocError>
     ensures { IfOk result (λ v. v.items ≡ gaps_between unbounded (spans intervals.now)) }
 {

@@ -25,16 +25,16 @@ use std::marker::Model;
 /// The start or the end of an interval.
 #[derive(Debug, Drop)]
 pub enum Bound {
-    /// There is none: each version is on this side of it.
+    /// No bound: every version is on this side.
     Unbounded,
-    /// The version itself is left out.
+    /// The versions beyond this one, without the version itself.
     Exclusive(Version),
-    /// The version itself is in.
+    /// The versions from this one on, with the version itself.
     Inclusive(Version),
 }
 
 impl Bound {
-    /// The version, if there is one.
+    /// Returns the version, unless the bound is `Unbounded`.
     pub fn version(&self) -> Option<&Version>
         ensures { option_map (λ v. parts_of v.now) result ≡ bound_version_of self.now }
     {
@@ -45,7 +45,7 @@ impl Bound {
         }
     }
 
-    /// An equal bound.
+    /// Returns an equal bound.
     ///
     /// # Errors
     ///
@@ -90,7 +90,7 @@ impl Eq for Bound {
     ghost laws = { on_equiv endpoint_of endpoint_equiv };
 }
 
-/// Whether a start is at or below an end, in the order of `Version`.
+/// Returns whether a start is at or below an end, in the order of `Version`.
 pub(crate) fn reaches(start: &Bound, end: &Bound) -> bool
     ensures { result ≡ reaches version_order (endpoint_of start.now) (endpoint_of end.now) }
 {
@@ -103,7 +103,7 @@ pub(crate) fn reaches(start: &Bound, end: &Bound) -> bool
     }
 }
 
-/// Whether a version satisfies a start, by precedence.
+/// Returns whether a version satisfies a start, by precedence.
 fn is_after(start: &Bound, version: &Version) -> bool
     ensures { result ≡ is_after (endpoint_of start.now) (parts_of version.now) }
 {
@@ -114,7 +114,7 @@ fn is_after(start: &Bound, version: &Version) -> bool
     }
 }
 
-/// Whether a version satisfies an end, by precedence.
+/// Returns whether a version satisfies an end, by precedence.
 fn is_before(end: &Bound, version: &Version) -> bool
     ensures { result ≡ is_before (endpoint_of end.now) (parts_of version.now) }
 {
@@ -125,7 +125,7 @@ fn is_before(end: &Bound, version: &Version) -> bool
     }
 }
 
-/// Whether an end is the other one or before it, by precedence.
+/// Returns whether the first end is the second one or before it, by precedence.
 pub(crate) fn ends_by(first: &Bound, second: &Bound) -> bool
     ensures { result ≡ ends_by (endpoint_of first.now) (endpoint_of second.now) }
 {
@@ -140,14 +140,14 @@ pub(crate) fn ends_by(first: &Bound, second: &Bound) -> bool
     }
 }
 
-/// Whether there is a version least above this one.
+/// Returns whether a version has a successor.
 fn has_successor(version: &Version) -> bool
     ensures { result ≡ has_successor (parts_of version.now) }
 {
     !version.pre.is_empty() || version.patch < u64::MAX
 }
 
-/// Whether a start has the version that it wants.
+/// Returns whether the successor that an exclusive start needs exists.
 fn is_start(bound: &Bound) -> bool
     ensures { result ≡ is_start (endpoint_of bound.now) }
 {
@@ -157,7 +157,7 @@ fn is_start(bound: &Bound) -> bool
     }
 }
 
-/// Whether an end has the version that it wants.
+/// Returns whether the successor that an inclusive end needs exists.
 fn is_end(bound: &Bound) -> bool
     ensures { result ≡ is_end (endpoint_of bound.now) }
 {
@@ -167,7 +167,7 @@ fn is_end(bound: &Bound) -> bool
     }
 }
 
-/// An interval of versions that are not affected, whose start is at or below its end.
+/// An interval of unaffected versions, whose start is at or below its end.
 #[derive(Debug, Drop)]
 pub struct UnaffectedRange {
     start: Bound,
@@ -187,7 +187,7 @@ impl Model for UnaffectedRange {
     ghost invariant = { λ r. reaches version_order (endpoint_of r.start) (endpoint_of r.end) ≡ true };
 }
 
-/// The interval of a requirement whose bounds have the versions that they want.
+/// Returns the interval of a requirement, without the text of the requirement in an error.
 fn admissible_interval(alloc: Global, req: &VersionReq) -> Result<UnaffectedRange>
     ensures ok { IfOk result (λ r. interval_of (comparators_of req.now) ≡ Some r) }
     ensures err { IfErr result
@@ -200,7 +200,7 @@ fn admissible_interval(alloc: Global, req: &VersionReq) -> Result<UnaffectedRang
     UnaffectedRange::new(alloc, start, end)
 }
 
-/// The refusal of a bound at a release whose patch number is the greatest one.
+/// Returns the error for a bound at a release whose patch number is the greatest one.
 fn no_version_above(alloc: Global) -> Error
     ensures { IsOfKind ErrorKind.BadParam result }
 {
@@ -210,7 +210,7 @@ fn no_version_above(alloc: Global) -> Error
     )
 }
 
-/// The refusal of a start that is not at or below the end, which shows both.
+/// Returns the error for a start that is not at or below the end; its message shows both.
 fn not_in_order(alloc: Global, start: &Bound, end: &Bound) -> Error
     ensures { IsOfKind ErrorKind.BadParam result }
 {
@@ -229,7 +229,7 @@ fn not_in_order(alloc: Global, start: &Bound, end: &Bound) -> Error
 }
 
 impl UnaffectedRange {
-    /// The interval of a requirement: the versions that it names as not affected.
+    /// Returns the interval of a requirement: the versions that it states as unaffected.
     ///
     /// # Errors
     ///
@@ -246,11 +246,11 @@ impl UnaffectedRange {
         }
     }
 
-    /// The interval between two bounds.
+    /// Returns the interval between two bounds.
     ///
     /// # Errors
     ///
-    /// `BadParam` where the start is not at or below the end, in the order of `Version`, with a message
+    /// `BadParam` if the start is not at or below the end, in the order of `Version`, with a message
     /// that shows both; else `OutOfMemory`.
     pub fn new(alloc: Global, start: Bound, end: Bound) -> Result<UnaffectedRange>
         ensures ok { IfOk result (λ r. r ≡ interval_between start end) }
@@ -265,35 +265,35 @@ impl UnaffectedRange {
         }
     }
 
-    /// The start.
+    /// Returns the start.
     pub fn start(&self) -> &Bound
         ensures { endpoint_of result.now ≡ self.now.start }
     {
         &self.start
     }
 
-    /// The end.
+    /// Returns the end.
     pub fn end(&self) -> &Bound
         ensures { endpoint_of result.now ≡ self.now.end }
     {
         &self.end
     }
 
-    /// Whether each one's start is at or below the other's end, in the order of `Version`.
+    /// Returns whether each interval's start is at or below the other's end, in the order of `Version`.
     pub fn overlaps(&self, other: &UnaffectedRange) -> bool
         ensures { result ≡ overlap version_order self.now other.now }
     {
         reaches(&self.start, &other.end) && reaches(&other.start, &self.end)
     }
 
-    /// Whether a version satisfies the start and the end, by precedence (SemVer 2.0.0, section 11).
+    /// Returns whether a version satisfies the start and the end, by precedence (SemVer 2.0.0, section 11).
     pub fn holds(&self, version: &Version) -> bool
         ensures { result ≡ holds self.now (parts_of version.now) }
     {
         is_after(&self.start, version) && is_before(&self.end, version)
     }
 
-    /// An equal interval.
+    /// Returns an equal interval.
     ///
     /// # Errors
     ///

@@ -1,4 +1,4 @@
-//! Which versions an advisory affects: intervals of versions, and the lists of requirements.
+//! Which versions an advisory affects: intervals of versions, and lists of requirements.
 #![tactic(auto)]
 
 mod comparator;

@@ -16,7 +16,7 @@ use std::alloc::{AllocError, Global};
 use std::cmp::Ordering;
 use std::marker::Model;
 
-/// The interval of a requirement, and whether this stands in the patched list.
+/// The interval of a requirement, and whether the requirement is in the patched list.
 #[derive(Drop)]
 pub(crate) struct Marked<'a> {
     pub(crate) interval: UnaffectedRange,
@@ -55,7 +55,7 @@ fn add_marked<'a>(
     Ok(())
 }
 
-/// The intervals of the requirements of both lists.
+/// Returns the intervals of the requirements of both lists.
 pub(crate) fn marked_intervals<'a>(
     alloc: Global,
     patched: &'a Requirements,
@@ -71,7 +71,7 @@ pub(crate) fn marked_intervals<'a>(
     Ok(intervals)
 }
 
-/// The order of starts.
+/// Compares two starts, in the order of `Version`.
 fn compare_starts(a: &Bound, b: &Bound) -> Ordering
     ensures { result ≡ start_order (endpoint_of a.now) (endpoint_of b.now) }
 {
@@ -86,7 +86,7 @@ fn compare_starts(a: &Bound, b: &Bound) -> Ordering
     }
 }
 
-/// References to intervals.
+/// Returns references to intervals.
 fn references<'a, 'b>(
     alloc: Global,
     intervals: &'b [Marked<'a>],
@@ -104,7 +104,7 @@ fn sort_by_start<'a, 'b>(intervals: &mut Vec<&'b Marked<'a>>) -> std::result::Re
     intervals.sort_by(|a, b| compare_starts(a.interval.start(), b.interval.start()))
 }
 
-/// References to intervals, in the order of their starts.
+/// Returns references to intervals, sorted by their starts.
 pub(crate) fn by_start<'a, 'b>(
     alloc: Global,
     intervals: &'b [Marked<'a>],

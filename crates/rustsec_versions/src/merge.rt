@@ -1,4 +1,4 @@
-//! Intervals of patched requirements that overlap are merged.
+//! Merges overlapping intervals of patched requirements.
 
 ghost use Rattle.std.specs.Prelude.{◌≡◌, ◌&&◌, IfOk, map, option_map};
 ghost use Rattle.rustsec_versions.specs.Interval.{overlap};
@@ -11,7 +11,7 @@ use crate::marked::Marked;
 use std::alloc::{AllocError, Global};
 use std::marker::Model;
 
-/// Overlapping intervals of patched requirements as one interval, or the interval of one requirement.
+/// The merged interval of overlapping patched requirements, or the interval of one requirement.
 #[derive(Drop)]
 pub(crate) struct Merged<'a> {
     start: &'a Bound,
@@ -28,7 +28,7 @@ impl<'a> Model for Merged<'a> {
     ghost view = { λ m. record { interval = interval_between m.start.now m.end.now; is_patched = m.is_patched } };
 }
 
-/// The later one of two ends.
+/// Returns the later one of two ends.
 fn later_end<'a>(first: &'a Bound, second: &'a Bound) -> &'a Bound
     ensures { endpoint_of result.now ≡ later_end (endpoint_of first.now) (endpoint_of second.now) }
 {
@@ -40,7 +40,7 @@ fn later_end<'a>(first: &'a Bound, second: &'a Bound) -> &'a Bound
 }
 
 impl<'a> Merged<'a> {
-    /// The interval of one requirement.
+    /// Returns the interval of one requirement.
     fn of(one: &'a Marked) -> Merged<'a>
         ensures { result ≡ one.now }
     {
@@ -51,35 +51,35 @@ impl<'a> Merged<'a> {
         }
     }
 
-    /// The start.
+    /// Returns the start.
     pub(crate) fn start(&self) -> &'a Bound
         ensures { endpoint_of result.now ≡ self.now.interval.start }
     {
         self.start
     }
 
-    /// The end.
+    /// Returns the end.
     pub(crate) fn end(&self) -> &'a Bound
         ensures { endpoint_of result.now ≡ self.now.interval.end }
     {
         self.end
     }
 
-    /// Whether each one's start is at or below the other's end.
+    /// Returns whether each interval's start is at or below the other's end.
     fn overlaps(&self, next: &Marked) -> bool
         ensures { result ≡ overlap version_order self.now.interval next.now.interval }
     {
         reaches(self.start, next.interval.end()) && reaches(next.interval.start(), self.end)
     }
 
-    /// Whether both stand in the patched list.
+    /// Returns whether both intervals are of patched requirements.
     fn is_patched_with(&self, next: &Marked) -> bool
         ensures { result ≡ (self.now.is_patched && next.now.is_patched) }
     {
         self.is_patched && next.is_patched
     }
 
-    /// The interval that goes on to the end of the next one, if that is later.
+    /// Returns the interval with its end extended to that of the next one, if that is later.
     fn stretched(&self, next: &'a Marked) -> Merged<'a>
         ensures { result ≡ stretched_mark self.now next.now }
     {
@@ -91,7 +91,7 @@ impl<'a> Merged<'a> {
     }
 }
 
-/// The merged intervals from one on, if no two clash.
+/// Returns the merged intervals from one interval on, or none if two clash.
 fn sweep<'a>(
     alloc: Global,
     first: &'a Marked,
@@ -115,7 +115,7 @@ fn sweep<'a>(
     Ok(Some(done))
 }
 
-/// The merged intervals of some that stand in the order of their starts, if no two clash.
+/// Returns the merged intervals of a list that is sorted by starts, or none if two clash.
 pub(crate) fn merged_intervals<'a>(
     alloc: Global,
     sorted: &[&'a Marked],

@@ -1,4 +1,4 @@
-//! The version least above another one.
+//! The successor of a version: the least version above it.
 
 ghost use Rattle.std.specs.Prelude.{◌≡◌, ◌≢◌, ◌↔◌, ◌++◌, ◌-◌, ◌^◌, [], IfErr, IfOk, IfSome, IsNone, MatchResult, codes, length, option_map, true};
 ghost use Rattle.semver.specs.Grammar.{is_pre_release};
@@ -13,7 +13,7 @@ use crate::error::{Error, Result};
 use semver::{BuildMetadata, Prerelease, Version};
 use std::alloc::{AllocError, Global};
 
-/// A pre-release with one identifier `0` more.
+/// Returns a pre-release with one more identifier, `0`.
 fn with_zero(alloc: Global, pre: &Prerelease) -> std::result::Result<Prerelease, semver::Error>
     ensures { is_pre_release (pre_text pre.now) ≡ true → length (pre_text pre.now) ≢ 0
         → MatchResult result (λ p. pre_text p ≡ pre_text pre.now ++ codes ".0") (λ e. e ≡ memory_error) }
@@ -22,10 +22,9 @@ fn with_zero(alloc: Global, pre: &Prerelease) -> std::result::Result<Prerelease,
     Prerelease::new(alloc, text.as_str())
 }
 
-/// The version least above this one in precedence, among all valid versions, pre-releases included
-/// (SemVer 2.0.0, section 11): `1.2.4-0` above `1.2.3`, and `1.2.3-a.0` above `1.2.3-a`. It has no
-/// build metadata. By this project's convention there is none above a release whose patch is the
-/// greatest number.
+/// Returns the version least above this one in precedence, among all valid versions, pre-releases included (SemVer
+/// 2.0.0, section 11): `1.2.4-0` above `1.2.3`, and `1.2.3-a.0` above `1.2.3-a`. It has no build metadata. By this
+/// project's convention, a release whose patch is the greatest number has no successor.
 ///
 /// # Errors
 ///

@@ -1,4 +1,4 @@
-// The refusal of requirements of which two clash.
+//! The error for requirements that overlap and may not.
 
 ghost use Rattle.std.specs.Prelude.{IfErr};
 ghost use Rattle.rustsec_versions.specs.Failure.{IsMemory, IsOfKind};
@@ -10,7 +10,7 @@ use crate::print::quoted;
 use semver::VersionReq;
 use std::alloc::Global;
 
-/// The one of two intervals that ends later, if there are two.
+/// Returns the interval that ends later; the second one if there is no first one.
 fn later<'a, 'b>(first: Option<&'b Marked<'a>>, second: &'b Marked<'a>) -> &'b Marked<'a> {
     match first {
         Some(first) if ends_by(second.interval.end(), first.interval.end()) => first,
@@ -18,9 +18,9 @@ fn later<'a, 'b>(first: Option<&'b Marked<'a>>, second: &'b Marked<'a>) -> &'b M
     }
 }
 
-/// Two requirements that clash, by their intervals in the order of their starts: the first that overlaps one
-/// before it, if not both are patched. It is compared with the one that ends last, of all or, if it is
-/// patched, of the unaffected ones.
+/// Returns two requirements that clash, from their intervals sorted by start: the first one that overlaps an earlier
+/// one, unless both are patched. A patched interval is compared with the unaffected one that ends last; an unaffected
+/// interval is compared with the one that ends last.
 fn clashing<'a>(sorted: &[&Marked<'a>]) -> Option<(&'a VersionReq, &'a VersionReq)> {
     let mut last = None;
     let mut last_unaffected = None;
@@ -43,7 +43,7 @@ fn clashing<'a>(sorted: &[&Marked<'a>]) -> Option<(&'a VersionReq, &'a VersionRe
     None
 }
 
-/// What the refusal of two requirements says.
+/// Returns the message for two requirements that clash.
 fn message_of(alloc: Global, first: &VersionReq, second: &VersionReq) -> Result<String>
     ensures { IfErr result IsMemory }
 {
@@ -53,7 +53,7 @@ fn message_of(alloc: Global, first: &VersionReq, second: &VersionReq) -> Result<
     Ok(message)
 }
 
-/// The refusal of two requirements that clash.
+/// Returns the error for two requirements that clash.
 fn refused(alloc: Global, first: &VersionReq, second: &VersionReq) -> Error
     ensures { IsOfKind ErrorKind.BadParam result }
 {
@@ -63,7 +63,7 @@ fn refused(alloc: Global, first: &VersionReq, second: &VersionReq) -> Error
     }
 }
 
-/// The refusal of requirements of which two clash: its message names the two.
+/// Returns the error for requirements that clash; its message names two of them.
 pub(crate) fn overlap_refused(alloc: Global, sorted: &[&Marked]) -> Error
     ensures { IsOfKind ErrorKind.BadParam result }
 {

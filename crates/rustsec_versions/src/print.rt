@@ -1,4 +1,4 @@
-//! The texts of requirements, and how messages show requirements and bounds.
+//! Prints requirements, and shows requirements and bounds in messages.
 
 ghost use Rattle.std.specs.Prelude.{◌≡◌, ◌++◌, IfErr, IfOk, OnOk, string_bytes};
 ghost use Rattle.semver.specs.Identifiers.{comparator_view, marked, pre_text};
@@ -13,7 +13,7 @@ use rustsec_values::beginning_of;
 use semver::{Comparator, Op, Prerelease, Version, VersionReq};
 use std::alloc::{AllocError, Global};
 
-/// The text of an operator.
+/// Returns the text of an operator.
 fn op_text(op: Op) -> &'static str
     ensures { result.now ≡ op_text op }
 {
@@ -29,7 +29,7 @@ fn op_text(op: Op) -> &'static str
     }
 }
 
-/// What ends a comparator after its last number.
+/// Returns what ends a comparator after its last number: `.*` for a wildcard.
 fn star(op: Op) -> &'static str
     ensures { result.now ≡ star op }
 {
@@ -39,7 +39,7 @@ fn star(op: Op) -> &'static str
     }
 }
 
-/// Appends a dot and a number, where it is there.
+/// Appends a dot and a number, if the number is present.
 fn push_dotted(text: &mut String, number: Option<u64>) -> std::result::Result<(), AllocError>
     ensures { OnOk result (string_bytes text.new ≡ string_bytes text.old ++ dotted number) }
 {
@@ -49,7 +49,7 @@ fn push_dotted(text: &mut String, number: Option<u64>) -> std::result::Result<()
     Ok(())
 }
 
-/// Appends a dash and a pre-release, where it is there.
+/// Appends a dash and a pre-release, unless it is empty.
 fn push_pre(text: &mut String, pre: &Prerelease) -> std::result::Result<(), AllocError>
     ensures { OnOk result (string_bytes text.new ≡ string_bytes text.old ++ marked 45 (pre_text pre.now)) }
 {
@@ -73,8 +73,9 @@ fn push_comparator(text: &mut String, c: &Comparator) -> std::result::Result<(),
     Ok(())
 }
 
-/// The text of a requirement: its comparators joined by `, `, each its operator and its numbers
-/// as they were given, and `*` where there is none. `>= 1.2.3` gives `>=1.2.3`, and `1.2` gives `^1.2`.
+/// Returns the text of a requirement: its comparators joined by `, `, each with its operator and its numbers as they
+/// were
+/// given, and `*` if there are no comparators. `>= 1.2.3` gives `>=1.2.3`, and `1.2` gives `^1.2`.
 ///
 /// # Errors
 ///
@@ -96,10 +97,10 @@ pub fn requirement_text(alloc: Global, req: &VersionReq) -> Result<String>
     Ok(text)
 }
 
-/// How many bytes of a requirement's text a message shows.
+/// The number of bytes of a requirement's text that a message shows.
 const SHOWN: usize = 60;
 
-/// The text of a requirement for a message: its first 60 bytes, between back quotes.
+/// Returns the text of a requirement for a message: its first 60 bytes, between backquotes.
 pub(crate) fn quoted(alloc: Global, req: &VersionReq) -> Result<String>
     ensures { IfErr result IsMemory }
 {
@@ -109,7 +110,7 @@ pub(crate) fn quoted(alloc: Global, req: &VersionReq) -> Result<String>
     Ok(quoted)
 }
 
-/// A comparator of this sign and version for a message: its first 60 bytes, between back quotes.
+/// Returns a comparator with this operator and version for a message: its first 60 bytes, between backquotes.
 fn quoted_comparator(
     alloc: Global,
     sign: &str,
@@ -120,7 +121,7 @@ fn quoted_comparator(
     format!(in alloc; "`{shown}`")
 }
 
-/// A bound for a message, as a comparator of this sign.
+/// Returns a bound for a message, as a comparator with this operator.
 pub(crate) fn quoted_bound(
     alloc: Global,
     sign: &str,
@@ -136,7 +137,7 @@ pub(crate) fn quoted_bound(
     }
 }
 
-/// Where a refusal of a requirement came up.
+/// Returns the place that an error about a requirement names.
 fn place_of(alloc: Global, req: &VersionReq) -> Result<String>
     ensures { IfErr result IsMemory }
 {
@@ -145,7 +146,7 @@ fn place_of(alloc: Global, req: &VersionReq) -> Result<String>
     Ok(place)
 }
 
-/// The refusal of a requirement, which its message shows. Out of memory stays as it is.
+/// Adds the text of the requirement to the message of an error about it. Out of memory stays as it is.
 pub(crate) fn refused_requirement(alloc: Global, req: &VersionReq, error: &Error) -> Error
     ensures kind { IsOfKind error.now.kind result }
     ensures memory { IsMemory error.now → IsMemory result }

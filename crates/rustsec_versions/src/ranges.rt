@@ -26,12 +26,13 @@ use semver::Version;
 use std::alloc::{AllocError, Global};
 use std::marker::Model;
 
-/// A range of affected versions, from the introduction of a fault on and below its fix, as OSV has it.
+/// A range of affected versions: from the introduction of a fault on, and below its fix (OSV schema, `SEMVER`
+/// ranges).
 #[derive(Debug, Drop)]
 pub struct OsvRange {
-    /// The first affected version; none where there is no lower side.
+    /// The first affected version; none if the range has no lower side.
     pub introduced: Option<Version>,
-    /// The first version that is not affected any more; none where there is no upper side.
+    /// The first version that is not affected any more; none if the range has no upper side.
     pub fixed: Option<Version>,
 }
 
@@ -45,15 +46,14 @@ impl Model for OsvRange {
 }
 
 impl OsvRange {
-    /// Whether a version is in the range, in the order of `Version`, which looks at build metadata
-    /// after everything else.
+    /// Returns whether a version is in the range, in the order of `Version`: precedence, then build metadata.
     pub fn affects(&self, version: &Version) -> bool
         ensures { result ≡ affects self.now (parts_of version.now) }
     {
         is_from(&self.introduced, version) && is_till(&self.fixed, version)
     }
 
-    /// An equal range.
+    /// Returns an equal range.
     ///
     /// # Errors
     ///
@@ -81,7 +81,7 @@ impl ExactClone for OsvRange {
     ghost exact = { λ x y e. e };
 }
 
-/// Whether a version is at or above where a range begins.
+/// Returns whether a version is at or above the introduction of a range.
 fn is_from(introduced: &Option<Version>, version: &Version) -> bool
     ensures { result ≡ affects_from (option_map parts_of introduced.now) (parts_of version.now) }
 {
@@ -91,7 +91,7 @@ fn is_from(introduced: &Option<Version>, version: &Version) -> bool
     }
 }
 
-/// Whether a version is below where a range ends.
+/// Returns whether a version is below the fix of a range.
 fn is_till(fixed: &Option<Version>, version: &Version) -> bool
     ensures { result ≡ affects_till (option_map parts_of fixed.now) (parts_of version.now) }
 {
@@ -101,7 +101,7 @@ fn is_till(fixed: &Option<Version>, version: &Version) -> bool
     }
 }
 
-/// Where an interval with this start begins.
+/// Returns the cut at which an interval with this start begins.
 pub(crate) fn lower_cut(alloc: Global, start: &Bound) -> Result<Option<Version>>
     requires { IsValidBound (endpoint_of start.now) }
     ensures ok { IfOk result (λ o. option_map parts_of o ≡ lower_cut (endpoint_of start.now)) }
@@ -117,7 +117,7 @@ pub(crate) fn lower_cut(alloc: Global, start: &Bound) -> Result<Option<Version>>
     }
 }
 
-/// Where an interval with this end is over.
+/// Returns the cut at which an interval with this end ends.
 pub(crate) fn upper_cut(alloc: Global, end: &Bound) -> Result<Option<Version>>
     requires { IsValidBound (endpoint_of end.now) }
     ensures ok { IfOk result (λ o. option_map parts_of o ≡ upper_cut (endpoint_of end.now)) }
@@ -133,7 +133,7 @@ pub(crate) fn upper_cut(alloc: Global, end: &Bound) -> Result<Option<Version>>
     }
 }
 
-/// The ranges of gaps, in order.
+/// Returns the ranges of gaps, in order.
 pub(crate) fn ranges_of(alloc: Global, gaps: &[Gap]) -> Result<Vec<OsvRange>>
     requires { All HasValidBounds gaps.now }
     ensures ok { IfOk result (λ v. v.items ≡ map cut gaps.now) }
@@ -147,8 +147,8 @@ pub(crate) fn ranges_of(alloc: Global, gaps: &[Gap]) -> Result<Vec<OsvRange>>
     Ok(all)
 }
 
-/// The ranges of affected versions, in rising order: the gaps between the merged intervals of the
-/// requirements, empty ones too. A version is affected exactly where one of the ranges has it.
+/// Returns the ranges of affected versions, in rising order: the gaps between the merged intervals of the
+/// requirements, empty ones too. A version is affected exactly if one of the ranges contains it.
 ///
 /// # Errors
 ///
@@ -156,28 +156,28 @@ pub(crate) fn ranges_of(alloc: Global, gaps: &[Gap]) -> Result<Vec<OsvRange>>
 pub fn ranges_for_advisory(alloc: Global, versions: &Versions) -> Result<Vec<OsvRange>>
     ensures ranges { IfOk result (λ v. AreMergedRanges versions.now v.items) }
 
-    // A cut of an exclusive start or an inclusive end is the version least above it.
+    // A cut of an exclusive start or an inclusive end is the successor of its version.
     ensures cuts { (v s : Parts) → successor v ≡ Some s → IsLeastAbove v s }
 
     // Each merged interval with a start has a lower cut, and each with an end an upper one.
     ensures has_cuts { (ms : List Interval) → AreMerged (intervals versions.now) ms → All HasCuts ms }
 
-    // No chain joins the interval of an unaffected requirement with another one.
+    // No chain joins the interval of an unaffected requirement with another interval.
     ensures alone { (i j : Interval) → Contains (filter_map interval_of versions.now.unaffected) i
         → IsJoined (intervals versions.now) i j → j ≡ i }
 
-    // The list is empty exactly where one merged interval is unbounded on both sides.
+    // The list is empty exactly if one merged interval is unbounded on both sides.
     ensures empty { IfOk result (λ v. (v.items ≡ []) ↔ HasUnboundedInterval versions.now) }
 
-    // Where no two requirements overlap, the list is that of the intervals themselves, and no other list is.
+    // If no two requirements overlap, the list is that of the intervals themselves, and no other list is.
     ensures apart { IfOk result (λ v. accepted_apart versions.now ≡ true → (rs : List Range)
         → AreRanges (intervals versions.now) rs ↔ (rs ≡ v.items)) }
 
-    // A valid version is affected exactly where a range has it, in precedence and in the order of `Version`.
+    // A valid version is affected exactly if a range contains it, in precedence and in the order of `Version`.
     ensures agree { IfOk result (λ v. (w : Parts) → IsVersion w → in_ranges v.items w ≡ affected versions.now w) }
     ensures affects { IfOk result (λ v. (w : Parts) → IsVersion w → list_any (λ r. affects r w) v.items ≡ affected versions.now w) }
 
-    // Neither the order of the requirements nor the list that one stands in changes the ranges of accepted lists.
+    // Neither the order of the requirements nor the list that contains one changes the ranges of accepted lists.
     ensures order { IfOk result (λ v. (ls : Lists) (rs : List Range) → SameRequirements versions.now ls
         → AreMergedRanges ls rs → rs ≡ v.items) }
     ensures err { IfErr result IsMemory }

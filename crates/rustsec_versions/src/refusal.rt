@@ -1,4 +1,4 @@
-// Refusals that say what was found, what was expected, and where.
+//! Errors that say what was found, what was expected, and where.
 
 ghost use Rattle.std.specs.Prelude.{◌≡◌, ◌⊎◌, IfOk, string_bytes};
 ghost use Rattle.std.specs.Option.{option_copied};
@@ -9,10 +9,10 @@ use crate::error::{Error, ErrorKind};
 use rustsec_values::beginning_of;
 use std::alloc::{AllocError, Global};
 
-/// How many bytes of a refused text its message shows.
+/// The number of bytes of a refused text that its message shows.
 const SHOWN: usize = 60;
 
-/// An error with this message and, where there is one, this cause.
+/// Returns an error with this message and this cause, if any.
 fn with_cause(alloc: Global, kind: ErrorKind, message: &str, cause: Option<&str>) -> Error
     ensures { (result ≡ record { kind = kind; message = message.now; cause = option_copied cause.entry }) ⊎ IsMemory result }
 {
@@ -22,7 +22,7 @@ fn with_cause(alloc: Global, kind: ErrorKind, message: &str, cause: Option<&str>
     }
 }
 
-/// The refusal of a text. Its message says what is wrong, shows the text's first 60 bytes, cut between
+/// Returns the error for a refused text. Its message says what is wrong, shows the text's first 60 bytes, cut between
 /// two characters, and says what was expected.
 pub fn refused_text(alloc: Global, wrong: &str, found: &str, expected: &str) -> Error
     ensures kind { IsOfKind ErrorKind.Parse result }
@@ -35,7 +35,7 @@ pub fn refused_text(alloc: Global, wrong: &str, found: &str, expected: &str) -> 
     }
 }
 
-/// The same error with the place where it came up before its message. Out of memory stays as it is.
+/// Adds the place of an error before its message. Out of memory stays as it is.
 pub fn refused_at(alloc: Global, place: &str, error: &Error) -> Error
     ensures kind { IsOfKind error.now.kind result }
     ensures memory { IsMemory error.now → IsMemory result }
@@ -51,7 +51,7 @@ pub fn refused_at(alloc: Global, place: &str, error: &Error) -> Error
     }
 }
 
-/// A message and, where there is one, the cause behind it.
+/// Returns a message, followed by the cause if the error has one.
 fn whole_message(alloc: Global, error: &Error) -> std::result::Result<String, AllocError>
     ensures { IfOk result (λ s. string_bytes s ≡ whole_message error.now) }
 {
@@ -62,8 +62,8 @@ fn whole_message(alloc: Global, error: &Error) -> std::result::Result<String, Al
     }
 }
 
-/// The refusal of a file's text as that of the file: its message names the path, and its cause is the
-/// message and the cause of the refusal. Out of memory stays as it is.
+/// Returns the error of a file from the error of its text: its message names the path, and its cause is the message
+/// and the cause of the given error. Out of memory stays as it is.
 pub fn refused_file(alloc: Global, path: &str, error: &Error) -> Error
     ensures kind { IsOfKind error.now.kind result }
     ensures memory { IsMemory error.now → IsMemory result }

@@ -30,7 +30,7 @@ impl Model for Requirements {
 }
 
 impl Requirements {
-    /// The empty list, which takes no memory.
+    /// Returns the empty list, which takes no memory.
     pub fn new(alloc: Global) -> Requirements
         ensures { result ≡ [] }
     {
@@ -39,14 +39,14 @@ impl Requirements {
         }
     }
 
-    /// The requirements as std's type.
+    /// Returns the requirements as std's type.
     pub fn as_slice(&self) -> &[VersionReq]
         ensures { map comparators_of result.now ≡ self.now }
     {
         self.list.as_slice()
     }
 
-    /// An equal list.
+    /// Returns an equal list.
     ///
     /// # Errors
     ///
@@ -66,7 +66,7 @@ impl From<Vec<VersionReq>> for Requirements {
 
     ghost from_gives = { λ vector list. list ≡ map comparators_of vector.items };
 
-    /// The requirements of a vector, whose memory it takes over.
+    /// Converts a vector, whose memory it takes over.
     fn from(list: Vec<VersionReq>) -> Requirements {
         Requirements { list }
     }
@@ -78,7 +78,7 @@ impl From<Requirements> for Vec<VersionReq> {
 
     ghost from_gives = { λ list vector. map comparators_of vector.items ≡ list };
 
-    /// The vector that holds the requirements, with no copy.
+    /// Returns the vector that holds the requirements, without a copy.
     fn from(requirements: Requirements) -> Vec<VersionReq> {
         let Requirements { list } = requirements;
         list

@@ -1,4 +1,4 @@
-// The search among gaps that stand in order, by halving.
+//! Searches sorted gaps by halving.
 
 ghost use Rattle.std.specs.Prelude.{◌≡◌, ◌<◌, ◌≤◌, ◌+◌, ◌-◌, ◌^◌, ℕ, false, length, slice_index_or, true};
 ghost use Rattle.std.specs.List.{list_any};
@@ -11,7 +11,7 @@ use crate::interval::Bound;
 use crate::steps::Steps;
 use semver::Version;
 
-/// Whether a version is behind where a gap begins.
+/// Returns whether a version is after the start of a gap.
 fn is_begun(gap: &Gap, version: &Version, steps: &mut Steps) -> bool
     ensures answer { result ≡ is_after gap.now.start (parts_of version.now) }
     ensures count { steps.new ≤ steps.old + 1 }
@@ -25,7 +25,7 @@ fn is_begun(gap: &Gap, version: &Version, steps: &mut Steps) -> bool
     }
 }
 
-/// Whether a version is before where a gap is over.
+/// Returns whether a version is before the end of a gap.
 fn is_open(gap: &Gap, version: &Version, steps: &mut Steps) -> bool
     ensures answer { result ≡ is_before gap.now.end (parts_of version.now) }
     ensures count { steps.new ≤ steps.old + 1 }
@@ -39,7 +39,7 @@ fn is_open(gap: &Gap, version: &Version, steps: &mut Steps) -> bool
     }
 }
 
-/// How many gaps, from the first one on, begin before a version.
+/// Returns the number of gaps at the front of the list whose start is before a version (as `partition_point` does).
 fn begun(gaps: &[Gap], version: &Version, steps: &mut Steps) -> usize
     requires { AreInTurn gaps.now }
     ensures within { result ≤ length gaps.now }
@@ -62,7 +62,7 @@ fn begun(gaps: &[Gap], version: &Version, steps: &mut Steps) -> usize
     low
 }
 
-/// Whether a version is in one of the gaps: in the last one that begins before it.
+/// Returns whether a version is in one of the gaps; only the last gap that starts before it can contain it.
 pub(crate) fn in_gaps(gaps: &[Gap], version: &Version, steps: &mut Steps) -> bool
     requires { AreInTurn gaps.now }
     ensures answer { result ≡ list_any (λ g. holds g (parts_of version.now)) gaps.now }

@@ -1,4 +1,4 @@
-//! Versions and requirements of texts. A refusal shows the text, and its cause is the reason of `semver`.
+//! Parses versions and requirements. An error shows the text, and its cause is the reason of `semver`.
 
 ghost use Rattle.std.specs.Prelude.{◌≡◌, IfErr, IfOk, None, Some};
 ghost use Rattle.semver.specs.Identifiers.{parts_of};
@@ -13,7 +13,7 @@ use crate::refusal::refused_text;
 use semver::{Version, VersionReq};
 use std::alloc::{AllocError, Global};
 
-/// The refusal of a text for the reason of `semver`: what is wrong with which text, and what was expected.
+/// Returns the error for a text that `semver` refuses: what is wrong with which text, and what was expected.
 fn refused_for(
     alloc: Global,
     wrong: &str,
@@ -33,11 +33,11 @@ fn refused_for(
     }
 }
 
-/// The version of a text. `written` is what a refusal shows of it.
+/// Parses a version. `written` is what an error shows of the text.
 ///
 /// # Errors
 ///
-/// `Parse` if the text is no version of SemVer 2.0.0; else `OutOfMemory`.
+/// `Parse` if the text is not a version of SemVer 2.0.0; else `OutOfMemory`.
 pub fn read_version(alloc: Global, text: &str, written: &str) -> Result<Version>
     ensures ok { IfOk result (λ v. value_of (version_parts text.now) ≡ Some (parts_of v)) }
     ensures err { IfErr result (IsRefusal ErrorKind.Parse (value_of (version_parts text.now) ≡ None)) }
@@ -55,11 +55,11 @@ pub fn read_version(alloc: Global, text: &str, written: &str) -> Result<Version>
     }
 }
 
-/// The requirement of a text.
+/// Parses a requirement.
 ///
 /// # Errors
 ///
-/// `Parse` if the text is no requirement as Cargo reads one; else `OutOfMemory`.
+/// `Parse` if the text is not a requirement in Cargo's grammar; else `OutOfMemory`.
 pub fn read_requirement(alloc: Global, text: &str) -> Result<VersionReq>
     ensures ok { IfOk result (λ r. value_of (req_of text.now) ≡ Some (comparators_of r)) }
     ensures err { IfErr result (IsRefusal ErrorKind.Parse (value_of (req_of text.now) ≡ None)) }

@@ -1,4 +1,4 @@
-// A count of comparisons.
+//! Counts comparisons of versions.
 
 ghost use Rattle.std.specs.Prelude.{◌≡◌, ◌+◌, ◌-◌, ◌≤◌, ◌^◌, min};
 ghost use Rattle.semver.specs.Identifiers.{parts_of};
@@ -8,7 +8,7 @@ use semver::Version;
 use std::cmp::Ordering;
 use std::marker::Model;
 
-/// How many comparisons of versions were made, up to the greatest number of 64 bits.
+/// The number of comparisons of versions that were made; it stops at the greatest number of 64 bits.
 #[derive(Debug, Drop)]
 pub struct Steps {
     count: u64,
@@ -23,22 +23,22 @@ impl Model for Steps {
 }
 
 impl Steps {
-    /// None yet.
+    /// Returns a count of zero.
     pub fn new() -> Steps
         ensures { result ≡ 0 }
     {
         Steps { count: 0 }
     }
 
-    /// How many were made.
+    /// Returns the number of comparisons that were made.
     pub fn count(&self) -> u64
         ensures { result ≡ self.now }
     {
         self.count
     }
 
-    /// How two versions stand in precedence (SemVer 2.0.0, section 11), which counts as one
-    /// comparison. At the greatest number the count stays.
+    /// Compares two versions by precedence (SemVer 2.0.0, section 11) and counts one comparison. At the greatest
+    /// number the count stays.
     pub fn cmp(&mut self, a: &Version, b: &Version) -> Ordering
         ensures order { result ≡ precedence (parts_of a.now) (parts_of b.now) }
         ensures counted { self.new ≡ min (self.old + 1) (2 ^ 64 - 1) }

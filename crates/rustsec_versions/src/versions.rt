@@ -27,8 +27,7 @@ use semver::{Version, VersionReq};
 use std::alloc::{AllocError, Global};
 use std::marker::Model;
 
-/// The requirements whose versions are not affected: admissible ones, of which no two clash. Patched ones may
-/// overlap one another.
+/// The requirements of an advisory. Each is admissible, and no two clash; patched ones may overlap one another.
 #[derive(Debug, Drop)]
 pub struct Versions {
     patched: Requirements,
@@ -48,7 +47,7 @@ impl Model for Versions {
     ghost invariant = { λ v. AreGapsOf (record { patched = v.patched; unaffected = v.unaffected }) v.gaps.items };
 }
 
-/// The gaps between the merged intervals of the requirements.
+/// Returns the gaps between the merged intervals of the requirements.
 fn gaps_of(alloc: Global, patched: &Requirements, unaffected: &Requirements) -> Result<Vec<Gap>>
     ensures ok { IfOk result (λ v. AreGapsOf (record { patched = patched.now; unaffected = unaffected.now }) v.items) }
     ensures err { IfErr result (IsRefusal ErrorKind.BadParam
@@ -66,7 +65,7 @@ fn gaps_of(alloc: Global, patched: &Requirements, unaffected: &Requirements) -> 
 }
 
 impl Versions {
-    /// The lists, where each requirement is admissible and no two clash.
+    /// Returns the lists, if each requirement is admissible and no two clash.
     ///
     /// # Errors
     ///
@@ -100,7 +99,7 @@ impl Versions {
         })
     }
 
-    /// No requirement at all, so that every version is affected.
+    /// Returns empty lists, so that every version is affected.
     ///
     /// # Errors
     ///
@@ -112,22 +111,22 @@ impl Versions {
         Versions::new(alloc, Vec::new(alloc), Vec::new(alloc))
     }
 
-    /// The requirements whose versions are patched.
+    /// Returns the requirements whose versions are patched.
     pub fn patched(&self) -> &[VersionReq]
         ensures { map comparators_of result.now ≡ self.now.patched }
     {
         self.patched.as_slice()
     }
 
-    /// The requirements whose versions were never affected.
+    /// Returns the requirements whose versions were never affected.
     pub fn unaffected(&self) -> &[VersionReq]
         ensures { map comparators_of result.now ≡ self.now.unaffected }
     {
         self.unaffected.as_slice()
     }
 
-    /// Whether a version is affected: whether no requirement's interval holds it, in precedence
-    /// (SemVer 2.0.0, section 11). The search is that of `is_vulnerable_counted`.
+    /// Returns whether a version is affected: whether no requirement's interval holds it, by precedence (SemVer
+    /// 2.0.0, section 11). It searches as `is_vulnerable_counted` does.
     pub fn is_vulnerable(&self, version: &Version) -> bool
         ensures answer { result ≡ affected self.now (parts_of version.now) }
 
@@ -139,8 +138,8 @@ impl Versions {
         self.is_vulnerable_counted(version, &mut steps)
     }
 
-    /// Whether a version is affected, by a search among the affected versions that halves them. It
-    /// counts the comparisons of versions: at most one more than the number of ranges has binary digits.
+    /// Returns whether a version is affected, by a binary search in the affected intervals. It counts the comparisons
+    /// of versions: at most one more than the number of ranges has binary digits.
     pub fn is_vulnerable_counted(&self, version: &Version, steps: &mut Steps) -> bool
         ensures answer { result ≡ affected self.now (parts_of version.now) }
         ensures build { (b : List ℕ) → affected self.now (with_build b (parts_of version.now)) ≡ result }
@@ -153,7 +152,7 @@ impl Versions {
         in_gaps(&self.gaps, version, steps)
     }
 
-    /// The ranges that the requirements leave.
+    /// Returns the ranges that the requirements leave.
     pub(crate) fn ranges(&self, alloc: Global) -> Result<Vec<OsvRange>>
         ensures ok { IfOk result (λ v. AreRangesOf self.now v.items) }
         ensures accepted { accepted self.now ≡ true }
@@ -162,7 +161,7 @@ impl Versions {
         ranges_of(alloc, &self.gaps)
     }
 
-    /// An equal value.
+    /// Returns an equal value.
     ///
     /// # Errors
     ///
@@ -176,7 +175,7 @@ impl Versions {
     }
 }
 
-/// A copy of a list of gaps.
+/// Returns a copy of a list of gaps.
 fn copied(gaps: &Vec<Gap>) -> std::result::Result<Vec<Gap>, AllocError>
     ensures { IfOk result (λ v. v.items ≡ gaps.now.items) }
 {
@@ -208,7 +207,7 @@ impl PartialEq for Versions {
 
     ghost laws = { partial_equiv_from_equiv lists_equiv };
 
-    /// Whether the two lists are equal.
+    /// Returns whether the two lists are equal.
     fn eq(&self, other: &Versions) -> bool {
         self.patched == other.patched && self.unaffected == other.unaffected
     }

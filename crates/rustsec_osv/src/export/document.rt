@@ -1,4 +1,4 @@
-// The document of an advisory.
+//! Exports an advisory as an OSV document.
 
 ghost use Rattle.std.specs.Prelude.{◌≡◌, ◌⊎◌, ◌++◌, ◌∷◌, ℕ, [], All, IfErr, IfOk, List, None, Some, map, option_map, option_to_list};
 ghost use Rattle.semver.specs.Parse.{Parts};
@@ -30,7 +30,7 @@ use rustsec_values::{Items, Text};
 use rustsec_versions::{ErrorKind, Result};
 use std::alloc::{AllocError, Global};
 
-/// The texts of a document that are made, not moved.
+/// The strings of a document that are newly allocated, not moved from the advisory.
 #[derive(Drop)]
 struct Texts {
     modified: Text,
@@ -39,7 +39,7 @@ struct Texts {
     license: Text,
 }
 
-/// The members of a document that are made, not moved.
+/// The members of a document that are newly allocated, not moved from the advisory.
 #[derive(Drop)]
 struct Made {
     texts: Texts,
@@ -48,7 +48,7 @@ struct Made {
     pages: Items<OsvReference>,
 }
 
-/// The texts of the document of an advisory.
+/// Builds the strings of an advisory's document.
 fn texts_of(
     alloc: Global,
     metadata: &Metadata,
@@ -73,7 +73,7 @@ fn texts_of(
     })
 }
 
-/// What is made of an advisory for its document.
+/// Builds the newly allocated members of an advisory's document.
 fn made_of(alloc: Global, metadata: &Metadata, modified: &str) -> Result<Made>
     ensures texts { IfOk result (λ m. m.texts ≡ record {
       modified = modified.now;
@@ -99,7 +99,7 @@ fn made_of(alloc: Global, metadata: &Metadata, modified: &str) -> Result<Made>
     })
 }
 
-/// A document without a version of the schema, of its members.
+/// Assembles a document; `schema_version` stays unset.
 fn document_of(
     texts: Texts,
     severity: Items<OsvSeverity>,
@@ -157,7 +157,7 @@ fn document_of(
     }
 }
 
-/// The document of an advisory's parts, with what was made of it.
+/// Assembles the document of an advisory's parts and the newly allocated members.
 fn with_parts(
     alloc: Global,
     made: Made,
@@ -209,7 +209,7 @@ fn with_parts(
     ))
 }
 
-/// The document of an advisory's metadata, with this range.
+/// Builds the document of an advisory's metadata, with this range.
 fn document_with(
     alloc: Global,
     metadata: Metadata,
@@ -228,12 +228,12 @@ fn document_with(
 }
 
 impl OsvAdvisory {
-    /// The document of an advisory that was last changed at a time, which is kept as it is handed in.
+    /// Returns the OSV document of an advisory. `modified` is when it was last changed, and is not checked.
     ///
     /// # Errors
     ///
-    /// `BadParam` if the list of ranges is empty, which is so where one merged interval of the
-    /// requirements is unbounded on both sides, as that of `*`; else `Parse` if the address of the package's page or of the advisory's
+    /// `BadParam` if the list of ranges is empty, that is, if one merged interval of the requirements is unbounded
+    /// on both sides, as that of `*`; else `Parse` if the address of the package's page or of the advisory's page
     /// is refused; else `OutOfMemory`.
     pub fn from_rustsec(alloc: Global, advisory: Advisory, modified: &str) -> Result<OsvAdvisory>
         ensures ok { IfOk result (IsDocument advisory modified.now) }
@@ -241,10 +241,10 @@ impl OsvAdvisory {
         // The document's events call a valid version affected exactly if the advisory does.
         ensures events { IfOk result (λ d. (v : Parts) → IsVersion v → events_say (document_events d) v ≡ affected advisory.versions v) }
 
-        // The versions of the events are valid, so each event is read again from its tree.
+        // The versions of the events are valid, so the tree of each event is read as the same event.
         ensures valid { IfOk result AreEventsValid }
 
-        // If the advisory is that of a text, then the document's tree is read as this document.
+        // If the advisory is that of a text, the document's tree is read as this document.
         ensures again { IfOk result (λ d. (t : List ℕ) → IsAdvisory t advisory → read_document (document_tree d) ≡ Some d) }
         ensures err { IfErr result (λ e. IsRefusal ErrorKind.BadParam (HasUnboundedInterval advisory.versions) e
             ⊎ IsRefusal ErrorKind.Parse ((¬ HasUnboundedInterval advisory.versions) × (references_of advisory.metadata ≡ None)) e) }

@@ -1,4 +1,4 @@
-// The events of the ranges that an advisory's requirements leave.
+//! The events of the ranges that an advisory's requirements leave (OSV schema, `events`).
 
 ghost use Rattle.std.specs.Prelude.{◌≡◌, ◌++◌, IfErr, IfOk, OnOk, map, option_map};
 ghost use Rattle.semver.specs.Identifiers.{parts_of};
@@ -20,7 +20,7 @@ use rustsec_versions::{Error, ErrorKind, OsvRange, Result, Versions, ranges_for_
 use semver::{BuildMetadata, Prerelease, Version};
 use std::alloc::{AllocError, Global};
 
-/// The least version, `0.0.0-0`.
+/// Returns the least version, `0.0.0-0`.
 fn least_version(alloc: Global) -> std::result::Result<Version, AllocError>
     ensures { IfOk result (λ v. parts_of v ≡ least_of 0 0 0) }
 {
@@ -36,7 +36,7 @@ fn least_version(alloc: Global) -> std::result::Result<Version, AllocError>
     }
 }
 
-/// Where a range begins: at the least version if its introduction is missing.
+/// Returns the version at which a range begins: the least version if its introduction is missing.
 fn beginning(alloc: Global, introduced: Option<Version>) -> std::result::Result<Version, AllocError>
     ensures { IfOk result (λ v. parts_of v ≡ beginning (option_map parts_of introduced)) }
 {
@@ -63,7 +63,7 @@ fn add_events(
     Ok(())
 }
 
-/// The events of ranges, range by range.
+/// Returns the events of ranges, range by range.
 fn events_of(
     alloc: Global,
     ranges: Vec<OsvRange>,
@@ -77,11 +77,11 @@ fn events_of(
     Ok(events)
 }
 
-/// The range of an advisory's document, with the events of all ranges that its requirements leave.
+/// Returns the range of an advisory's document, with the events of all ranges that its requirements leave.
 ///
 /// # Errors
 ///
-/// `BadParam` if there is no range, which is so where one merged interval is unbounded on both sides, as
+/// `BadParam` if there is no range, that is, if one merged interval is unbounded on both sides, as
 /// that of `*`; else `OutOfMemory`.
 pub(crate) fn range_of(alloc: Global, versions: &Versions) -> Result<OsvJsonRange>
     ensures ok { IfOk result (IsRangeOf versions.now) }

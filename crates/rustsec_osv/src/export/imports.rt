@@ -1,4 +1,4 @@
-// What other programs read out of a document: its crates, and the IDs that it refers to.
+//! Extracts from a document what other programs need: its crates, and the IDs that it refers to.
 
 ghost use Rattle.std.specs.Prelude.{◌≡◌, ◌++◌, ◌∷◌, [], IfErr, IfOk, List, None, OnOk, Some, map, option_map, string_bytes};
 ghost use Rattle.std.specs.Str.{IsAscii};
@@ -18,13 +18,13 @@ use rustsec_values::Items;
 use rustsec_versions::{ErrorKind, Result, refused_text};
 use std::alloc::{AllocError, Global};
 
-/// How the addresses of RustSec's advisories begin.
+/// The beginning of the addresses of RustSec's advisories.
 const PAGE: &str = "https://rustsec.org/advisories/";
 
-/// How many bytes the text of an ID has there.
+/// The number of bytes of an ID in such an address.
 const ID_LENGTH: usize = 17;
 
-/// Whether an affected package is one of crates.io.
+/// Returns whether an affected package is one of crates.io.
 fn is_crate(affected: &OsvAffected) -> bool
     ensures { result ≡ is_crate affected.now }
 {
@@ -45,7 +45,7 @@ fn add_name(
     Ok(())
 }
 
-/// The names of the affected packages of crates.io, in the order of the document.
+/// Returns the names of the affected packages of crates.io, in the order of the document.
 fn crate_names(
     alloc: Global,
     members: &[OsvAffected],
@@ -59,7 +59,7 @@ fn crate_names(
     Ok(names)
 }
 
-/// The bytes of an address at which the text of an ID stands.
+/// Returns the part of an address that should be an ID, if it is long enough.
 fn linked_text(address: &str) -> Option<&str>
     requires { IsAscii address.now }
     ensures { option_map (λ t. t.now) result ≡ linked_text address.now }
@@ -70,7 +70,7 @@ fn linked_text(address: &str) -> Option<&str>
     Some(&address[PAGE.len()..PAGE.len() + ID_LENGTH])
 }
 
-/// The ID that an address of RustSec's pages names.
+/// Parses the ID in an address of RustSec's pages.
 fn linked_id(alloc: Global, address: &Address) -> Result<Id>
     ensures ok { IfOk result (λ i. linked_id address.now ≡ Some i) }
     ensures err { IfErr result (IsRefusal ErrorKind.Parse (linked_id address.now ≡ None)) }
@@ -87,14 +87,14 @@ fn linked_id(alloc: Global, address: &Address) -> Result<Id>
     }
 }
 
-/// Whether an address begins as the pages of RustSec's advisories do.
+/// Returns whether an address begins as those of RustSec's advisories do.
 fn is_page(address: &str) -> bool
     ensures { result ≡ is_page address.now }
 {
     address.starts_with(PAGE)
 }
 
-/// Appends the ID in a reference, if this is a page of RustSec's advisories.
+/// Appends the ID in a reference, if that is a page of RustSec's advisories.
 fn add_id(alloc: Global, reference: &OsvReference, ids: &mut Items<Id>) -> Result<()>
     ensures ok { OnOk result ((more : List IdValue) × (linked_ids (reference.now ∷ []) ≡ Some more) × (ids.new ≡ ids.old ++ more)) }
     ensures err { IfErr result (IsRefusal ErrorKind.Parse (linked_ids (reference.now ∷ []) ≡ None)) }
@@ -106,7 +106,7 @@ fn add_id(alloc: Global, reference: &OsvReference, ids: &mut Items<Id>) -> Resul
     Ok(())
 }
 
-/// The IDs in the references that are pages of RustSec's advisories, in the order of the document.
+/// Returns the IDs in the references that are pages of RustSec's advisories, in the order of the document.
 fn linked_ids(alloc: Global, references: &[OsvReference]) -> Result<Items<Id>>
     ensures ok { IfOk result (λ v. linked_ids references.now ≡ Some v) }
     ensures err { IfErr result (IsRefusal ErrorKind.Parse (linked_ids references.now ≡ None)) }
@@ -118,7 +118,7 @@ fn linked_ids(alloc: Global, references: &[OsvReference]) -> Result<Items<Id>>
     Ok(ids)
 }
 
-/// The distinct ones of some names, in the order of their bytes.
+/// Returns the distinct names, in the order of their bytes.
 fn distinct_names(mut names: Vec<String>) -> std::result::Result<Vec<String>, AllocError>
     ensures { IfOk result (λ v. AreDistinct name_cmp (map string_bytes names.items) (map string_bytes v.items)) }
 {
@@ -127,7 +127,7 @@ fn distinct_names(mut names: Vec<String>) -> std::result::Result<Vec<String>, Al
     Ok(names)
 }
 
-/// The distinct ones of some IDs, in their order.
+/// Returns the distinct IDs, in their order.
 fn distinct_ids(mut ids: Vec<Id>) -> std::result::Result<Vec<Id>, AllocError>
     ensures { IfOk result (λ v. AreDistinct id_order ids.items v.items) }
 {
@@ -137,7 +137,7 @@ fn distinct_ids(mut ids: Vec<Id>) -> std::result::Result<Vec<Id>, AllocError>
 }
 
 impl OsvAdvisory {
-    /// The names of the affected packages of crates.io, in the order of their bytes, each once.
+    /// Returns the names of the affected packages of crates.io, in the order of their bytes, each once.
     ///
     /// # Errors
     ///
@@ -151,12 +151,12 @@ impl OsvAdvisory {
         Ok(distinct)
     }
 
-    /// The IDs in the references that are pages of RustSec's advisories, in the order of IDs, each once.
-    /// The text of an ID is the 17 bytes behind `https://rustsec.org/advisories/`, whatever follows.
+    /// Returns the IDs in the references that are pages of RustSec's advisories, in the order of IDs, each once. The
+    /// text of an ID is the 17 bytes after `https://rustsec.org/advisories/`, whatever follows.
     ///
     /// # Errors
     ///
-    /// `Parse` if fewer bytes follow, or they are no ID; else `OutOfMemory`.
+    /// `Parse` if fewer bytes follow, or they are not an ID; else `OutOfMemory`.
     pub fn rustsec_refs_imported(&self, alloc: Global) -> Result<Vec<Id>>
         ensures ok { IfOk result (λ v. (ids : List IdValue) × (linked_ids self.now.references ≡ Some ids) × AreDistinct id_order ids v.items) }
         ensures err { IfErr result (IsRefusal ErrorKind.Parse (linked_ids self.now.references ≡ None)) }

@@ -1,4 +1,4 @@
-// The members of an advisory's document.
+//! Builds the members of an advisory's document.
 
 ghost use Rattle.std.specs.Prelude.{◌≡◌, ◌∷◌, [], IfOk, map, option_map, option_to_list};
 ghost use Rattle.std.specs.Map.{keys_of};
@@ -20,10 +20,10 @@ use rustsec_versions::Requirements;
 use std::alloc::{AllocError, Global};
 use std::collections::BTreeMap;
 
-/// Where the packages of crates.io come from.
+/// The ecosystem of the packages of crates.io.
 pub(crate) const ECOSYSTEM: &str = "crates.io";
 
-/// Noon of a day.
+/// Returns noon of a day (RFC 3339, `date-time`).
 pub(crate) fn noon(alloc: Global, date: &Date) -> Result<Text, AllocError>
     ensures { IfOk result (λ t. t ≡ noon date.now) }
 {
@@ -32,7 +32,7 @@ pub(crate) fn noon(alloc: Global, date: &Date) -> Result<Text, AllocError>
     Ok(Text::from(text))
 }
 
-/// Noon of a day, if there is one.
+/// Returns noon of a day, if there is a day.
 pub(crate) fn noon_of(alloc: Global, date: &Option<Date>) -> Result<Option<Text>, AllocError>
     ensures { IfOk result (λ o. o ≡ option_map noon date.now) }
 {
@@ -42,7 +42,7 @@ pub(crate) fn noon_of(alloc: Global, date: &Option<Date>) -> Result<Option<Text>
     }
 }
 
-/// A package of crates.io.
+/// Returns a package of crates.io.
 pub(crate) fn package_of(alloc: Global, name: &Name) -> Result<OsvPackage, AllocError>
     ensures { IfOk result (λ p. p ≡ package_of name.now) }
 {
@@ -57,7 +57,7 @@ pub(crate) fn package_of(alloc: Global, name: &Name) -> Result<OsvPackage, Alloc
     })
 }
 
-/// The paths of functions, in order.
+/// Returns the paths of functions, in order.
 fn paths_of(
     alloc: Global,
     functions: BTreeMap<FunctionPath, Requirements>,
@@ -67,7 +67,7 @@ fn paths_of(
     functions.into_keys().collect(alloc)
 }
 
-/// The platforms and functions that are affected, none if an advisory names none.
+/// Returns the affected platforms and functions, none if the advisory names none.
 fn affects_of(
     alloc: Global,
     affected: Option<Affected>,
@@ -87,7 +87,7 @@ fn affects_of(
     })
 }
 
-/// A list of one element.
+/// Returns a list with one element.
 fn one<T: Drop>(alloc: Global, element: T) -> Result<Items<T>, AllocError>
     ensures { IfOk result (λ v. v ≡ element ∷ []) }
 {
@@ -96,7 +96,7 @@ fn one<T: Drop>(alloc: Global, element: T) -> Result<Items<T>, AllocError>
     Ok(list)
 }
 
-/// How an advisory sorts the vulnerability.
+/// Returns what the advisory database adds, from the classification of the advisory.
 pub(crate) fn database_of(kinds: Kinds) -> OsvDatabaseSpecific
     ensures { result ≡ database_of kinds }
 {
@@ -114,7 +114,7 @@ pub(crate) fn database_of(kinds: Kinds) -> OsvDatabaseSpecific
     }
 }
 
-/// The one affected package of an advisory.
+/// Returns the only affected package of an advisory.
 pub(crate) fn affected_of(
     alloc: Global,
     package: OsvPackage,
@@ -141,7 +141,7 @@ pub(crate) fn affected_of(
     )
 }
 
-/// A vector by its version.
+/// Returns the severity of a CVSS vector, by its version.
 fn severity_of(cvss: &Cvss) -> Result<OsvSeverity, AllocError>
     ensures { IfOk result (λ s. s ≡ severity_of cvss.now) }
 {
@@ -155,7 +155,7 @@ fn severity_of(cvss: &Cvss) -> Result<OsvSeverity, AllocError>
     }
 }
 
-/// The vector of an advisory, if it has one.
+/// Returns the CVSS vector of an advisory as a list of at most one severity.
 pub(crate) fn severities_of(
     alloc: Global,
     cvss: &Option<Cvss>,

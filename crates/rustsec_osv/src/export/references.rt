@@ -1,4 +1,4 @@
-// The references of an advisory's document.
+//! Builds the references of an advisory's document (OSV schema, `references`).
 
 ghost use Rattle.std.specs.Prelude.{◌≡◌, ◌++◌, ◌∷◌, [], All, IfErr, IfOk, None, OnOk, Some, map, option_to_list};
 ghost use Rattle.rustsec_advisory.specs.Addresses.{address_of};
@@ -15,14 +15,14 @@ use rustsec_values::Items;
 use rustsec_versions::{ErrorKind, Result};
 use std::alloc::{AllocError, Global};
 
-/// Whether a part stands somewhere in a text.
+/// Returns whether a text contains a part.
 fn has(part: &str, text: &str) -> bool
     ensures { result ≡ has part.now text.now }
 {
     text.contains(part)
 }
 
-/// Whether an address is that of a report at a forge.
+/// Returns whether an address is that of a report on a forge.
 fn is_report(address: &str) -> bool
     ensures { result ≡ is_report address.now }
 {
@@ -30,21 +30,21 @@ fn is_report(address: &str) -> bool
     is_forge && has("/issues/", address)
 }
 
-/// Whether an address is that of an advisory.
+/// Returns whether an address is that of an advisory.
 fn is_advisory(address: &str) -> bool
     ensures { result ≡ is_advisory address.now }
 {
     has("/advisories/", address) || has("://cve.mitre.org/", address)
 }
 
-/// Whether an address is that of a package.
+/// Returns whether an address is that of a package.
 fn is_package(address: &str) -> bool
     ensures { result ≡ is_package address.now }
 {
     has("://crates.io/crates/", address)
 }
 
-/// What an address leads to, by the text that it prints.
+/// Returns the kind of a reference, by the text that its address prints.
 #[tactic(auto, unfolding(crate::specs::References::kind_of))]
 fn kind_of(address: &str) -> OsvReferenceKind
     ensures { result ≡ kind_of address.now }
@@ -60,18 +60,18 @@ fn kind_of(address: &str) -> OsvReferenceKind
     }
 }
 
-/// The reference to an address.
+/// Returns the reference to an address.
 fn reference_of(address: Address) -> OsvReference
     ensures value { result ≡ reference_of address }
 
-    // The text of any `Address` is read as this address.
+    // Parsing the text of an `Address` gives the same address.
     ensures again { IsReferenceAgain result }
 {
     let kind = kind_of(address.as_str());
     OsvReference { kind, url: address }
 }
 
-/// The address of a package's page.
+/// Returns the address of a package's page.
 fn package_page(alloc: Global, name: &Name) -> Result<Address>
     ensures ok { IfOk result (λ a. address_of (package_page name.now) ≡ Some a) }
     ensures err { IfErr result (IsRefusal ErrorKind.Parse (address_of (package_page name.now) ≡ None)) }
@@ -81,7 +81,7 @@ fn package_page(alloc: Global, name: &Name) -> Result<Address>
     Address::from_str(alloc, &text)
 }
 
-/// The address of an advisory's page.
+/// Returns the address of an advisory's page.
 fn advisory_page(alloc: Global, id: &Id) -> Result<Address>
     ensures ok { IfOk result (λ a. address_of (advisory_page id.now.text) ≡ Some a) }
     ensures err { IfErr result (IsRefusal ErrorKind.Parse (address_of (advisory_page id.now.text) ≡ None)) }
@@ -103,7 +103,7 @@ fn add_reference(
     references.push(reference_of(address))
 }
 
-/// References to two pages.
+/// Returns references to two pages.
 fn two_references(
     alloc: Global,
     first: Address,
@@ -118,7 +118,7 @@ fn two_references(
     Ok(references)
 }
 
-/// References to the pages of a package and of an advisory.
+/// Returns references to the pages of a package and of an advisory.
 pub(crate) fn own_pages(alloc: Global, name: &Name, id: &Id) -> Result<Items<OsvReference>>
     ensures ok { IfOk result (λ v. own_pages name.now id.now.text ≡ Some v) }
     ensures again { IfOk result (All IsReferenceAgain) }
@@ -145,8 +145,7 @@ fn add_references(
     Ok(())
 }
 
-/// The references of a document: those to its own pages, then what an advisory says of where more is
-/// found.
+/// Returns the references of a document: those to its own pages, then the address and the references of the advisory.
 pub(crate) fn with_addresses(
     pages: Items<OsvReference>,
     origin: Origin,

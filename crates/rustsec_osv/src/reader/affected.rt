@@ -1,4 +1,4 @@
-// Members of `affected` of trees.
+//! Reads the members of `affected` from trees.
 
 use crate::affected::{
     OsvAffected, OsvDatabaseSpecific, OsvEcosystemSpecific, OsvEcosystemSpecificAffected,

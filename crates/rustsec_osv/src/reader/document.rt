@@ -1,4 +1,4 @@
-// Documents of trees.
+//! Reads documents from trees.
 
 ghost use Rattle.std.specs.Prelude.{◌≡◌, IfErr, IfOk, None, Some, codes};
 ghost use Rattle.serde_json.specs.View.{members_view, view};
@@ -48,7 +48,7 @@ impl FromTree for OsvReference {
     }
 }
 
-/// A vector of version 3.
+/// Returns the severity for a vector of version 3, or none for another version.
 fn third_of(alloc: Global, vector: Cvss) -> Result<OsvSeverity>
     ensures ok { IfOk result (λ s. third_of vector ≡ Some s) }
     ensures err { IfErr result (IsRefusal ErrorKind.Parse (third_of vector ≡ None)) }
@@ -65,7 +65,7 @@ fn third_of(alloc: Global, vector: Cvss) -> Result<OsvSeverity>
     }
 }
 
-/// A vector of version 4.
+/// Returns the severity for a vector of version 4, or none for another version.
 fn fourth_of(alloc: Global, vector: Cvss) -> Result<OsvSeverity>
     ensures ok { IfOk result (λ s. fourth_of vector ≡ Some s) }
     ensures err { IfErr result (IsRefusal ErrorKind.Parse (fourth_of vector ≡ None)) }
@@ -76,7 +76,7 @@ fn fourth_of(alloc: Global, vector: Cvss) -> Result<OsvSeverity>
     }
 }
 
-/// A vector of the version that a type names.
+/// Returns the severity for a vector, which must have the version that the type names.
 fn severity_of(alloc: Global, kind: &str, vector: Cvss) -> Result<OsvSeverity>
     ensures ok { IfOk result (λ s. severity_of kind.now vector ≡ Some s) }
     ensures err { IfErr result (IsRefusal ErrorKind.Parse (severity_of kind.now vector ≡ None)) }
@@ -120,7 +120,7 @@ impl FromTree for MainOsvDatabaseSpecific {
     }
 }
 
-/// The keys that say which document it is, and of when.
+/// The keys with the ID, the times and the version of the schema.
 #[derive(Drop)]
 pub(crate) struct Stamp {
     schema_version: Option<Release>,
@@ -130,7 +130,7 @@ pub(crate) struct Stamp {
     withdrawn: Option<Text>,
 }
 
-/// The keys that tell of the vulnerability.
+/// The keys with the description of the vulnerability.
 #[derive(Drop)]
 pub(crate) struct Content {
     summary: Text,
@@ -139,7 +139,7 @@ pub(crate) struct Content {
     database_specific: MainOsvDatabaseSpecific,
 }
 
-/// The keys that lead elsewhere.
+/// The keys with the affected packages and the references.
 #[derive(Drop)]
 pub(crate) struct Links {
     aliases: Items<Id>,
@@ -148,7 +148,7 @@ pub(crate) struct Links {
     references: Items<OsvReference>,
 }
 
-/// What the advisory database adds, without a license where the key is missing.
+/// Reads `database_specific`; without a license if the key is missing.
 fn license_at(alloc: Global, fields: &Map<String, Value>) -> Result<MainOsvDatabaseSpecific>
     ensures ok { IfOk result (λ m. defaulted (record { license = None }) read_license (codes "database_specific") (members_view fields.now.entries) ≡ Some m) }
     ensures err { IfErr result (IsRefusal ErrorKind.Parse (defaulted (record { license = None }) read_license (codes "database_specific") (members_view fields.now.entries) ≡ None)) }
@@ -159,7 +159,7 @@ fn license_at(alloc: Global, fields: &Map<String, Value>) -> Result<MainOsvDatab
     }
 }
 
-/// The keys that say which document it is, and of when.
+/// Reads the keys with the ID, the times and the version of the schema.
 fn stamp_of(alloc: Global, fields: &Map<String, Value>) -> Result<Stamp>
     ensures ok { IfOk result (λ s. read_stamp (members_view fields.now.entries) ≡ Some s) }
     ensures err { IfErr result (IsRefusal ErrorKind.Parse (read_stamp (members_view fields.now.entries) ≡ None)) }
@@ -178,7 +178,7 @@ fn stamp_of(alloc: Global, fields: &Map<String, Value>) -> Result<Stamp>
     })
 }
 
-/// The keys that tell of the vulnerability.
+/// Reads the keys with the description of the vulnerability.
 fn content_of(alloc: Global, fields: &Map<String, Value>) -> Result<Content>
     ensures ok { IfOk result (λ c. read_content (members_view fields.now.entries) ≡ Some c) }
     ensures err { IfErr result (IsRefusal ErrorKind.Parse (read_content (members_view fields.now.entries) ≡ None)) }
@@ -195,7 +195,7 @@ fn content_of(alloc: Global, fields: &Map<String, Value>) -> Result<Content>
     })
 }
 
-/// The keys that lead elsewhere.
+/// Reads the keys with the affected packages and the references.
 fn links_of(alloc: Global, fields: &Map<String, Value>) -> Result<Links>
     ensures ok { IfOk result (λ l. read_links (members_view fields.now.entries) ≡ Some l) }
     ensures err { IfErr result (IsRefusal ErrorKind.Parse (read_links (members_view fields.now.entries) ≡ None)) }
@@ -212,7 +212,7 @@ fn links_of(alloc: Global, fields: &Map<String, Value>) -> Result<Links>
     })
 }
 
-/// The document of all keys.
+/// Assembles the document from all keys.
 fn document_of(stamp: Stamp, content: Content, links: Links) -> OsvAdvisory
     ensures { result ≡ document_of stamp content links }
 {
@@ -234,13 +234,13 @@ fn document_of(stamp: Stamp, content: Content, links: Links) -> OsvAdvisory
 }
 
 impl OsvAdvisory {
-    /// The document of a tree. Other keys than those of the OSV schema are ignored, but in an event. A
-    /// missing key takes its default, or stands for none; null does only where nothing may stand.
+    /// Reads a document from a tree. Keys that are not in the OSV schema are ignored, except in an event. A missing
+    /// key has its default or means that the value is missing; null means missing only if the value may be missing.
     ///
     /// # Errors
     ///
-    /// `Parse` where a key that must be there is missing, or another kind of value or a text that is
-    /// refused stands at one; else `OutOfMemory`.
+    /// `Parse` if a required key is missing, or a value is of another kind or a refused text; else
+    /// `OutOfMemory`.
     pub fn from_value(alloc: Global, tree: &Value) -> Result<OsvAdvisory>
         ensures ok { IfOk result (λ d. read_document (view tree.now) ≡ Some d) }
         ensures err { IfErr result (IsRefusal ErrorKind.Parse (read_document (view tree.now) ≡ None)) }

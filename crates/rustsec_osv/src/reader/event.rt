@@ -1,4 +1,4 @@
-// Events and ranges of trees.
+//! Reads events and ranges from trees.
 
 ghost use Rattle.std.specs.Prelude.{◌≡◌, ◌==◌, ◌++◌, ◌∷◌, [], IfErr, IfOk, None, OnErr, OnOk, Some, count_by, map, string_bytes};
 ghost use Rattle.serde_json.specs.Events.{members_len};
@@ -20,7 +20,7 @@ use serde_json::{Map, Value};
 use std::alloc::{AllocError, Global};
 use std::marker::Model;
 
-/// How many dots a text has.
+/// Returns the number of dots in a text.
 fn dots(text: &str) -> usize
     ensures { result ≡ dots text.now }
 {
@@ -34,7 +34,7 @@ fn dots(text: &str) -> usize
     dots
 }
 
-/// The text of a version with the numbers that a short form leaves out, which are 0.
+/// Returns the text of a version in full: the numbers that a short form leaves out are 0.
 fn in_full(alloc: Global, text: &str) -> std::result::Result<String, AllocError>
     ensures { IfOk result (λ s. string_bytes s ≡ in_full text.now) }
 {
@@ -45,7 +45,7 @@ fn in_full(alloc: Global, text: &str) -> std::result::Result<String, AllocError>
     }
 }
 
-/// The version of an event's text.
+/// Parses the version of an event, which may be in a short form.
 fn version_of_text(alloc: Global, text: &str) -> Result<Version>
     ensures ok { IfOk result (λ v. version_of (in_full text.now) ≡ Some (parts_of v)) }
     ensures err { IfErr result (IsRefusal ErrorKind.Parse (version_of (in_full text.now) ≡ None)) }
@@ -54,7 +54,7 @@ fn version_of_text(alloc: Global, text: &str) -> Result<Version>
     read_version(alloc, &full, text)
 }
 
-/// The version of an event.
+/// Reads the version of an event.
 fn event_version(alloc: Global, tree: &Value) -> Result<Version>
     ensures ok { IfOk result (λ v. event_version (view tree.now) ≡ Some (parts_of v)) }
     ensures err { IfErr result (IsRefusal ErrorKind.Parse (event_version (view tree.now) ≡ None)) }
@@ -65,7 +65,7 @@ fn event_version(alloc: Global, tree: &Value) -> Result<Version>
     }
 }
 
-/// The version that stands at an event's key.
+/// Reads the version at an event's key.
 fn version_at(alloc: Global, key: &str, tree: &Value) -> Result<Version>
     ensures ok { IfOk result (λ v. event_version (view tree.now) ≡ Some (parts_of v)) }
     ensures err { IfErr result (IsRefusal ErrorKind.Parse (event_version (view tree.now) ≡ None)) }
@@ -76,7 +76,7 @@ fn version_at(alloc: Global, key: &str, tree: &Value) -> Result<Version>
     }
 }
 
-/// The event of an object's key.
+/// Reads the event of an object's key.
 fn event_in(alloc: Global, fields: &Map<String, Value>) -> Result<OsvTimelineEvent>
     ensures ok { IfOk result (λ e. event_in (members_view fields.now.entries) ≡ Some (event_of e)) }
     ensures err { IfErr result (IsRefusal ErrorKind.Parse (event_in (members_view fields.now.entries) ≡ None)) }
@@ -99,14 +99,14 @@ fn event_in(alloc: Global, fields: &Map<String, Value>) -> Result<OsvTimelineEve
     ))
 }
 
-/// Whether an object has one key.
+/// Returns whether an object has exactly one key.
 fn is_lone(fields: &Map<String, Value>) -> bool
     ensures { result ≡ (members_len (members_view fields.now.entries) == 1) }
 {
     fields.len() == 1
 }
 
-/// The event of a tree.
+/// Reads an event.
 fn event(alloc: Global, tree: &Value) -> Result<OsvTimelineEvent>
     ensures ok { IfOk result (λ e. read_event (view tree.now) ≡ Some (event_of e)) }
     ensures err { IfErr result (IsRefusal ErrorKind.Parse (read_event (view tree.now) ≡ None)) }
@@ -118,7 +118,7 @@ fn event(alloc: Global, tree: &Value) -> Result<OsvTimelineEvent>
     event_in(alloc, fields)
 }
 
-/// Puts an event behind others.
+/// Appends an event.
 fn add(events: &mut Vec<OsvTimelineEvent>, event: OsvTimelineEvent) -> Result<()>
     ensures ok { OnOk result (events.new.items ≡ events.old.items ++ event ∷ []) }
     ensures err { IfErr result IsMemory }
@@ -127,7 +127,7 @@ fn add(events: &mut Vec<OsvTimelineEvent>, event: OsvTimelineEvent) -> Result<()
     Ok(())
 }
 
-/// The events of trees, in order.
+/// Reads the events of trees, in order.
 fn events_of(alloc: Global, trees: &Vec<Value>) -> Result<Vec<OsvTimelineEvent>>
     ensures ok { IfOk result (λ xs. read_all read_event (list_of (items_view trees.now.items)) ≡ Some (map event_of xs.items)) }
     ensures err { IfErr result (IsRefusal ErrorKind.Parse (read_all read_event (list_of (items_view trees.now.items)) ≡ None)) }

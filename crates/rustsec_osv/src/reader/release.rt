@@ -1,4 +1,4 @@
-// Versions of texts.
+//! Reads versions from texts.
 
 ghost use Rattle.std.specs.Prelude.{◌≡◌, option_map};
 ghost use Rattle.semver.specs.Identifiers.{parts_of};
@@ -25,7 +25,7 @@ impl Model for Release {
     ghost view = { λ r. parts_of r.version };
 }
 
-/// The version of a release that may be missing.
+/// Returns the version in a release that may be missing.
 pub(crate) fn version_in(release: Option<Release>) -> Option<Version>
     ensures { option_map parts_of result ≡ release }
 {

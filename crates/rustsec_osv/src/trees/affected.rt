@@ -1,4 +1,4 @@
-// The trees of a document's members of `affected`.
+//! Builds the trees of a document's members of `affected`.
 
 ghost use Rattle.std.specs.Prelude.{◌≡◌, IfOk, map};
 ghost use Rattle.serde_json.specs.View.{view};
@@ -19,7 +19,7 @@ use semver::Version;
 use serde_json::{Map, Value};
 use std::alloc::{AllocError, Global};
 
-/// The tree of a version: its text.
+/// Builds the tree of a version: its text.
 pub(crate) fn version_tree(alloc: Global, version: &Version) -> Result<Value, AllocError>
     ensures { IfOk result (λ v. view v ≡ version_tree (parts_of version.now)) }
 {
@@ -45,7 +45,7 @@ impl ToTree for OsvTimelineEvent {
     }
 }
 
-/// The trees of events, in order, as an array.
+/// Builds the array of the trees of events, in order.
 fn events_tree(alloc: Global, events: &Vec<OsvTimelineEvent>) -> Result<Value, AllocError>
     ensures { IfOk result (λ v. view v ≡ list_tree event_tree (map event_of events.now.items)) }
 {

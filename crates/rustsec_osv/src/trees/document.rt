@@ -1,4 +1,4 @@
-// The trees of documents.
+//! Builds the trees of documents.
 
 ghost use Rattle.std.specs.Prelude.{◌≡◌, IfErr, IfOk, OnOk, Some, codes, option_map};
 ghost use Rattle.serde_json.specs.View.{members_view, view};
@@ -83,7 +83,7 @@ impl ToTree for MainOsvDatabaseSpecific {
     }
 }
 
-/// Puts the version of the schema at its key, where there is one.
+/// Puts the version of the schema at its key, if any.
 fn put_schema_version(
     alloc: Global,
     fields: &mut Map<String, Value>,
@@ -101,7 +101,7 @@ fn put_schema_version(
     }
 }
 
-/// Puts what stands at the keys with lists, and with an object.
+/// Puts the values at the keys with lists, and at the key with an object.
 fn put_lists(
     document: &OsvAdvisory,
     alloc: Global,
@@ -122,7 +122,7 @@ fn put_lists(
     )
 }
 
-/// Puts what stands at the keys with texts.
+/// Puts the values at the keys with texts.
 fn put_texts(
     document: &OsvAdvisory,
     alloc: Global,
@@ -140,8 +140,8 @@ fn put_texts(
 }
 
 impl OsvAdvisory {
-    /// The tree of the document, as the OSV schema has it: an object, in which `schema_version` and
-    /// `withdrawn` are left out where there is none, and what else may be missing is null.
+    /// Builds the tree of the document by the OSV schema: an object. Missing values are null, but
+    /// `schema_version` and `withdrawn` are left out if missing.
     ///
     /// # Errors
     ///
@@ -150,10 +150,10 @@ impl OsvAdvisory {
         ensures ok { IfOk result (λ v. view v ≡ document_tree self.now) }
         ensures err { IfErr result IsMemory }
 
-        // The tree of a document whose parts are read again from their texts is read as this document.
+        // If the texts of a document's parts are parsed as these parts, the document's tree is read as the document.
         ensures again { IsDocumentAgain self.now → read_document (document_tree self.now) ≡ Some self.now }
 
-        // If its events have valid versions, whatever is read of the tree has the same ranges, in order.
+        // If its events have valid versions, any document that is read from the tree has the same ranges, in order.
         ensures ranges { AreEventsValid self.now → (d : Document) → read_document (document_tree self.now) ≡ Some d
             → ranges_of d ≡ ranges_of self.now }
 

@@ -1,4 +1,4 @@
-// Objects, key by key.
+//! Builds objects of JSON trees, key by key.
 
 ghost use Rattle.std.specs.Prelude.{◌≡◌, OnOk};
 ghost use Rattle.serde_json.specs.Data.{put};
@@ -22,7 +22,7 @@ pub(crate) fn put_at<T: ToTree>(
     serde_json::put(fields, alloc, key, tree)
 }
 
-/// Puts the tree of a value at a key, where there is a value.
+/// Puts the tree of a value at a key, if there is a value.
 pub(crate) fn put_if<T: ToTree>(
     alloc: Global,
     fields: &mut Map<String, Value>,

@@ -3,7 +3,7 @@ use Rattle.rustsec_registry.specs.Lookups.{AreAnswers}
 use Rattle.rustsec_registry.specs.Yanked.{AreKept, Grows}
 use Rattle.rustsec_registry.proofs.kept.ask_all.Given as goal
 
--- the packages so far have answers, and no others were asked about
+-- the packages so far have answers, and no others were looked up
 abbrev pub invariant-loop-package : goal.invariant-loop-package
 invariant-loop-package g l = record {
   grown : Grows (map (λ p. p.now) (take l.package-index l.packages)) l.fn.kept l.kept;
