@@ -122,7 +122,7 @@ def is_doc(line):
 
 
 def without_indent(text, indent):
-    return "\n".join(line[indent:] if line[:indent].isspace() else line for line in text.splitlines())
+    return "\n".join(line[indent:] if line[:indent].strip() == "" else line for line in text.splitlines())
 
 
 def members_of(text, item, indent):
