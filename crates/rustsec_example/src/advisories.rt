@@ -1,7 +1,7 @@
 //! The advisories of the example: each with the path that it would have in the database.
 
 /// The path and the text of each advisory.
-pub const ADVISORIES: [(&str, &str); 2] = [
+pub const ADVISORIES: &[(&str, &str)] = &[
     ("crates/lantern/RUSTSEC-2023-9101.md", LANTERN),
     ("crates/marrow/RUSTSEC-2024-9102.md", MARROW),
 ];
