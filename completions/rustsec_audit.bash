@@ -1,0 +1,24 @@
+# Completions of rustsec_audit for bash: source this file, or put it into
+# ~/.local/share/bash-completion/completions under the name rustsec_audit.
+_rustsec_audit() {
+    local word=${COMP_WORDS[COMP_CWORD]}
+    local commands="audit report lint osv affected ranges"
+    local options=""
+    COMPREPLY=()
+    if [ "$COMP_CWORD" -eq 1 ]; then
+        mapfile -t COMPREPLY < <(compgen -W "$commands" -- "$word")
+        return
+    fi
+    case ${COMP_WORDS[1]} in
+        audit) options="--ignore --deny-warnings" ;;
+        report) options="" ;;
+        lint) options="" ;;
+        osv) options="" ;;
+        *) return ;;
+    esac
+    case $word in
+        -*) mapfile -t COMPREPLY < <(compgen -W "$options" -- "$word") ;;
+        *) compopt -o filenames; mapfile -t COMPREPLY < <(compgen -f -- "$word") ;;
+    esac
+}
+complete -F _rustsec_audit rustsec_audit
