@@ -13,6 +13,8 @@ mod audit_command;
 #[cfg(test)]
 mod commands;
 #[cfg(test)]
+mod commands_over_folders;
+#[cfg(test)]
 mod cvss;
 #[cfg(test)]
 mod databases;
