@@ -1,10 +1,10 @@
 //! The text of a file, and the bytes of any reader, to their end; the failure of a path that cannot be read or listed.
 
-ghost use Rattle.std.specs.Prelude.{◌≡◌, ◌↔◌, IfErr, IfOk, IfSome, IsUtf8, string_bytes, true};
+ghost use Rattle.std.specs.Prelude.{◌≡◌, ◌⊎◌, ◌↔◌, IfErr, IfOk, IfSome, IsErr, IsUtf8, string_bytes, true};
 ghost use Rattle.std.specs.IoError.{error_kind};
 ghost use Rattle.std.specs.Io.KnownBytes.{Consumes, IsAtEnd, Keeps};
-ghost use Rattle.rustsec_files.specs.ReadFailures.{IsReadFailure};
-ghost use Rattle.rustsec_versions.specs.Failure.{IsOfKind, IsRefusal};
+ghost use Rattle.rustsec_files.specs.ReadFailures.{IsReadFailure, io_failure, read_message};
+ghost use Rattle.rustsec_versions.specs.Failure.{IsMemory, IsOfKind, IsRefusal, out_of_memory};
 
 use rustsec_versions::{Error, ErrorKind, Result};
 use std::alloc::{AllocError, Global};
@@ -51,6 +51,7 @@ fn is_out_of_memory(error: &io::Error) -> bool
 /// The failure of a path that cannot be read or listed, for this reason. The message names the path, the
 /// cause says why.
 pub fn failure(alloc: Global, path: &str, why: &str) -> Error
+    ensures exact { (result ≡ io_failure (read_message path.now) why.now) ⊎ (result ≡ out_of_memory) }
     ensures kind { IsOfKind ErrorKind.Io result }
     ensures names { IsReadFailure path.now result }
 {
@@ -60,17 +61,27 @@ pub fn failure(alloc: Global, path: &str, why: &str) -> Error
     }
 }
 
+/// What an error says. An error of memory says nothing.
+fn reason(alloc: Global, error: &io::Error) -> Result<String>
+    ensures memory { error_kind error.now ≡ IoErrorKind.OutOfMemory → IsErr result }
+    ensures err { IfErr result IsMemory }
+{
+    if is_out_of_memory(error) {
+        return Err(Error::from(AllocError));
+    }
+    let why = format!(in alloc; "{error}")?;
+    Ok(why)
+}
+
 /// The failure of a path that cannot be read or listed, for this error. An error of memory stays that.
 pub fn failed(alloc: Global, path: &str, error: io::Error) -> Error
+    ensures memory { error_kind error ≡ IoErrorKind.OutOfMemory → result ≡ out_of_memory }
     ensures kind { IsOfKind ErrorKind.Io result }
     ensures names { IsReadFailure path.now result }
 {
-    if is_out_of_memory(&error) {
-        return Error::from(AllocError);
-    }
-    match format!(in alloc; "{error}") {
+    match reason(alloc, &error) {
         Ok(why) => failure(alloc, path, &why),
-        Err(refused) => Error::from(refused),
+        Err(refused) => refused,
     }
 }
 
