@@ -6,8 +6,8 @@ use Rattle.toml.specs.Data.{Data, Members, as_str, as_table}
 use Rattle.toml.specs.Parse.{parse_document}
 use Rattle.rustsec_values.specs.Reading.{◌>>=◌, read_optional, value_of}
 use Rattle.rustsec_toml.specs.Fields.{defaulted, every, optional, required}
-use Rattle.rustsec_files.specs.ReadFailures.{read_message}
-use Rattle.rustsec_versions.specs.Failure.{Failure, out_of_memory}
+use Rattle.rustsec_files.specs.ReadFailures.{IsReadFailure}
+use Rattle.rustsec_versions.specs.Failure.{Failure}
 use Rattle.rustsec_versions.specs.Precedence.{IsVersion}
 use Rattle.rustsec_lock.specs.Names.{name_of}
 use Rattle.rustsec_lock.specs.Package.{PackageValue}
@@ -44,4 +44,4 @@ AreValid ps = All (λ (p : PackageValue). IsVersion p.version) ps
 
 -- the message of a failure to load a lockfile names its path; out of memory has no message
 abbrev pub NamesLockfile : List ℕ → Failure → Type 0
-NamesLockfile path e = (e.message ≡ codes "error parsing " ++ path) ⊎ ((e.message ≡ read_message path) ⊎ (e ≡ out_of_memory))
+NamesLockfile path e = (e.message ≡ codes "error parsing " ++ path) ⊎ IsReadFailure path e
