@@ -1,13 +1,16 @@
-//! The text of a file, and the bytes of any reader, to their end; the failure of a path that cannot be read or listed.
+//! The text of a file, and the bytes of any reader, to their end; the failure of a path that cannot be opened, listed or
+//! read.
 
-ghost use Rattle.std.specs.Prelude.{◌≡◌, ◌↔◌, IfErr, IfOk, IfSome, IsUtf8, string_bytes, true};
+ghost use Rattle.std.specs.Prelude.{◌≡◌, ◌⊎◌, ◌↔◌, IfErr, IfOk, IfSome, IsErr, IsUtf8, codes, string_bytes, true};
 ghost use Rattle.std.specs.IoError.{error_kind};
+ghost use Rattle.std.specs.Str.Lossy.{utf8_valid_len};
 ghost use Rattle.std.specs.Io.KnownBytes.{Consumes, IsAtEnd, Keeps};
-ghost use Rattle.rustsec_files.specs.ReadFailures.{IsReadFailure};
-ghost use Rattle.rustsec_versions.specs.Failure.{IsOfKind, IsRefusal};
+ghost use Rattle.rustsec_files.specs.ReadFailures.{IsIoFailure, IsReadFailure, io_failure, not_utf8_from, open_message, read_message};
+ghost use Rattle.rustsec_versions.specs.Failure.{IsMemory, IsOfKind, IsRefusal, out_of_memory};
 
 use rustsec_versions::{Error, ErrorKind, Result};
 use std::alloc::{AllocError, Global};
+use std::fs::OpenFile;
 use std::io::{ErrorKind as IoErrorKind, Read};
 use std::rt::Files;
 use std::{fs, io};
@@ -48,59 +51,116 @@ fn is_out_of_memory(error: &io::Error) -> bool
     error.kind() == IoErrorKind::OutOfMemory
 }
 
-/// The failure of a path that cannot be read or listed, for this reason. The message names the path, the
-/// cause says why.
-pub fn failure(alloc: Global, path: &str, why: &str) -> Error
-    ensures kind { IsOfKind ErrorKind.Io result }
-    ensures names { IsReadFailure path.now result }
+/// Returns the failure with this message, which memory may be refused for, and this cause.
+fn io_failure(alloc: Global, message: std::result::Result<String, AllocError>, why: &str) -> Error
+    ensures ok { IfOk message (λ s. (result ≡ io_failure (string_bytes s) why.now) ⊎ (result ≡ out_of_memory)) }
+    ensures err { IfErr message (λ _. result ≡ out_of_memory) }
 {
-    match format!(in alloc; "couldn't open {path}") {
+    match message {
         Ok(message) => Error::with_source(alloc, ErrorKind::Io, &message, why),
         Err(refused) => Error::from(refused),
     }
 }
 
-/// The failure of a path that cannot be read or listed, for this error. An error of memory stays that.
-pub fn failed(alloc: Global, path: &str, error: io::Error) -> Error
+/// Returns the failure of a file that was found and cannot be read, for this reason. The message names
+/// the path, the cause is the reason.
+pub fn failure(alloc: Global, path: &str, why: &str) -> Error
+    ensures exact { (result ≡ io_failure (read_message path.now) why.now) ⊎ (result ≡ out_of_memory) }
     ensures kind { IsOfKind ErrorKind.Io result }
-    ensures names { IsReadFailure path.now result }
+    ensures names { IsIoFailure (read_message path.now) result }
 {
-    if is_out_of_memory(&error) {
-        return Error::from(AllocError);
+    io_failure(alloc, format!(in alloc; "couldn't read {path}"), why)
+}
+
+/// Returns the failure of a path that cannot be opened or listed, for this reason. The message names the
+/// path, the cause is the reason.
+pub fn open_failure(alloc: Global, path: &str, why: &str) -> Error
+    ensures exact { (result ≡ io_failure (open_message path.now) why.now) ⊎ (result ≡ out_of_memory) }
+    ensures kind { IsOfKind ErrorKind.Io result }
+    ensures names { IsIoFailure (open_message path.now) result }
+{
+    io_failure(alloc, format!(in alloc; "couldn't open {path}"), why)
+}
+
+/// Returns what an error says. An error of memory says nothing.
+fn reason(alloc: Global, error: &io::Error) -> Result<String>
+    ensures memory { error_kind error.now ≡ IoErrorKind.OutOfMemory → IsErr result }
+    ensures err { IfErr result IsMemory }
+{
+    if is_out_of_memory(error) {
+        return Err(Error::from(AllocError));
     }
-    match format!(in alloc; "{error}") {
+    let why = format!(in alloc; "{error}")?;
+    Ok(why)
+}
+
+/// Returns the failure of a file that was found and cannot be read, for this error. An error of memory
+/// stays that.
+pub fn failed(alloc: Global, path: &str, error: io::Error) -> Error
+    ensures memory { error_kind error ≡ IoErrorKind.OutOfMemory → result ≡ out_of_memory }
+    ensures kind { IsOfKind ErrorKind.Io result }
+    ensures names { IsIoFailure (read_message path.now) result }
+{
+    match reason(alloc, &error) {
         Ok(why) => failure(alloc, path, &why),
+        Err(refused) => refused,
+    }
+}
+
+/// Returns the failure of a path that cannot be opened or listed, for this error. An error of memory
+/// stays that.
+pub fn open_failed(alloc: Global, path: &str, error: io::Error) -> Error
+    ensures memory { error_kind error ≡ IoErrorKind.OutOfMemory → result ≡ out_of_memory }
+    ensures kind { IsOfKind ErrorKind.Io result }
+    ensures names { IsIoFailure (open_message path.now) result }
+{
+    match reason(alloc, &error) {
+        Ok(why) => open_failure(alloc, path, &why),
+        Err(refused) => refused,
+    }
+}
+
+/// Returns the failure of a file whose bytes are not UTF-8 from an offset on.
+fn not_utf8(alloc: Global, path: &str, offset: usize) -> Error
+    ensures exact { (result ≡ io_failure (read_message path.now) (not_utf8_from offset)) ⊎ (result ≡ out_of_memory) }
+    ensures names { IsIoFailure (read_message path.now) result }
+{
+    match format!(in alloc; "it is not UTF-8 from byte offset {offset} on") {
+        Ok(place) => failure(alloc, path, &place),
         Err(refused) => Error::from(refused),
     }
 }
 
-/// The text of a file that holds these bytes, with no copy of them. `path` is for the message alone.
+/// Returns the text of a file that holds these bytes, with no copy of them. `path` is for the message
+/// alone.
 ///
 /// # Errors
 ///
-/// `Io` if the bytes are no UTF-8; else `OutOfMemory`, for the message.
+/// `Io` if the bytes are not UTF-8; else `OutOfMemory`, for the message. The cause tells the offset from
+/// which on they are not.
 pub fn text_of_bytes(alloc: Global, bytes: Vec<u8>, path: &str) -> Result<String>
     ensures ok { IfOk result (λ s. string_bytes s ≡ bytes.items) }
     ensures err { IfErr result (IsRefusal ErrorKind.Io (¬ IsUtf8 bytes.items)) }
+    ensures exact { IfErr result (λ e. (e ≡ io_failure (read_message path.now) (not_utf8_from (utf8_valid_len bytes.items))) ⊎ (e ≡ out_of_memory)) }
     ensures kind { IfErr result (IsOfKind ErrorKind.Io) }
-    ensures names { IfErr result (IsReadFailure path.now) }
+    ensures names { IfErr result (IsIoFailure (read_message path.now)) }
 {
     match String::from_utf8(bytes) {
         Ok(text) => Ok(text),
-        Err(_) => Err(failure(alloc, path, "the text is no UTF-8")),
+        Err(e) => Err(not_utf8(alloc, path, e.utf8_error().valid_up_to())),
     }
 }
 
-/// The text of a file's reader: all bytes that it has left. `path` is for the message alone.
+/// Returns the text of a file's reader: all bytes that it has left. `path` is for the message alone.
 ///
 /// # Errors
 ///
-/// `Io` if a read fails, the reader has not ended after 2^32 reads, or the bytes are no UTF-8; else
+/// `Io` if a read fails, the reader has not ended after 2^32 reads, or the bytes are not UTF-8; else
 /// `OutOfMemory`. The message names the path, the cause says why.
 pub fn text_of<R: Read>(alloc: Global, reader: &mut R, path: &str) -> Result<String>
     ensures text { IfOk result (λ s. IfSome (R.remaining reader.old) (λ bytes. string_bytes s ≡ bytes)) }
     ensures kind { IfErr result (IsOfKind ErrorKind.Io) }
-    ensures names { IfErr result (IsReadFailure path.now) }
+    ensures names { IfErr result (IsIoFailure (read_message path.now)) }
 {
     match bytes_of(alloc, reader) {
         Ok(bytes) => text_of_bytes(alloc, bytes, path),
@@ -108,37 +168,66 @@ pub fn text_of<R: Read>(alloc: Global, reader: &mut R, path: &str) -> Result<Str
     }
 }
 
-/// The text of a regular file. It is opened, and `text_of` reads it.
-fn text_of_regular<R: Files>(rt: &R, alloc: Global, path: &str) -> Result<String>
-    ensures kind { IfErr result (IsOfKind ErrorKind.Io) }
-    ensures names { IfErr result (IsReadFailure path.now) }
-{
-    match fs::File::open(rt, path) {
-        Ok(mut file) => text_of(alloc, &mut file, path),
-        Err(e) => Err(failed(alloc, path, e)),
-    }
-}
-
-/// Whether a path leads to a file that can be read to its end: to no folder, pipe, device or socket,
-/// whose opening or reading could wait.
+/// Whether a path leads to a regular file. A link is followed.
 fn is_regular<R: Files>(rt: &R, path: &str) -> io::Result<bool> {
     let metadata = fs::metadata(rt, path)?;
     Ok(metadata.is_file())
 }
 
-/// The text of a file. What is no regular file is never opened, so that no pipe, device or socket keeps
-/// the call waiting.
+/// Whether an open file is a regular one.
+fn is_open_regular<T: OpenFile>(file: &T) -> io::Result<bool> {
+    let metadata = file.metadata()?;
+    Ok(metadata.is_file())
+}
+
+/// Returns the failure of a path that leads to a folder, a pipe, a device or a socket.
+fn irregular(alloc: Global, path: &str) -> Error
+    ensures exact { (result ≡ io_failure (read_message path.now) (codes "it is not a regular file")) ⊎ (result ≡ out_of_memory) }
+    ensures kind { IsOfKind ErrorKind.Io result }
+    ensures names { IsIoFailure (read_message path.now) result }
+{
+    failure(alloc, path, "it is not a regular file")
+}
+
+/// Returns the text of an open file, which must be a regular one.
+fn text_of_open<T: Read + OpenFile>(alloc: Global, file: &mut T, path: &str) -> Result<String>
+    ensures text { IfOk result (λ s. IfSome (T.remaining file.old) (λ bytes. string_bytes s ≡ bytes)) }
+    ensures kind { IfErr result (IsOfKind ErrorKind.Io) }
+    ensures names { IfErr result (IsIoFailure (read_message path.now)) }
+{
+    match is_open_regular(file) {
+        Ok(true) => text_of(alloc, file, path),
+        Ok(false) => Err(irregular(alloc, path)),
+        Err(e) => Err(failed(alloc, path, e)),
+    }
+}
+
+/// Opens a file and returns its text.
+fn text_of_regular<R: Files>(rt: &R, alloc: Global, path: &str) -> Result<String>
+    ensures kind { IfErr result (IsOfKind ErrorKind.Io) }
+    ensures names { IfErr result (IsReadFailure path.now) }
+{
+    match fs::File::open(rt, path) {
+        Ok(mut file) => text_of_open(alloc, &mut file, path),
+        Err(e) => Err(open_failed(alloc, path, e)),
+    }
+}
+
+/// Returns the text of a file. What is not a regular file is not opened, so a path that leads to a pipe,
+/// a device or a socket does not keep the call waiting. The open file is asked once more before it is
+/// read. Opening may wait only where another program puts a pipe at the path between the two steps.
 ///
 /// # Errors
 ///
-/// `Io` if the file is no regular one or cannot be opened; then as `text_of`.
+/// `Io` if the file is not a regular one or cannot be opened; then as `text_of`. The message says whether
+/// the file couldn't be opened or couldn't be read.
 pub fn text_of_file<R: Files>(rt: &R, alloc: Global, path: &str) -> Result<String>
     ensures kind { IfErr result (IsOfKind ErrorKind.Io) }
     ensures names { IfErr result (IsReadFailure path.now) }
 {
     match is_regular(rt, path) {
         Ok(true) => text_of_regular(rt, alloc, path),
-        Ok(false) => Err(failure(alloc, path, "it is no regular file")),
-        Err(e) => Err(failed(alloc, path, e)),
+        Ok(false) => Err(irregular(alloc, path)),
+        Err(e) => Err(open_failed(alloc, path, e)),
     }
 }

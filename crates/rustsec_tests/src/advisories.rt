@@ -70,9 +70,10 @@ fn files_that_cannot_be_read(rt: HostRuntime) -> Result<(), Fail> {
         (
             "no-text.md",
             ErrorKind::Io,
-            "couldn't open no-text.md",
+            "couldn't read no-text.md",
             true,
         ),
+        (".", ErrorKind::Io, "couldn't read .", true),
         (
             "no-advisory.md",
             ErrorKind::Parse,
