@@ -38,11 +38,11 @@ use Rattle.rustsec_advisory.specs.declared.linter.ErrorKind.TheVariants as kind
 use Rattle.rustsec_advisory.specs.declared.metadata.Metadata.{Metadata}
 
 -- two tests at once
-both_decide : {P Q : Type 0} (s t : Bool) → Decides s P → Decides t Q → Decides (s && t) (P × Q)
+pub both_decide : {P Q : Type 0} (s t : Bool) → Decides s P → Decides t Q → Decides (s && t) (P × Q)
 both_decide s t d e = (λ h. (d.0 (first_so s t h), e.0 (second_so s t h)), λ p. both_true s t (d.1 p.0) (e.1 p.1))
 
 -- two tests at the same time
-decides_as : {P Q : Type 0} (t : Bool) → (P → Q) → (Q → P) → Decides t P → Decides t Q
+pub decides_as : {P Q : Type 0} (t : Bool) → (P → Q) → (Q → P) → Decides t P → Decides t Q
 decides_as t f g d = (λ h. f (d.0 h), λ q. d.1 (g q))
 
 -- ---- lint errors

@@ -8,7 +8,7 @@ use Rattle.rustsec_versions.proofs.Agreement.{ranges-one}
 use Rattle.rustsec_versions.specs.Failure.{Failure, IsMemory, IsRefusal, out_of_memory}
 use Rattle.rustsec_versions.specs.Lists.{Lists}
 use Rattle.rustsec_versions.specs.Ranges.{Range}
-use Rattle.rustsec_versions.specs.StoredRanges.{HasUnboundedInterval}
+use Rattle.rustsec_versions.specs.AcceptedRanges.{HasUnboundedInterval}
 use Rattle.rustsec_versions.specs.declared.error.ErrorKind.{ErrorKind}
 use Rattle.rustsec_versions.specs.declared.error.ErrorKind.TheVariants as kind
 use Rattle.rustsec_folders.specs.Allowed.{Allowed, AnswersOnce}

@@ -3,7 +3,7 @@ use Rattle.std.specs.Prelude.{◌≡◌, ◌≢◌, ◌⊎◌, ℕ, List, None}
 use Rattle.rustsec_folders.specs.Allowed.{Allowed}
 use Rattle.rustsec_versions.specs.Failure.{Failure, IsRefusal}
 use Rattle.rustsec_versions.specs.declared.error.ErrorKind.TheVariants as kind
-use Rattle.rustsec_versions.specs.StoredRanges.{HasUnboundedInterval}
+use Rattle.rustsec_versions.specs.AcceptedRanges.{HasUnboundedInterval}
 use Rattle.rustsec_advisory.specs.FileRefusals.{IsAdvisoryAt, IsAdvisoryRefusal}
 use Rattle.rustsec_advisory.specs.declared.advisory.Advisory.{Advisory}
 use Rattle.rustsec_osv.specs.Documents.{Document}

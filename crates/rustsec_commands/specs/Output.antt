@@ -9,7 +9,7 @@ use Rattle.rustsec_versions.specs.Failure.{kind_text}
 use Rattle.rustsec_versions.specs.declared.error.ErrorKind.{ErrorKind}
 use Rattle.rustsec_versions.specs.Lists.{Lists, accepted, affected}
 use Rattle.rustsec_versions.specs.Ranges.{Range}
-use Rattle.rustsec_versions.specs.StoredRanges.{AreMergedRanges}
+use Rattle.rustsec_versions.specs.AcceptedRanges.{AreMergedRanges}
 use Rattle.rustsec_commands.specs.Asked.{Asked, asked, first_malformed, says}
 use Rattle.rustsec_commands.specs.declared.asked.Question.TheVariants as question
 

@@ -1,5 +1,6 @@
 -- Printing a document with valid versions and reading it back preserves its ranges and events.
-use Rattle.std.proofs.Common.{◌≡◌, ◌∙◌, ℕ, List, [], ◌∷◌, All, map, Option, Some, None, codes, refl, ap, sym}
+use Rattle.std.proofs.Common.{◌≡◌, ◌∙◌, ℕ, List, [], ◌∷◌, ◌++◌, All, map, Option, Some, None, codes, option_to_list, refl, ap, sym}
+use Rattle.std.specs.List.{flat_map}
 use Rattle.std.proofs.lemmas.List.Elements.{All-head, All-tail}
 use Rattle.serde_json.specs.Data.{Members, object}
 use Rattle.rustsec_json.specs.Fields.{defaulted, every, or_null, text}
@@ -8,8 +9,9 @@ use Rattle.rustsec_values.specs.Reading.{◌>>=◌, before, read_all}
 use Rattle.semver.specs.Parse.{Parts}
 use Rattle.rustsec_texts.specs.Ids.{id_of}
 use Rattle.rustsec_osv.specs.DocumentAgain.{AreEventsValid, IfThere, IsRangeAgain}
-use Rattle.rustsec_osv.specs.DocumentEvents.{JsonRange}
+use Rattle.rustsec_osv.specs.DocumentEvents.{Event, JsonRange}
 use Rattle.rustsec_osv.specs.Documents.{Document, ranges_of}
+use Rattle.rustsec_osv.specs.Export.{document_events, events_of_member}
 use Rattle.rustsec_osv.specs.ReaderAffected.{any_text, read_affected, read_database, read_ecosystem, read_package, read_range}
 use Rattle.rustsec_osv.specs.ReaderDocument.{document_of, read_content, read_document, read_links, read_reference, read_stamp}
 use Rattle.rustsec_osv.specs.TreeAffected.{affected_tree, database_tree, ecosystem_tree, package_tree, range_tree}
@@ -115,3 +117,17 @@ ranges-same d read h e =
     let found = affected-read (document_members d) read e in
     let listed = sym (affected-member d d.schema_version d.withdrawn) ∙ found in
     all-kept d.affected read.affected h (rw (list_of-items (map affected_tree d.affected)) at listed)
+
+-- the events of a document are those of its ranges
+events_of_ranges : Option (List JsonRange) → List Event
+events_of_ranges ranges = flat_map (λ rs. flat_map (λ (r : JsonRange). r.events) rs) (option_to_list ranges)
+
+events-by-ranges : (xs : List OsvAffected) → flat_map events_of_member xs ≡ flat_map events_of_ranges (map (λ (a : OsvAffected). a.ranges) xs)
+unfolding events_of_ranges
+events-by-ranges [] = refl
+events-by-ranges (x ∷ xs) = ap (λ es. events_of_member x ++ es) (events-by-ranges xs)
+
+-- and so are its events
+pub events-same : (d read : Document) → AreEventsValid d → read_document (document_tree d) ≡ Some read → document_events read ≡ document_events d
+events-same d read h e =
+    events-by-ranges read.affected ∙ ap (λ rs. flat_map events_of_ranges rs) (ranges-same d read h e) ∙ sym (events-by-ranges d.affected)

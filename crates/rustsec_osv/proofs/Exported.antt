@@ -9,7 +9,7 @@ use Rattle.rustsec_advisory.specs.declared.metadata.Metadata.{Metadata}
 use Rattle.rustsec_versions.specs.Failure.{Failure, IsRefusal}
 use Rattle.rustsec_versions.specs.Lists.{Lists}
 use Rattle.rustsec_versions.specs.declared.error.ErrorKind.TheVariants as kind
-use Rattle.rustsec_versions.specs.StoredRanges.{HasUnboundedInterval}
+use Rattle.rustsec_versions.specs.AcceptedRanges.{HasUnboundedInterval}
 use Rattle.rustsec_osv.specs.DocumentAgain.{AreEventsValid, IfThere, IsRangeAgain}
 use Rattle.rustsec_osv.specs.DocumentEvents.{Event, JsonRange}
 use Rattle.rustsec_osv.specs.Documents.{Document}

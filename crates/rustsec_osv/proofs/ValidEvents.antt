@@ -11,7 +11,7 @@ use Rattle.rustsec_versions.specs.Interval.{Endpoint, Interval, exclusive, inclu
 use Rattle.rustsec_versions.specs.Lists.{Lists, intervals}
 use Rattle.rustsec_versions.specs.Ranges.{Range, lower_cut, lower_cuts, upper_cut, upper_cuts}
 use Rattle.rustsec_versions.specs.Requirement.{least_of}
-use Rattle.rustsec_versions.specs.StoredRanges.{AreMergedRanges}
+use Rattle.rustsec_versions.specs.AcceptedRanges.{AreMergedRanges}
 use Rattle.rustsec_versions.proofs.Agreement.{intervals-admissible}
 use Rattle.rustsec_versions.proofs.Clashes.{AllSound, intervals-sound}
 use Rattle.rustsec_versions.proofs.MergedFit.{merged-fit}

@@ -4,7 +4,7 @@ use Rattle.std.specs.Prelude.{◌≡◌, ℕ, List, [], ◌∷◌, ◌++◌, Opt
 use Rattle.std.specs.Map.{keys_of}
 use Rattle.rustsec_versions.specs.Lists.{Lists}
 use Rattle.rustsec_versions.specs.Ranges.{Range}
-use Rattle.rustsec_versions.specs.StoredRanges.{AreMergedRanges, HasUnboundedInterval}
+use Rattle.rustsec_versions.specs.AcceptedRanges.{AreMergedRanges, HasUnboundedInterval}
 use Rattle.rustsec_lock.specs.declared.cvss.Cvss.{Cvss}
 use Rattle.rustsec_lock.specs.declared.cvss.Cvss.TheVariants as cvss
 use Rattle.rustsec_texts.specs.Licenses.{license_name}

@@ -5,7 +5,7 @@ ghost use Rattle.rustsec_osv.specs.DocumentKinds.{reference_kind_name, reference
 ghost use Rattle.rustsec_versions.specs.Failure.{IsMemory, IsRefusal};
 
 use rustsec_advisory::Address;
-use rustsec_values::{ExactClone, Named, value_named};
+use rustsec_values::{ExactClone, ExactEq, Named, value_named};
 use rustsec_versions::{ErrorKind, Result, refused_text};
 use std::alloc::{AllocError, Global};
 
@@ -90,6 +90,13 @@ impl Named for OsvReferenceKind {
 
 impl ExactClone for OsvReferenceKind {
     ghost exact = { λ x y e. e };
+}
+
+impl ExactEq for OsvReferenceKind {
+    ghost use denote.Enum.Bare.{same_true, true_same};
+    ghost use Rattle.rustsec_osv.specs.contracts.reference.OsvReferenceKind.{the_type};
+
+    ghost decides = { λ x y. (same_true the_type tt x y, true_same the_type x y) };
 }
 
 /// A reference.

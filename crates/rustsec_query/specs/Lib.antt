@@ -1,3 +1,4 @@
+pub mod EqualityLaws
 pub mod Functions
 pub mod Pairs
 pub mod Query

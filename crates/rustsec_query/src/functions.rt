@@ -1,6 +1,6 @@
 //! The affected functions of a vulnerability.
 
-ghost use Rattle.std.specs.Prelude.{◌≡◌, IfErr, IfOk, List, map, option_map};
+ghost use Rattle.std.specs.Prelude.{◌≡◌, ◌≢◌, IfErr, IfOk, List, None, OnErr, map, option_map};
 ghost use Rattle.std.specs.List.{list_any};
 ghost use Rattle.semver.specs.EvalViews.{matches_views};
 ghost use Rattle.semver.specs.Identifiers.{parts_of};
@@ -65,6 +65,9 @@ impl Vulnerability {
     ) -> rustsec_versions::Result<Option<Vec<FunctionPath>>>
         ensures ok { IfOk result (λ o. option_map (λ v. v.items) o ≡ functions_of self.now) }
         ensures err { IfErr result IsMemory }
+
+        // The answer that no function is listed takes no memory.
+        ensures refused { OnErr result (functions_of self.now ≢ None) }
     {
         match &self.affected {
             Some(affected) => {

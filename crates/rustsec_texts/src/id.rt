@@ -1,6 +1,6 @@
 //! The IDs of advisories.
 
-ghost use Rattle.std.specs.Prelude.{◌≡◌, IfErr, IfOk, None, Some, option_map, refl, string_bytes};
+ghost use Rattle.std.specs.Prelude.{◌≡◌, ◌≢◌, IfErr, IfOk, None, OnErr, Some, option_map, refl, string_bytes};
 ghost use Rattle.std.specs.Cmp.{partial_equiv_from_equiv, po};
 ghost use Rattle.std.specs.Hash as fed;
 ghost use Rattle.rustsec_versions.specs.Failure.{IsMemory, IsOfKind, IsRefusal};
@@ -215,6 +215,9 @@ impl Id {
     pub fn url(&self, alloc: Global) -> Result<Option<String>>
         ensures ok { IfOk result (λ url. option_map string_bytes url ≡ page_of self.now) }
         ensures err { IfErr result IsMemory }
+
+        // The answer that there is no page takes no memory.
+        ensures refused { OnErr result (page_of self.now ≢ None) }
     {
         if self.is_placeholder() {
             return Ok(None);

@@ -16,7 +16,7 @@ use Rattle.rustsec_versions.specs.Merged.{AreMerged, IsJoined}
 use Rattle.rustsec_versions.specs.Precedence.{IsVersion, precedence}
 use Rattle.rustsec_versions.specs.Ranges.{AreRanges, HasCuts, Range, SameInEachList, SameRequirements, affects, has_bound, in_ranges, lower_cut, upper_cut, whole}
 use Rattle.rustsec_versions.specs.Requirement.{interval_of, is_admissible, is_end, is_start}
-use Rattle.rustsec_versions.specs.StoredRanges.{AreMergedRanges, AreRangesOf, HasUnboundedInterval}
+use Rattle.rustsec_versions.specs.AcceptedRanges.{AreMergedRanges, AreRangesOf, HasUnboundedInterval}
 use Rattle.rustsec_versions.specs.Sweep.{Marked, all_swept, are_clear, mark, marked, marks, spans}
 use Rattle.rustsec_versions.proofs.AreRanges.{AreRanges-IsPermutation, admissible_shuffled, gaps-AreRanges, sound_shuffled}
 use Rattle.rustsec_versions.proofs.Chain.{AllAdmissible, StartsRise}

@@ -10,5 +10,6 @@ pub shows : (wrong found expected shown message : List ℕ) (e : Failure) → Is
     → ((e ≡ record { kind = kind.Parse; message = message; cause = None }) ⊎ (e ≡ out_of_memory))
     → IsRefusal kind.Parse (ShowsText wrong found expected e) e
 shows wrong found expected shown message e cut said (inl h) =
-    inl (ap (λ (f : Failure). f.kind) h, (shown, cut, ap (λ (f : Failure). f.message) h ∙ said))
+    let refusal : List ℕ → Failure = λ m. record { kind = kind.Parse; message = m; cause = None } in
+    inl (ap (λ (f : Failure). f.kind) h, (shown, cut, h ∙ ap refusal said))
 shows wrong found expected shown message e cut said (inr h) = inr h

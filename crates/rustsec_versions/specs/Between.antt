@@ -7,7 +7,7 @@ use Rattle.semver.specs.Parse.{Parts}
 use Rattle.rustsec_versions.specs.Gaps.{HasValidBounds, cut}
 use Rattle.rustsec_versions.specs.Interval.{Endpoint, Interval, exclusive, holds, inclusive, is_after, is_before, unbounded}
 use Rattle.rustsec_versions.specs.Lists.{Lists, affected}
-use Rattle.rustsec_versions.specs.StoredRanges.{AreRangesOf}
+use Rattle.rustsec_versions.specs.AcceptedRanges.{AreRangesOf}
 
 -- the bound on the other side of the same cut: exclusive becomes inclusive, and inclusive exclusive
 abbrev pub turned : Endpoint → Endpoint

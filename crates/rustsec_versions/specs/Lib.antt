@@ -1,3 +1,4 @@
+pub mod AcceptedRanges
 pub mod Apart
 pub mod Between
 pub mod Equality
@@ -13,7 +14,6 @@ pub mod Ranges
 pub mod Refusals
 pub mod Requirement
 pub mod RequirementText
-pub mod StoredRanges
 pub mod Successor
 pub mod Sweep
 pub mod Views

@@ -3,11 +3,12 @@
 use Rattle.std.specs.Prelude.{◌≡◌, ◌++◌, ℕ, List, Option, Some, None, codes}
 use Rattle.rustsec_values.specs.Beginnings.{IsBeginning}
 use Rattle.rustsec_versions.specs.Failure.{Failure}
+use Rattle.rustsec_versions.specs.declared.error.ErrorKind.TheVariants as kind
 
--- what is wrong, the first 60 bytes of the text that was found, and what was expected
+-- a refusal without a cause: what is wrong, the first 60 bytes of the text that was found, and what was expected
 abbrev pub ShowsText : List ℕ → List ℕ → List ℕ → Failure → Type 0
 ShowsText wrong found expected e =
-    (shown : List ℕ) × IsBeginning 60 found shown × (e.message ≡ wrong ++ (codes " `" ++ (shown ++ (codes "`, expected " ++ expected))))
+    (shown : List ℕ) × IsBeginning 60 found shown × (e ≡ record { kind = kind.Parse; message = wrong ++ (codes " `" ++ (shown ++ (codes "`, expected " ++ expected))); cause = None })
 
 -- an error with its place before the message
 abbrev pub at_place : List ℕ → Failure → Failure

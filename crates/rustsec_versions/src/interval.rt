@@ -257,6 +257,9 @@ impl UnaffectedRange {
         ensures in_order { OnOk result (reaches version_order (endpoint_of start) (endpoint_of end) ≡ true) }
         ensures err { IfErr result (IsRefusal ErrorKind.BadParam
             (reaches version_order (endpoint_of start) (endpoint_of end) ≡ false)) }
+
+        // An interval takes no memory, so bounds in order are never refused.
+        ensures refused { OnErr result (reaches version_order (endpoint_of start) (endpoint_of end) ≡ false) }
     {
         if reaches(&start, &end) {
             Ok(UnaffectedRange { start, end })

@@ -1,6 +1,6 @@
 //! The successor of a version: the least version above it.
 
-ghost use Rattle.std.specs.Prelude.{◌≡◌, ◌≢◌, ◌↔◌, ◌++◌, ◌-◌, ◌^◌, [], IfErr, IfOk, IfSome, IsNone, MatchResult, codes, length, option_map, true};
+ghost use Rattle.std.specs.Prelude.{◌≡◌, ◌≢◌, ◌↔◌, ◌++◌, ◌-◌, ◌^◌, [], IfErr, IfOk, IfSome, IsNone, MatchResult, OnErr, codes, length, option_map, true};
 ghost use Rattle.semver.specs.Grammar.{is_pre_release};
 ghost use Rattle.semver.specs.Identifiers.{build_text, parts_of, pre_text};
 ghost use Rattle.semver.specs.Parse.{memory_error};
@@ -36,6 +36,9 @@ pub fn successor(alloc: Global, version: &Version) -> Result<Option<Version>>
     ensures plain { IfOk result (λ o. IfSome o (λ s. build_text s.build ≡ [])) }
     ensures none { IfOk result (λ o. IsNone o ↔ ((pre_text version.now.pre ≡ []) × (version.now.patch ≡ 2 ^ 64 - 1))) }
     ensures err { IfErr result IsMemory }
+
+    // The answer that there is none takes no memory.
+    ensures refused { OnErr result (¬ ((pre_text version.now.pre ≡ []) × (version.now.patch ≡ 2 ^ 64 - 1))) }
 {
     if version.pre.is_empty() {
         let Some(patch) = version.patch.checked_add(1) else {

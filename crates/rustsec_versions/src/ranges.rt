@@ -12,7 +12,7 @@ ghost use Rattle.rustsec_versions.specs.Merged.{AreMerged, IsJoined};
 ghost use Rattle.rustsec_versions.specs.Precedence.{IsVersion};
 ghost use Rattle.rustsec_versions.specs.Ranges.{AreRanges, HasCuts, Range, SameRequirements, affects, affects_from, affects_till, in_ranges, lower_cut, upper_cut};
 ghost use Rattle.rustsec_versions.specs.Requirement.{interval_of};
-ghost use Rattle.rustsec_versions.specs.StoredRanges.{AreMergedRanges, HasUnboundedInterval};
+ghost use Rattle.rustsec_versions.specs.AcceptedRanges.{AreMergedRanges, HasUnboundedInterval};
 ghost use Rattle.rustsec_versions.specs.Successor.{IsLeastAbove, successor};
 ghost use Rattle.rustsec_versions.specs.Views.{endpoint_of, range_of};
 

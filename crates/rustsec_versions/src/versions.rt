@@ -10,7 +10,7 @@ ghost use Rattle.rustsec_versions.specs.Failure.{IsMemory, IsRefusal};
 ghost use Rattle.rustsec_versions.specs.Lists.{Lists, accepted, accepted_apart, affected, no_lists};
 ghost use Rattle.rustsec_versions.specs.Precedence.{version_order, with_build};
 ghost use Rattle.rustsec_versions.specs.Ranges.{Range, SameInEachList};
-ghost use Rattle.rustsec_versions.specs.StoredRanges.{AreMergedRanges, AreRangesOf, HasBinaryDigits};
+ghost use Rattle.rustsec_versions.specs.AcceptedRanges.{AreMergedRanges, AreRangesOf, HasBinaryDigits};
 ghost use Rattle.rustsec_versions.specs.Views.{comparators_of, lists_of};
 
 use crate::error::{Error, ErrorKind, Result};

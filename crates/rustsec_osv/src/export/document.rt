@@ -6,7 +6,7 @@ ghost use Rattle.rustsec_texts.specs.Licenses.{license_name};
 ghost use Rattle.rustsec_versions.specs.Failure.{IsRefusal};
 ghost use Rattle.rustsec_versions.specs.Lists.{affected};
 ghost use Rattle.rustsec_versions.specs.Precedence.{IsVersion};
-ghost use Rattle.rustsec_versions.specs.StoredRanges.{HasUnboundedInterval};
+ghost use Rattle.rustsec_versions.specs.AcceptedRanges.{HasUnboundedInterval};
 ghost use Rattle.rustsec_osv.specs.DocumentAgain.{AreEventsValid, IsReferenceAgain};
 ghost use Rattle.rustsec_advisory.specs.Advisory.{IsAdvisory};
 ghost use Rattle.rustsec_osv.specs.Events.{events_say};

@@ -2,12 +2,11 @@
 
 ghost use Rattle.std.specs.Prelude.{◌≡◌, IfErr, IfOk, OnOk, Some, codes, option_map};
 ghost use Rattle.serde_json.specs.View.{members_view, view};
-ghost use Rattle.rustsec_osv.specs.DocumentAgain.{AreEventsValid, IsDocumentAgain, IsEventAgain};
-ghost use Rattle.rustsec_osv.specs.DocumentEvents.{Event};
+ghost use Rattle.rustsec_osv.specs.DocumentAgain.{AreEventsValid, IsDocumentAgain};
 ghost use Rattle.rustsec_osv.specs.Documents.{Document, ranges_of};
-ghost use Rattle.rustsec_osv.specs.ReaderAffected.{read_event};
+ghost use Rattle.rustsec_osv.specs.Export.{document_events};
 ghost use Rattle.rustsec_osv.specs.ReaderDocument.{read_document};
-ghost use Rattle.rustsec_osv.specs.TreeAffected.{event_tree, version_tree};
+ghost use Rattle.rustsec_osv.specs.TreeAffected.{version_tree};
 ghost use Rattle.rustsec_osv.specs.TreeDocument.{document_tree, list_rows, text_rows};
 ghost use Rattle.rustsec_osv.specs.TreeObjects.{row_if, with_rows};
 ghost use Rattle.rustsec_versions.specs.Failure.{IsMemory};
@@ -151,14 +150,15 @@ impl OsvAdvisory {
         ensures err { IfErr result IsMemory }
 
         // If the texts of a document's parts are parsed as these parts, the document's tree is read as the document.
-        ensures again { IsDocumentAgain self.now → read_document (document_tree self.now) ≡ Some self.now }
+        ensures again { IfOk result (λ v. IsDocumentAgain self.now → read_document (view v) ≡ Some self.now) }
 
         // If its events have valid versions, any document that is read from the tree has the same ranges, in order.
-        ensures ranges { AreEventsValid self.now → (d : Document) → read_document (document_tree self.now) ≡ Some d
-            → ranges_of d ≡ ranges_of self.now }
+        ensures ranges { IfOk result (λ v. AreEventsValid self.now → (d : Document) → read_document (view v) ≡ Some d
+            → ranges_of d ≡ ranges_of self.now) }
 
-        // The object of an event of a valid version is read as that event.
-        ensures events { (e : Event) → IsEventAgain e → read_event (event_tree e) ≡ Some e }
+        // Then it has the same events too, in order.
+        ensures events { IfOk result (λ v. AreEventsValid self.now → (d : Document) → read_document (view v) ≡ Some d
+            → document_events d ≡ document_events self.now) }
     {
         let mut fields = Map::new(alloc);
         put_lists(self, alloc, &mut fields)?;

@@ -1,31 +1,22 @@
+use Rattle.std.proofs.Common.{◌≡◌, ◌∙◌, ap, sym, search}
+use Rattle.serde_json.specs.View.{view}
+use Rattle.rustsec_osv.specs.ReaderDocument.{read_document}
+use Rattle.rustsec_osv.specs.TreeDocument.{document_tree}
 use Rattle.rustsec_osv.proofs.DocumentsAgain.{document-again}
-use Rattle.rustsec_osv.proofs.EventsAgain.{event-again}
-use Rattle.rustsec_osv.proofs.EventsKept.{ranges-same}
+use Rattle.rustsec_osv.proofs.EventsKept.{events-same, ranges-same}
 use Rattle.rustsec_osv.proofs.document.OsvAdvisory.to_value.Goals as goal
 
 pub returns-clause-again : goal.returns-clause-again
-returns-clause-again c = document-again c.args.self.now
+returns-clause-again c =
+    let tree : view c.from.result ≡ document_tree c.args.self.now = search rules in
+    λ h. ap read_document tree ∙ document-again c.args.self.now h
 
 pub returns-clause-ranges : goal.returns-clause-ranges
-returns-clause-ranges c = λ h d e. ranges-same c.args.self.now d h e
+returns-clause-ranges c =
+    let tree : view c.from.result ≡ document_tree c.args.self.now = search rules in
+    λ h d e. ranges-same c.args.self.now d h (ap read_document (sym tree) ∙ e)
 
 pub returns-clause-events : goal.returns-clause-events
-returns-clause-events c = event-again
-
-pub returns-in_err-put_lists-clause-again : goal.returns-in_err-put_lists-clause-again
-returns-in_err-put_lists-clause-again c = document-again c.args.self.now
-
-pub returns-in_err-put_lists-clause-ranges : goal.returns-in_err-put_lists-clause-ranges
-returns-in_err-put_lists-clause-ranges c = λ h d e. ranges-same c.args.self.now d h e
-
-pub returns-in_err-put_lists-clause-events : goal.returns-in_err-put_lists-clause-events
-returns-in_err-put_lists-clause-events c = event-again
-
-pub returns-in_err-put_texts-clause-again : goal.returns-in_err-put_texts-clause-again
-returns-in_err-put_texts-clause-again c = document-again c.args.self.now
-
-pub returns-in_err-put_texts-clause-ranges : goal.returns-in_err-put_texts-clause-ranges
-returns-in_err-put_texts-clause-ranges c = λ h d e. ranges-same c.args.self.now d h e
-
-pub returns-in_err-put_texts-clause-events : goal.returns-in_err-put_texts-clause-events
-returns-in_err-put_texts-clause-events c = event-again
+returns-clause-events c =
+    let tree : view c.from.result ≡ document_tree c.args.self.now = search rules in
+    λ h d e. events-same c.args.self.now d h (ap read_document (sym tree) ∙ e)
