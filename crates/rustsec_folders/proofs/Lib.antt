@@ -1,3 +1,4 @@
 pub mod Lists
+pub mod ListFailures
 pub mod Same
 pub mod Shown
