@@ -19,6 +19,8 @@ mod databases;
 #[cfg(test)]
 mod dates;
 #[cfg(test)]
+mod disk;
+#[cfg(test)]
 mod fixes;
 #[cfg(test)]
 mod folders;
@@ -36,6 +38,8 @@ mod informational;
 mod intervals;
 #[cfg(test)]
 mod lint;
+#[cfg(test)]
+mod listings;
 #[cfg(test)]
 mod lockfiles;
 #[cfg(test)]
