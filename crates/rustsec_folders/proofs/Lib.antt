@@ -1,4 +1,5 @@
 pub mod InOrder
+pub mod ListFailures
 pub mod Lists
 pub mod Once
 pub mod Same

@@ -1,3 +1,4 @@
 pub mod Allowed
 pub mod Names
 pub mod Listed
+pub mod Entries

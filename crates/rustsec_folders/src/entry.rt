@@ -3,12 +3,12 @@
 ghost use Rattle.std.specs.Prelude.{◌≡◌, IfErr, IfOk};
 ghost use Rattle.rustsec_versions.specs.Failure.{IsMemory};
 
-use rustsec_values::{ExactClone, Text};
+use rustsec_values::{ExactClone, ExactEq, Text};
 use rustsec_versions::Result;
-use std::alloc::{AllocError, Global};
+use std::alloc::Global;
 
 /// An entry of a folder.
-#[derive(Debug, Drop, PartialEq, Eq)]
+#[derive(Clone, Debug, Drop, PartialEq, Eq)]
 pub struct FolderEntry {
     /// Its name in the folder, without a path.
     pub name: Text,
@@ -17,7 +17,7 @@ pub struct FolderEntry {
 }
 
 impl FolderEntry {
-    /// An equal entry.
+    /// Returns an equal entry.
     ///
     /// # Errors
     ///
@@ -31,18 +31,16 @@ impl FolderEntry {
     }
 }
 
-impl Clone for FolderEntry {
-    ghost is_clone = { λ a b. b ≡ a };
+impl ExactClone for FolderEntry {
+    ghost use Rattle.std.proofs.Common.{rules};
 
-    fn clone(&self) -> std::result::Result<FolderEntry, AllocError> {
-        let name = self.name.clone()?;
-        Ok(FolderEntry {
-            name,
-            folder: self.folder,
-        })
-    }
+    ghost exact = { λ x y e. Prim.search rules };
 }
 
-impl ExactClone for FolderEntry {
-    ghost exact = { λ x y e. e };
+impl ExactEq for FolderEntry {
+    ghost use Rattle.std.proofs.Common.{rules};
+    ghost use Rattle.std.specs.Cmp.{booleans_Decides};
+    ghost use Rattle.std.specs.Cmp.Lexicographic.{bytes_decides};
+
+    ghost decides = { λ x y. Prim.search (rules, bytes_decides, booleans_Decides) };
 }

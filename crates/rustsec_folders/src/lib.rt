@@ -7,9 +7,11 @@ mod listing;
 mod names;
 mod real;
 mod source_file;
+mod split;
 
 pub use crate::entry::FolderEntry;
 pub use crate::folders::Folders;
 pub use crate::listing::{source_files, source_paths};
 pub use crate::real::RealFolders;
 pub use crate::source_file::SourceFile;
+pub use crate::split::{entry_names, listed_names};

@@ -1,13 +1,16 @@
 //! The folders and files of a runtime.
 
 ghost use Rattle.std.specs.Prelude.{◌≡◌, IfErr, IfOk};
-ghost use Rattle.rustsec_files.specs.ReadFailures.{IsReadFailure};
+ghost use Rattle.rustsec_files.specs.ReadFailures.{IsIoFailure, IsReadFailure, open_message};
 ghost use Rattle.rustsec_folders.specs.Allowed.{AllowSame, every_answer};
-ghost use Rattle.rustsec_folders.specs.Names.{AreNames};
+ghost use Rattle.rustsec_folders.specs.Entries.{IsListFailure};
+ghost use Rattle.rustsec_folders.specs.Names.{AreNames, names_of};
 ghost use Rattle.rustsec_versions.specs.Failure.{IsOfKind, IsRefusal};
 
 use crate::entry::FolderEntry;
 use crate::folders::Folders;
+use crate::names::joined;
+use crate::split::listed_names;
 use rustsec_files::reading;
 use rustsec_values::{Items, Text};
 use rustsec_versions::{ErrorKind, Result};
@@ -15,89 +18,85 @@ use std::alloc::Global;
 use std::rt::Files;
 use std::{fs, io};
 
-/// The names of a folder's entries, each with a NUL behind it.
-fn name_bytes<R: Files>(rt: &R, alloc: Global, path: &str) -> io::Result<Vec<u8>> {
-    // The slash has the system follow a link to a folder, and refuse whatever is no folder.
+/// Opens a folder, to list it.
+fn open_folder<R: Files>(rt: &R, alloc: Global, path: &str) -> io::Result<R::Dir> {
+    // The slash has the system follow a link to a folder, and refuse what is not a folder.
     let path = format!(in alloc; "{path}/")?;
-    let mut names = rt.open_dir(&path)?;
-    reading::bytes_of(alloc, &mut names)
+    rt.open_dir(&path)
 }
 
-/// The text of those names.
-fn names_text<R: Files>(rt: &R, alloc: Global, path: &str) -> Result<String>
-    ensures kind { IfErr result (IsOfKind ErrorKind.Io) }
-    ensures names { IfErr result (IsReadFailure path.now) }
-{
-    match name_bytes(rt, alloc, path) {
-        Ok(bytes) => match String::from_utf8(bytes) {
-            Ok(text) => Ok(text),
-            Err(_) => Err(reading::failure(alloc, path, "the name of an entry is no UTF-8")),
-        },
-        Err(e) => Err(reading::failed(alloc, path, e)),
-    }
-}
-
-/// Whether a name in a folder is that of a folder, and not of a link to one.
-fn is_folder<R: Files>(rt: &R, alloc: Global, path: &str, name: &str) -> io::Result<bool> {
-    let path = format!(in alloc; "{path}/{name}")?;
-    let metadata = fs::symlink_metadata(rt, path.as_str())?;
-    Ok(metadata.is_dir())
-}
-
-/// The entry of a name in a folder.
-fn entry<R: Files>(rt: &R, alloc: Global, path: &str, name: &str) -> Result<FolderEntry>
-    ensures kind { IfErr result (IsOfKind ErrorKind.Io) }
-    ensures names { IfErr result (IsReadFailure path.now) }
-{
-    match is_folder(rt, alloc, path, name) {
-        Ok(folder) => {
-            let name = Text::from_str(alloc, name)?;
-            Ok(FolderEntry { name, folder })
-        }
-        Err(e) => Err(reading::failed(alloc, path, e)),
-    }
-}
-
-/// Whether a name is that of an entry, and not of the folder itself or its parent.
-fn is_entry(name: &str) -> bool {
-    !name.is_empty() && name != "." && name != ".."
-}
-
-/// The entries of a folder.
-fn entries<R: Files>(rt: &R, alloc: Global, path: &str) -> Result<Items<FolderEntry>>
-    ensures kind { IfErr result (IsOfKind ErrorKind.Io) }
-    ensures names { IfErr result (IsReadFailure path.now) }
-{
-    let names = names_text(rt, alloc, path)?;
-    let mut entries = Items::new(alloc);
-    for name in names.split('\0') {
-        if is_entry(name) {
-            entries.push(entry(rt, alloc, path, name)?)?;
-        }
-    }
-    Ok(entries)
-}
-
-/// The names of a folder's entries.
+/// Returns the names of a folder's entries.
 fn names<R: Files>(rt: &R, alloc: Global, path: &str) -> Result<Items<Text>>
     ensures kind { IfErr result (IsOfKind ErrorKind.Io) }
     ensures names { IfErr result (IsReadFailure path.now) }
 {
-    let text = names_text(rt, alloc, path)?;
-    let mut names = Items::new(alloc);
-    for name in text.split('\0') {
-        if is_entry(name) {
-            names.push(Text::from_str(alloc, name)?)?;
-        }
+    match open_folder(rt, alloc, path) {
+        Ok(mut listing) => listed_names(alloc, &mut listing, path),
+        Err(e) => Err(reading::open_failed(alloc, path, e)),
     }
-    Ok(names)
+}
+
+/// Whether the system says that a path is a folder's, and not that of a link to one.
+fn is_folder<R: Files>(rt: &R, path: &str) -> io::Result<bool> {
+    let metadata = fs::symlink_metadata(rt, path)?;
+    Ok(metadata.is_dir())
+}
+
+/// Whether there is a folder at a path, and not a link to one.
+fn is_folder_at<R: Files>(rt: &R, alloc: Global, path: &str) -> Result<bool>
+    ensures kind { IfErr result (IsOfKind ErrorKind.Io) }
+    ensures names { IfErr result (IsIoFailure (open_message path.now)) }
+{
+    match is_folder(rt, path) {
+        Ok(is) => Ok(is),
+        Err(e) => Err(reading::open_failed(alloc, path, e)),
+    }
+}
+
+/// Whether an entry of a folder is a folder itself. The message of a failure names the entry's own path.
+fn is_folder_entry<R: Files>(rt: &R, alloc: Global, folder: &str, name: &str) -> Result<bool>
+    ensures kind { IfErr result (IsOfKind ErrorKind.Io) }
+    ensures names { IfErr result (IsListFailure folder.now) }
+{
+    let path = joined(alloc, folder, name)?;
+    is_folder_at(rt, alloc, &path)
+}
+
+/// Returns the entries of these names in a folder, in their order. Which of them are folders is what the
+/// system says.
+fn entries_of<R: Files>(
+    rt: &R,
+    alloc: Global,
+    path: &str,
+    names: Items<Text>,
+) -> Result<Items<FolderEntry>>
+    ensures ok { IfOk result (λ entries. names_of entries ≡ names) }
+    ensures kind { IfErr result (IsOfKind ErrorKind.Io) }
+    ensures names { IfErr result (IsListFailure path.now) }
+{
+    let mut entries = Items::new(alloc);
+    for name in Vec::from(names) {
+        let folder = is_folder_entry(rt, alloc, path, name.as_str())?;
+        entries.push(FolderEntry { name, folder })?;
+    }
+    Ok(entries)
+}
+
+/// Returns the entries of a folder.
+fn entries<R: Files>(rt: &R, alloc: Global, path: &str) -> Result<Items<FolderEntry>>
+    ensures kind { IfErr result (IsOfKind ErrorKind.Io) }
+    ensures names { IfErr result (IsListFailure path.now) }
+{
+    let names = names(rt, alloc, path)?;
+    entries_of(rt, alloc, path, names)
 }
 
 /// The folders and files of a runtime. Nothing is known of what they hold, so every answer is allowed.
 ///
-/// A link in a folder is listed as no folder, and is read as the file that it leads to. What is no
-/// regular file is never opened to be read, so that no pipe, device or socket keeps a call waiting. The
-/// message of each refusal names the path, and its cause says why.
+/// A link in a folder is not listed as a folder, and is read as the file that it leads to. A path that leads to
+/// a pipe, a device or a socket is not opened, and so does not keep a call waiting; opening may wait only where
+/// another program puts a pipe at the path after it was looked at. The message of each refusal names the path,
+/// that of an entry that cannot be looked at its own, and the cause says why.
 #[derive(Drop)]
 pub struct RealFolders<'a, R> {
     files: &'a R,
@@ -121,7 +120,7 @@ impl<'a, R: Files> Folders for RealFolders<'a, R> {
         ensures ok { IfOk result (λ entries. every_answer.lists path.now (Some entries)) }
         ensures err { IfErr result (IsRefusal ErrorKind.Io (every_answer.lists path.now None)) }
         ensures same { AllowSame every_answer every_answer }
-        ensures names { IfErr result (IsReadFailure path.now) }
+        ensures names { IfErr result (IsListFailure path.now) }
     {
         entries(self.files, alloc, path)
     }

@@ -5,10 +5,10 @@ ghost use Rattle.rustsec_versions.specs.Failure.{IsMemory};
 
 use rustsec_values::{ExactClone, ExactEq, Text};
 use rustsec_versions::Result;
-use std::alloc::{AllocError, Global};
+use std::alloc::Global;
 
 /// A file of a database: its path and its text.
-#[derive(Debug, Drop, PartialEq, Eq)]
+#[derive(Clone, Debug, Drop, PartialEq, Eq)]
 pub struct SourceFile {
     /// The path, whose segments name the collection, the package and the file.
     pub path: Text,
@@ -17,7 +17,7 @@ pub struct SourceFile {
 }
 
 impl SourceFile {
-    /// An equal file.
+    /// Returns an equal file.
     ///
     /// # Errors
     ///
@@ -31,18 +31,10 @@ impl SourceFile {
     }
 }
 
-impl Clone for SourceFile {
-    ghost is_clone = { λ a b. b ≡ a };
-
-    fn clone(&self) -> std::result::Result<SourceFile, AllocError> {
-        let path = self.path.clone()?;
-        let text = self.text.clone()?;
-        Ok(SourceFile { path, text })
-    }
-}
-
 impl ExactClone for SourceFile {
-    ghost exact = { λ x y e. e };
+    ghost use Rattle.std.proofs.Common.{rules};
+
+    ghost exact = { λ x y e. Prim.search rules };
 }
 
 impl ExactEq for SourceFile {

@@ -32,3 +32,5 @@ mod refused_requirements;
 mod sampled_commands;
 #[cfg(test)]
 mod scores;
+#[cfg(test)]
+mod swapped_files;

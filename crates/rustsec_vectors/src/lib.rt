@@ -21,6 +21,8 @@ mod databases;
 #[cfg(test)]
 mod dates;
 #[cfg(test)]
+mod disk;
+#[cfg(test)]
 mod fixes;
 #[cfg(test)]
 mod folders;
@@ -38,6 +40,8 @@ mod informational;
 mod intervals;
 #[cfg(test)]
 mod lint;
+#[cfg(test)]
+mod listings;
 #[cfg(test)]
 mod lockfiles;
 #[cfg(test)]

@@ -1,0 +1,19 @@
+-- The names in a folder's listing, and what is said of a folder that cannot be listed.
+use Rattle.std.specs.Prelude.{◌==◌, ◌||◌, ◌⊎◌, ℕ, Bool, List, codes, filter, length, not}
+use Rattle.std.specs.List.{slice_split}
+use Rattle.std.specs.Str.{bytes_eq}
+use Rattle.rustsec_files.specs.ReadFailures.{IsReadFailure}
+use Rattle.rustsec_folders.specs.Names.{under}
+use Rattle.rustsec_versions.specs.Failure.{Failure}
+
+-- whether a part of a listing is the name of an entry: it is not empty, and neither the folder itself nor its parent
+abbrev pub is_entry_name : List ℕ → Bool
+is_entry_name name = not (length name == 0 || (bytes_eq name (codes ".") || bytes_eq name (codes "..")))
+
+-- the names of the entries in a listing, which has a NUL after each name
+abbrev pub entry_names : List ℕ → List (List ℕ)
+entry_names listing = filter is_entry_name (slice_split (λ b. b == 0) listing)
+
+-- the failure of a folder that cannot be listed, or of an entry of it that cannot be looked at
+abbrev pub IsListFailure : List ℕ → Failure → Type 0
+IsListFailure folder e = IsReadFailure folder e ⊎ ((name : List ℕ) × IsReadFailure (under folder name) e)
