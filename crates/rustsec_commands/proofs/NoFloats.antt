@@ -21,7 +21,7 @@ use Rattle.rustsec_report.specs.declared.report.Report.{Report}
 use Rattle.rustsec_report.specs.declared.settings.Settings.{Settings}
 use Rattle.rustsec_report.specs.declared.warning.Warning.{Warning}
 
--- a tree without a float, and members whose trees are such
+-- a tree without a float, and members whose trees have no float
 abbrev pub Plain : Data → Type 0
 Plain d = has_float d ≡ false
 

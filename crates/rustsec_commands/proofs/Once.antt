@@ -1,4 +1,4 @@
--- Where each path has one answer, each command has one output.
+-- If each path has one answer, each command has one output.
 use Rattle.std.proofs.Common.{◌≡◌, ◌≢◌, ◌⊎◌, ◌∙◌, ℕ, List, [], ◌++◌, Option, None, Some, false, true, ap, inl, inr, refl, subst, sym}
 use Rattle.std.proofs.lemmas.List.Sorted.{IsPermutation-refl}
 use Rattle.toml.specs.Data.{Members}

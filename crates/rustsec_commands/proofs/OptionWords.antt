@@ -5,20 +5,20 @@ use Rattle.std.proofs.lemmas.Slice.Eq.{bytes_eq-Decides}
 use Rattle.std.proofs.lemmas.List.{append_assoc, drop_all, drop_more}
 use Rattle.rustsec_commands.specs.Options.{Options, no_options, options_of, with_denied, with_ignored}
 
--- some options, and others behind them
+-- some options, and others after them
 abbrev pub behind : Options → Options → Options
 behind a b = record { ignored = a.ignored ++ b.ignored; deny_warnings = a.deny_warnings || b.deny_warnings }
 
--- options behind others, where there are any
+-- as `behind`, or `None` if the others are `None`
 abbrev pub behind_all : Options → Option Options → Option Options
 behind_all a o = option_map (behind a) o
 
--- what words stand for behind `--ignore`, or behind a whole option
+-- the options that words name after `--ignore`, or after a whole option
 abbrev pub awaited : Bool → List (List ℕ) → Option Options
 awaited true words = options_of (codes "--ignore" ∷ words)
 awaited false words = options_of words
 
--- options with one more ID behind the others
+-- options with one more ID after the others
 abbrev pub also : Options → List ℕ → Options
 also a id = record { ignored = a.ignored ++ id ∷ []; deny_warnings = a.deny_warnings }
 
@@ -47,7 +47,7 @@ all_ignored : (a : Options) (id : List ℕ) (o : Option Options) → behind_all 
 all_ignored a id None = refl
 all_ignored a id (Some b) = ap Some (ignored a b id)
 
--- ---- one word more
+-- ---- one more word
 
 pub denies : (a : Options) (word : List ℕ) (words : List (List ℕ)) → bytes_eq word (codes "--deny-warnings") ≡ true
     → behind_all a (awaited false (word ∷ words)) ≡ behind_all (with_denied a) (awaited false words)
@@ -70,7 +70,7 @@ unfolding options_of
 another word [] denies ignores = rw denies refl
 another word (next ∷ words) denies ignores = rw (denies, ignores) refl
 
--- ---- no word more
+-- ---- no more words
 
 pub whole : (a : Options) → behind_all a (awaited false []) ≡ Some a
 unfolding options_of
@@ -80,9 +80,9 @@ pub unfinished : awaited true [] ≡ None
 unfolding options_of
 unfinished = refl
 
--- ---- words behind references
+-- ---- words as references
 
--- what the words from the i-th on stand for
+-- the options that the words from the i-th on name
 abbrev pub rest_of : Bool → List (Bor (List ℕ)) → ℕ → Option Options
 rest_of awaits words i = awaited awaits (map (λ w. w.now) (drop i words))
 
@@ -93,7 +93,7 @@ rest-more awaits words i d low = ap (λ ws. awaited awaits (map (λ w. w.now) ws
 pub rest-end : (awaits : Bool) (words : List (Bor (List ℕ))) (i : ℕ) → length words ≤ i → rest_of awaits words i ≡ awaited awaits []
 rest-end awaits words i high = ap (λ ws. awaited awaits (map (λ w. w.now) ws)) (drop_all i words high)
 
--- what std takes beyond the last word
+-- the value that std uses beyond the last word
 abbrev pub no_word : Bor (List ℕ)
 no_word = record { ref_ptr = (0, 0); now = [] }
 

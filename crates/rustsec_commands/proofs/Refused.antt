@@ -1,4 +1,4 @@
--- The output of `audit` for an ID that is refused; the report of what was opened and of the lockfile that was read then.
+-- The output of `audit` for an ID that is refused; the report on a lockfile that is read after the database was opened.
 use Rattle.std.proofs.Common.{◌≡◌, ◌≢◌, ◌∙◌, ℕ, List, None, Some, ap, inl, inr}
 use Rattle.toml.specs.Data.{Members}
 use Rattle.rustsec_values.specs.Reading.{read_all}
@@ -26,7 +26,7 @@ pub misread-by : (allowed : Allowed) (root lock : List ℕ) (words : List (List 
 misread-by allowed root lock words o p e known (inl (k, none)) other is = misread p known none (is ∙ ap refused_as k)
 misread-by allowed root lock words o p e known (inr memory) other is = absurd (other (ap (λ (f : Failure). f.kind) memory))
 
--- folders allow after opening what they allow before
+-- after the database was opened, the folders allow the same answers as before
 pub report-of-paths : (a b : Allowed) (root lock : List ℕ) (s : Settings) (advisories : List Advisory) (packages : List PackageValue) (r : Report)
     → AllowSame a b → AreOpened a root advisories → IsLockfileAt b lock packages
     → ((files : List SourceFile) (table : Members) → AreLoaded files advisories → packages_of table ≡ Some packages → IsReportOf files table s r)

@@ -1,4 +1,4 @@
--- How what the lines ask follows a loop over them.
+-- A loop over the lines of an input, and the requirements and versions of the lines so far.
 use Rattle.std.proofs.Common.{◌≡◌, ◌==◌, ℕ, ◌+◌, ◌<◌, ◌≤◌, true, false, List, [], ◌∷◌, ◌++◌, Option, Some, None, length, take, get_or, refl, sym, ap, ◌∙◌, append-nil, arith, below_more, subst}
 use Rattle.std.specs.Prelude.{is_none, nat_lt}
 use Rattle.std.specs.List.{enumerate_from, position_or_len}
@@ -40,7 +40,7 @@ some-there o l h = rw h refl
 pub none-more : (lines : List (Option Line)) (i : ℕ) (l : Line) → NoneBefore lines i → get_or lines i None ≡ Some l → NoneBefore lines (i + 1)
 none-more lines i l before at = below_more _ i before (some-there (get_or lines i None) l at)
 
--- ---- what the lines ask
+-- ---- the requirements and versions of the lines
 
 asked-push : (lines : List (Option Line)) (l : Line) → asked (lines ++ Some l ∷ []) ≡ with_line (asked lines) l
 asked-push lines blank = rw (filter_map-append patched_in, filter_map-append unaffected_in, filter_map-append version_in) (simp append-nil)
@@ -61,7 +61,7 @@ pair-second : (a b : ℕ) (x y : List ℕ) → ◌≡◌ {A = ℕ × List ℕ} (
 pair-second a b x y e = ap (λ (p : ℕ × List ℕ). p.1) e
 
 module _ (q : Question) (input : List ℕ) where
-  -- the line that follows so many
+  -- the line at the place i
   pub next-line : (i n : ℕ) (line : List ℕ) (o : Option Line) → i < length (enumerate_from 0 (lines_of input))
       → ◌≡◌ {A = ℕ × List ℕ} (n, line) (get_or (enumerate_from 0 (lines_of input)) i (n, line)) → o ≡ asked_by q (line_says line)
       → (n ≡ i) × ((i < length (says q input)) × (get_or (says q input) i None ≡ o))
@@ -78,28 +78,28 @@ module _ (q : Question) (input : List ℕ) where
         ),
       )
 
-  -- all lines are said
+  -- after the last line, no line is left
   pub no-line : (i : ℕ) → i ≡ length (enumerate_from 0 (lines_of input)) → length (says q input) ≤ i
   no-line i e = omega (arith, e, length-enumerate_from 0 (lines_of input), length-map (lines_of input) (λ l. asked_by q (line_says l)))
 
-  -- there are at most as many lines as bytes, and one
+  -- there is at most one line more than there are bytes
   pub few-lines : (i : ℕ) → i < length (enumerate_from 0 (lines_of input)) → i ≤ length input
   few-lines i low =
       omega (arith, low, length-enumerate_from 0 (lines_of input), length-slice_split (λ b. b == 10) input, count_by-le-length (λ b. b == 10) input)
 
 -- ---- the whole output
 
--- the ranges of what is asked, where no line is malformed
+-- the output of `ranges`, if no line is malformed
 pub ranges-given : (input : List ℕ) (a : Asked) (o : Output) → first_malformed (says question.Ranges input) ≡ None → a ≡ asked (says question.Ranges input)
     → AreRangeLines a.lists o → IsRangesOutput input o
 ranges-given input a o e h t =
     subst (λ (x : Option ℕ). AreRangeLinesOr x ((asked (says question.Ranges input)).lists) o) (sym e) (subst (λ (b : Asked). AreRangeLines b.lists o) h t)
 
--- a line that is malformed
+-- the output of `ranges`, if a line is malformed
 pub ranges-malformed : (input : List ℕ) (place : ℕ) (o : Output) → first_malformed (says question.Ranges input) ≡ Some place → o ≡ malformed place → IsRangesOutput input o
 ranges-malformed input place o e h = subst (λ (x : Option ℕ). AreRangeLinesOr x ((asked (says question.Ranges input)).lists) o) (sym e) h
 
--- the verdicts of what is asked, where no line is malformed
+-- the output of `affected`, if no line is malformed
 pub affected-given : (input : List ℕ) (a : Asked) → first_malformed (says question.Verdicts input) ≡ None → a ≡ asked (says question.Verdicts input)
     → affected_output input ≡ verdicts a
 affected-given input a e h = ap (λ (x : Option ℕ). verdicts_or x (asked (says question.Verdicts input))) e ∙ ap verdicts (sym h)

@@ -1,4 +1,4 @@
--- Words that name no command, by how many they are.
+-- Words that do not name a command, by their number.
 use Rattle.std.proofs.Common.{◌≡◌, ◌≢◌, ◌<◌, ◌≤◌, ℕ, List, [], ◌∷◌, Bor, arith, codes, false, get_or, inl, inr, length, map, nat_eq, refl}
 use Rattle.std.proofs.lemmas.Bool.{cases_Bool}
 use Rattle.std.specs.Cmp.Lexicographic.{bytes_decides, pointwise}

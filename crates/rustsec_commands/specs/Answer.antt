@@ -1,4 +1,4 @@
--- What the command `ranges` leaves behind: its status, and what its writer holds.
+-- The result of the command `ranges`: its status, and what its writer holds afterwards.
 use Rattle.std.specs.Prelude.{◌≡◌, ℕ, List, Option}
 use Rattle.std.specs.Io.KnownBytes.{Appends}
 use Rattle.rustsec_commands.specs.Output.{IsRangesOutput, Output}

@@ -1,15 +1,15 @@
--- What the lines of an input ask together.
+-- The requirements and the versions of the lines of an input.
 use Rattle.std.specs.Prelude.{ℕ, List, Option, Some, None, filter_map, is_none, map, position}
 use Rattle.semver.specs.Parse.{Held, Parts}
 use Rattle.rustsec_versions.specs.Lists.{Lists}
 use Rattle.rustsec_commands.specs.Line.{Line, asked_by, blank, line_says, lines_of, patched, unaffected, version}
 use Rattle.rustsec_commands.specs.declared.asked.Question.{Question}
 
--- what each line of an input says to a question
+-- each line of an input, as it is parsed for a question
 abbrev pub says : Question → List ℕ → List (Option Line)
 says q input = map (λ line. asked_by q (line_says line)) (lines_of input)
 
--- the place of the first malformed line, from 0
+-- the place of the first malformed line, counted from 0
 abbrev pub first_malformed : List (Option Line) → Option ℕ
 first_malformed lines = position is_none lines
 
@@ -34,7 +34,7 @@ version_in (Some (patched r)) = None
 version_in (Some (unaffected r)) = None
 version_in (Some (version v)) = Some v
 
--- the requirements of the lines, and the versions that they ask about, each in order
+-- the requirements and the versions of the lines, each in order
 pub record Asked : Type 0 where
   pub lists : Lists
   pub versions : List Parts

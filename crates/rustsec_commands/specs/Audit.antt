@@ -1,4 +1,4 @@
--- What the command `audit` writes of a report, and its status.
+-- The text that the command `audit` writes for a report, and its status.
 use Rattle.std.specs.Prelude.{ℕ, ◌==◌, ◌++◌, ◌&&◌, ◌||◌, Bool, not, List, Option, Some, None, codes, flat_map, length, map, if◌then◌else◌}
 use Rattle.std.specs.Fmt.{decimal}
 use Rattle.std.specs.List.{sum}
@@ -16,20 +16,20 @@ use Rattle.rustsec_commands.specs.Output.{Output}
 abbrev pub package_words : PackageValue → List ℕ
 package_words p = p.name ++ (codes " " ++ (parts_text p.version ++ codes "\n"))
 
--- the line of a vulnerability
+-- the line for a vulnerability
 abbrev pub vulnerability_line : Vulnerability → List ℕ
 vulnerability_line v = codes "vulnerability " ++ (v.advisory.id.text ++ (codes " " ++ package_words v.«package»))
 
--- the ID of a warning's advisory, a dash where it has none
+-- the ID of a warning's advisory, or a dash if the warning has no advisory
 abbrev pub id_or_dash : Option Metadata → List ℕ
 id_or_dash None = codes "-"
 id_or_dash (Some m) = m.id.text
 
--- the line of a warning of a kind
+-- the line for a warning of a kind
 abbrev pub warning_line : WarningKind → Warning → List ℕ
 warning_line k w = codes "warning " ++ (warning_kind_name k ++ (codes " " ++ (id_or_dash w.advisory ++ (codes " " ++ package_words w.«package»))))
 
--- the lines of the warnings of a kind
+-- the lines for the warnings of a kind
 abbrev pub kind_lines : WarningKind × List Warning → List ℕ
 kind_lines e = flat_map (warning_line e.0) e.1
 
@@ -37,7 +37,7 @@ kind_lines e = flat_map (warning_line e.0) e.1
 abbrev pub warning_count : List (WarningKind × List Warning) → ℕ
 warning_count es = sum (map (λ e. length e.1) es)
 
--- the last line
+-- the last line, which counts vulnerabilities and warnings
 abbrev pub count_line : ℕ → ℕ → List ℕ
 count_line n m = decimal n ++ (codes " vulnerabilities, " ++ (decimal m ++ codes " warnings\n"))
 
@@ -47,10 +47,10 @@ audit_text r =
     flat_map vulnerability_line r.vulnerabilities.list
     ++ (flat_map kind_lines r.warnings ++ count_line (length r.vulnerabilities.list) (warning_count r.warnings))
 
--- whether a report is bad: there is a vulnerability, or a warning where they are denied
+-- whether a report is bad: there is a vulnerability, or a warning and warnings are denied
 abbrev pub is_bad : Bool → Report → Bool
 is_bad deny r = not (length r.vulnerabilities.list == 0) || (deny && not (warning_count r.warnings == 0))
 
--- the text of a report, and status 1 where it is bad
+-- the text for a report, and status 1 if it is bad
 abbrev pub audit_output : Bool → Report → Output
 audit_output deny r = record { text = audit_text r; status = if is_bad deny r then 1 else 0 }

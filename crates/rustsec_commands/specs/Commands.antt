@@ -10,7 +10,7 @@ use Rattle.rustsec_commands.specs.Words.{Command, affected, audit, command_of, l
 use Rattle.rustsec_commands.specs.declared.words.Command as given
 use Rattle.rustsec_commands.specs.declared.words.Command.TheVariants as command
 
--- a command, by the texts of its words
+-- a command, with the texts of its words
 abbrev pub command_view : given.Command → Command
 command_view command.Affected = affected
 command_view command.Ranges = ranges
@@ -24,8 +24,7 @@ command_view command.Unknown = none
 abbrev pub IsOnlyRangesOutput : List ℕ → Output → Type 0
 IsOnlyRangesOutput input o = IsRangesOutput input o × ((other : Output) → IsRangesOutput input other → other ≡ o)
 
--- an output of a command, over folders that allow these answers; of `affected` and `ranges` something is said if the bytes of
--- the input are known
+-- an output of a command, over folders that allow these answers; the output of `affected` and `ranges` is specified only if the bytes of the input are known
 abbrev pub IsOutputOf : Allowed → Command → Option (List ℕ) → Output → Type 0
 IsOutputOf allowed affected input o = IfSome input (λ bytes. o ≡ affected_output bytes)
 IsOutputOf allowed ranges input o = IfSome input (λ bytes. IsOnlyRangesOutput bytes o)
@@ -49,15 +48,15 @@ reads_input none = false
 abbrev pub words_read_input : List (List ℕ) → Bool
 words_read_input words = reads_input (command_of words)
 
--- what carrying out words leaves, over folders that allow these answers and an input of these bytes: the status and the text
--- of an output of the command that the words name, and nothing else written
+-- the result of carrying out words, over folders that allow these answers and an input of these bytes: the status and the text of an output of the command
+-- that the words name, and nothing else written
 pub record Carries (allowed : Allowed) (words : List (List ℕ)) (input : Option (List ℕ)) (status : ℕ) (old new : Option (List ℕ)) : Type 0 where
   pub output : Output
   pub is_output : IsOutputOf allowed (command_of words) input output
   pub status_is : status ≡ output.status
   pub text : Appends old new output.text
 
--- words have one output at most, where the bytes of the input are known if their command reads it
+-- words have one output at most, if the bytes of the input are known or the command does not read it
 abbrev pub HaveOneOutput : Allowed → List (List ℕ) → Option (List ℕ) → Type 0
 HaveOneOutput allowed words input = (words_read_input words ≡ true → input ≢ None)
     → (one other : Output) → IsOutputOf allowed (command_of words) input one → IsOutputOf allowed (command_of words) input other → one ≡ other

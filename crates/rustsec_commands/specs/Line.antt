@@ -1,4 +1,4 @@
--- The lines of the input, and what each of them says.
+-- The lines of the input, and the content of each.
 use Rattle.std.specs.Prelude.{ℕ, ◌-◌, ◌==◌, List, length, take, drop, Option, Some, None, codes, nat_eq, option_map, slice_index, if◌then◌else◌}
 use Rattle.std.specs.List.{slice_split, starts_with}
 use Rattle.std.specs.Str.{is_utf8}
@@ -7,22 +7,22 @@ use Rattle.rustsec_values.specs.Reading.{value_of}
 use Rattle.rustsec_commands.specs.declared.asked.Question.{Question}
 use Rattle.rustsec_commands.specs.declared.asked.Question.TheVariants as question
 
--- what a line says
+-- the content of a line
 pub data Line : Type 0 where
   blank : Line
   patched : List Held → Line
   unaffected : List Held → Line
   version : Parts → Line
 
--- the lines: what stands between the line feeds
+-- the lines: the texts between the line feeds
 abbrev pub lines_of : List ℕ → List (List ℕ)
 lines_of input = slice_split (λ b. b == 10) input
 
--- a line without the one carriage return that ends it
+-- a line without the one carriage return that ends it, if any
 abbrev pub without_return : List ℕ → List ℕ
 without_return line = if slice_index line (length line - 1) == 13 then take (length line - 1) line else line
 
--- what a text says: a word, one space, and a requirement or a version; nothing where it is malformed
+-- the content of a text: a word, one space, and a requirement or a version; `None` if it is malformed
 abbrev pub by_word : List ℕ → Option Line
 by_word text =
     if starts_with nat_eq text (codes "patched ") then option_map patched (value_of (req_of (drop 8 text)))
@@ -30,18 +30,18 @@ by_word text =
     else if starts_with nat_eq text (codes "version ") then option_map version (value_of (version_parts (drop 8 text)))
     else None
 
--- the same of a line without its carriage return, which may be empty or no UTF-8
+-- the content of a line without its carriage return: an empty line is blank, and one that is not UTF-8 is malformed
 abbrev pub text_says : List ℕ → Option Line
 text_says text =
     if length text == 0 then Some blank
     else if is_utf8 text then by_word text
     else None
 
--- what a line says, or nothing where it is malformed
+-- the content of a line, or `None` if it is malformed
 abbrev pub line_says : List ℕ → Option Line
 line_says line = text_says (without_return line)
 
--- the question about ranges names no version
+-- for the question about ranges, a line that names a version is malformed
 abbrev pub asked_by : Question → Option Line → Option Line
 asked_by question.Verdicts said = said
 asked_by question.Ranges None = None

@@ -12,7 +12,7 @@ use Rattle.rustsec_versions.specs.declared.error.ErrorKind.TheVariants as kind
 abbrev pub error_line : LintError → List ℕ
 error_line f = lint_error_text f ++ codes "\n"
 
--- the answer to an advisory with these lint errors: a line for each, and status 1 where there is one
+-- the output for an advisory with these lint errors: a line for each; status 0 if it has none, else 1
 abbrev pub errors_output : List LintError → Output
 errors_output fs = record { text = flat_map error_line fs; status = if length fs == 0 then 0 else 1 }
 

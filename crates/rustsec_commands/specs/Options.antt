@@ -1,4 +1,4 @@
--- The options of `audit`: the words behind its two paths.
+-- The options of `audit`: the words after its two paths.
 use Rattle.std.specs.Prelude.{ℕ, Bool, true, false, List, [], ◌∷◌, Option, Some, None, codes, option_map, if◌then◌else◌}
 use Rattle.std.specs.Str.{bytes_eq}
 
@@ -16,8 +16,8 @@ with_ignored id o = record { ignored = id ∷ o.ignored; deny_warnings = o.deny_
 abbrev pub with_denied : Options → Options
 with_denied o = record { ignored = o.ignored; deny_warnings = true }
 
--- the options that words stand for: `--deny-warnings`, or `--ignore` and the word behind it, whatever it looks like, in any
--- order and repeated; none where another word stands, or `--ignore` is the last
+-- the options that words name: `--deny-warnings`, or `--ignore` and the word after it, whatever it looks like, in any order and repeated; `None` if another
+-- word is among them, or `--ignore` is the last
 unfoldable pub options_of : List (List ℕ) → Option Options
 options_of [] = Some no_options
 options_of (word ∷ []) = if bytes_eq word (codes "--deny-warnings") then Some (with_denied no_options) else None

@@ -12,7 +12,7 @@ use Rattle.rustsec_osv.specs.References.{references_of}
 use Rattle.rustsec_osv.specs.TreeDocument.{document_tree}
 use Rattle.rustsec_commands.specs.Output.{Output, refused_as, tree_line}
 
--- the tree of a document
+-- the output for a document: its tree, and status 0
 abbrev pub document_output : Document → Output
 document_output d = record { text = tree_line (document_tree d); status = 0 }
 
@@ -20,7 +20,7 @@ document_output d = record { text = tree_line (document_tree d); status = 0 }
 abbrev pub IsDocumentOf : Allowed → List ℕ → List ℕ → Document → Type 0
 IsDocumentOf allowed path modified d = (a : Advisory) × (IsAdvisoryAt allowed path a × IsDocument a modified d)
 
--- how an advisory is refused that has no document: its requirements leave no range, or the address of a page is not one
+-- the refusal of an advisory that has no document: its requirements leave no range, or the address of a page is not a URL
 abbrev pub IsExportRefusal : Advisory → Failure → Type 0
 IsExportRefusal a e = IsRefusal kind.BadParam (HasUnboundedInterval a.versions) e
     ⊎ IsRefusal kind.Parse ((¬ HasUnboundedInterval a.versions) × (references_of a.metadata ≡ None)) e

@@ -1,4 +1,4 @@
--- Texts and statuses; what the commands `affected` and `ranges` write for an input.
+-- Outputs: texts and statuses. The outputs of the commands `affected` and `ranges` for an input.
 use Rattle.std.specs.Prelude.{◌≡◌, ℕ, ◌+◌, true, false, List, ◌++◌, Option, Some, None, codes, flat_map, if◌then◌else◌}
 use Rattle.std.specs.Fmt.{decimal}
 use Rattle.serde_json.specs.Data.{Data}
@@ -18,15 +18,15 @@ pub record Output : Type 0 where
   pub text : List ℕ
   pub status : ℕ
 
--- the answer to a malformed line, by its place from 0; it is printed from 1
+-- the output for a malformed line; its place is counted from 0, and printed from 1
 abbrev pub malformed : ℕ → Output
 malformed place = record { text = codes "line " ++ (decimal (place + 1) ++ codes ": malformed\n"); status = 2 }
 
--- the answer to lists that are not accepted
+-- the output for requirements that are not accepted
 abbrev pub refused : Output
 refused = record { text = codes "refused: bad parameter\n"; status = 2 }
 
--- the answer to a refusal of this kind
+-- the output for an error of this kind
 abbrev pub refused_as : ErrorKind → Output
 refused_as k = record { text = codes "refused: " ++ (kind_text k ++ codes "\n"); status = 2 }
 
@@ -36,7 +36,7 @@ refused_as k = record { text = codes "refused: " ++ (kind_text k ++ codes "\n");
 abbrev pub verdict : Lists → Parts → List ℕ
 verdict ls v = parts_text v ++ (if affected ls v then codes " affected\n" else codes " not affected\n")
 
--- a line for each version asked about, in order
+-- a line for each version, in order
 abbrev pub verdicts : Asked → Output
 verdicts a = if accepted a.lists then record { text = flat_map (verdict a.lists) a.versions; status = 0 } else refused
 
@@ -44,13 +44,13 @@ abbrev pub verdicts_or : Option ℕ → Asked → Output
 verdicts_or (Some place) a = malformed place
 verdicts_or None a = verdicts a
 
--- what `affected` writes
+-- the output of `affected` for an input
 abbrev pub affected_output : List ℕ → Output
 affected_output input = verdicts_or (first_malformed (says question.Verdicts input)) (asked (says question.Verdicts input))
 
 -- ---- ranges
 
--- a side of a range, a dash where it is missing
+-- a side of a range, or a dash if it is missing
 abbrev pub side_text : Option Parts → List ℕ
 side_text None = codes "-"
 side_text (Some v) = parts_text v
@@ -68,7 +68,7 @@ abbrev pub AreRangeLinesOr : Option ℕ → Lists → Output → Type 0
 AreRangeLinesOr (Some place) ls o = o ≡ malformed place
 AreRangeLinesOr None ls o = AreRangeLines ls o
 
--- what `ranges` writes
+-- the output of `ranges` for an input
 abbrev pub IsRangesOutput : List ℕ → Output → Type 0
 IsRangesOutput input o = AreRangeLinesOr (first_malformed (says question.Ranges input)) ((asked (says question.Ranges input)).lists) o
 
@@ -80,6 +80,6 @@ tree_line d = compact_text d ++ codes "\n"
 
 -- ---- usage
 
--- the answer to words that name no command
+-- the output for words that do not name a command
 abbrev pub usage : Output
 usage = record { text = codes "usage: rustsec_audit COMMAND\n"; status = 2 }

@@ -1,4 +1,4 @@
--- What the commands over a database and a lockfile write.
+-- The outputs of the commands over a database and a lockfile.
 use Rattle.std.specs.Prelude.{◌≡◌, ◌≢◌, ◌⊎◌, ℕ, List, [], ◌∷◌, Some, None, if◌then◌else◌}
 use Rattle.rustsec_values.specs.Reading.{read_all}
 use Rattle.rustsec_versions.specs.Failure.{Failure}
@@ -19,7 +19,7 @@ use Rattle.rustsec_commands.specs.Audit.{audit_output}
 use Rattle.rustsec_commands.specs.Options.{Options, options_of}
 use Rattle.rustsec_commands.specs.Output.{Output, refused_as, tree_line, usage}
 
--- what the commands ask a report for: these IDs ignored, warnings of the three kinds, and nothing else
+-- the settings of the commands' reports: these IDs are ignored, there are warnings of the three kinds, and nothing else is set
 abbrev pub settings_with : List IdValue → Settings
 settings_with ignored = record {
   target_arch = [];
@@ -29,7 +29,7 @@ settings_with ignored = record {
   informational_warnings = informational.Notice ∷ informational.Unmaintained ∷ informational.Unsound ∷ [];
 }
 
--- the tree of a report, and status 1 where vulnerabilities were found
+-- the output for a report: its tree, and status 1 if vulnerabilities were found
 abbrev pub report_output : Report → Output
 report_output r = record { text = tree_line (report_tree r); status = if r.vulnerabilities.found then 1 else 0 }
 

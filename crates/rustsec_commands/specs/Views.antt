@@ -1,4 +1,4 @@
--- What a contract sees of a line that was read, and of what the lines ask.
+-- What a contract sees of a parsed line, and the requirements and versions after one more line.
 use Rattle.std.specs.Prelude.{[], ◌∷◌, ◌++◌}
 use Rattle.semver.specs.Identifiers.{parts_of}
 use Rattle.rustsec_versions.specs.Views.{comparators_of}
@@ -13,7 +13,7 @@ line_view (line.Patched r) = patched (comparators_of r)
 line_view (line.Unaffected r) = unaffected (comparators_of r)
 line_view (line.Version v) = version (parts_of v)
 
--- what is asked with one more line
+-- the requirements and versions after one more line
 abbrev pub with_line : Asked → Line → Asked
 with_line a blank = a
 with_line a (patched r) = record a { lists = record { patched = a.lists.patched ++ r ∷ []; unaffected = a.lists.unaffected } }

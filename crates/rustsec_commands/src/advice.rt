@@ -1,4 +1,4 @@
-//! What is known of the vulnerabilities and warnings of a report, and what helps, for a person.
+//! Describes the vulnerabilities and warnings of a report to a person, with what helps against them.
 
 use crate::shown::push_shown;
 use rustsec_advisory::Metadata;
@@ -19,7 +19,7 @@ fn add_line(note: &mut String, label: &str, text: &str) -> Result<()> {
     Ok(())
 }
 
-/// Appends the lines of a package.
+/// Appends the lines for a package.
 fn add_package(note: &mut String, package: &Package) -> Result<()> {
     let version = &package.version;
     add_line(note, "\nCrate:     ", package.name.as_str())?;
@@ -27,7 +27,7 @@ fn add_package(note: &mut String, package: &Package) -> Result<()> {
     Ok(())
 }
 
-/// Appends the line of the address of an advisory: its page, or else where it was announced.
+/// Appends the line for the URL of an advisory: its page, or else where it was announced.
 fn add_address(alloc: Global, note: &mut String, advisory: &Metadata) -> Result<()> {
     if let Some(page) = advisory.id.url(alloc)? {
         return add_line(note, "URL:       ", &page);
@@ -38,7 +38,7 @@ fn add_address(alloc: Global, note: &mut String, advisory: &Metadata) -> Result<
     }
 }
 
-/// Appends the lines of an advisory.
+/// Appends the lines for an advisory.
 fn add_advisory(alloc: Global, note: &mut String, advisory: &Metadata) -> Result<()> {
     add_line(note, "Title:     ", advisory.title.as_str())?;
     add_line(note, "Date:      ", advisory.date.as_str())?;
@@ -46,7 +46,7 @@ fn add_advisory(alloc: Global, note: &mut String, advisory: &Metadata) -> Result
     add_address(alloc, note, advisory)
 }
 
-/// Appends the line of a rating, or of a vector that has none.
+/// Appends the line for the severity of a CVSS vector, or for the vector itself if it has no severity.
 fn add_severity(alloc: Global, note: &mut String, cvss: &Cvss) -> Result<()> {
     match cvss.severity() {
         Some(severity) => writeln!(note, "Severity:  {severity}")?,
@@ -58,7 +58,8 @@ fn add_severity(alloc: Global, note: &mut String, cvss: &Cvss) -> Result<()> {
     Ok(())
 }
 
-/// Appends the line of what helps: a version that the advisory calls patched, if it names any.
+/// Appends the line for what helps: an upgrade to a version that the advisory calls patched, or that no
+/// such version is known.
 fn add_solution(alloc: Global, note: &mut String, versions: &Versions) -> Result<()> {
     let mut before = "Solution:  upgrade to ";
     for req in versions.patched() {
@@ -85,7 +86,7 @@ fn add_functions(alloc: Global, note: &mut String, vulnerability: &Vulnerability
     Ok(())
 }
 
-/// Appends what is known of a vulnerability.
+/// Appends the lines for a vulnerability.
 fn add_vulnerability(
     alloc: Global,
     note: &mut String,
@@ -100,7 +101,7 @@ fn add_vulnerability(
     add_functions(alloc, note, vulnerability)
 }
 
-/// Appends what is known of a warning.
+/// Appends the lines for a warning.
 fn add_warning(
     alloc: Global,
     note: &mut String,
@@ -115,7 +116,7 @@ fn add_warning(
     }
 }
 
-/// Appends what is known of the warnings of a kind.
+/// Appends the lines for the warnings of a kind.
 fn add_kind(
     alloc: Global,
     note: &mut String,
@@ -128,7 +129,7 @@ fn add_kind(
     Ok(())
 }
 
-/// Appends what is known of warnings.
+/// Appends the lines for all warnings.
 fn add_warnings(alloc: Global, note: &mut String, warnings: &WarningInfo) -> Result<()> {
     for (kind, list) in warnings.as_map() {
         add_kind(alloc, note, *kind, list.as_slice())?;
@@ -136,8 +137,8 @@ fn add_warnings(alloc: Global, note: &mut String, warnings: &WarningInfo) -> Res
     Ok(())
 }
 
-/// What is known of the vulnerabilities and warnings of a report, and what helps. Only the lines of
-/// this text end in line feeds; what stands in files is shown on one line.
+/// Returns a description of the vulnerabilities and warnings of a report, with what helps. Each text from a
+/// file is shown on one line: only the ends of lines are line feeds.
 pub fn advice(alloc: Global, report: &Report) -> Result<String> {
     let mut note = String::new(alloc);
     for vulnerability in report.vulnerabilities.list.as_slice() {

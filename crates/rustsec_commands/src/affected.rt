@@ -11,7 +11,7 @@ use semver::Version;
 use std::alloc::{AllocError, Global};
 use std::fmt::Write as _;
 
-/// A line for each version.
+/// Returns a line for each version, which says whether it is affected.
 fn verdict_lines(
     alloc: Global,
     lists: &Versions,
@@ -30,7 +30,7 @@ fn verdict_lines(
     Ok(text)
 }
 
-/// The verdicts, where no line is malformed.
+/// Makes the output of `affected` for an input without a malformed line.
 fn verdicts(alloc: Global, asked: Asked) -> Result<Output, AllocError>
     ensures { IfOk result (λ o. o ≡ verdicts asked) }
 {
@@ -46,7 +46,7 @@ fn verdicts(alloc: Global, asked: Asked) -> Result<Output, AllocError>
     }
 }
 
-/// What `affected` writes for an input.
+/// Makes the output of `affected` for an input.
 pub fn affected_output(alloc: Global, input: &[u8]) -> Result<Output, AllocError>
     ensures { IfOk result (λ o. o ≡ affected_output input.now) }
 {

@@ -1,4 +1,4 @@
-//! The answers to the commands `affected` and `ranges`, over any reader and writer.
+//! Carries out the commands `affected` and `ranges`, over any reader and writer.
 
 ghost use Rattle.rustsec_commands.specs.declared.fault.Fault.TheVariants as fault;
 ghost use Rattle.std.specs.Prelude.{◌≡◌, ◌≢◌, IfErr, IfOk, IfSome, OnOk};
@@ -14,7 +14,7 @@ use rustsec_files::reading::bytes_of;
 use std::alloc::Global;
 use std::io::{self, ErrorKind, Read, Write};
 
-/// Returns the fault of an error that a reader gave.
+/// Returns the fault for an error of a reader.
 fn fault_of(error: &io::Error) -> Fault
     ensures { result ≢ fault.Write }
 {
@@ -36,7 +36,7 @@ fn read_all<R: Read>(alloc: Global, input: &mut R) -> Result<Vec<u8>, Fault>
     }
 }
 
-/// What `affected` writes for all that a reader has left.
+/// Makes the output of `affected` for all that a reader has left.
 pub(crate) fn affected_of<R: Read>(alloc: Global, input: &mut R) -> Result<Output, Fault>
     ensures ok { IfOk result (λ o. IfSome (R.remaining input.old) (λ bytes. o ≡ affected_output bytes)) }
     ensures err { IfErr result (λ e. e ≢ fault.Write) }
@@ -45,7 +45,7 @@ pub(crate) fn affected_of<R: Read>(alloc: Global, input: &mut R) -> Result<Outpu
     Ok(affected::affected_output(alloc, &bytes)?)
 }
 
-/// What `ranges` writes for all that a reader has left.
+/// Makes the output of `ranges` for all that a reader has left.
 pub(crate) fn ranges_of<R: Read>(alloc: Global, input: &mut R) -> Result<Output, Fault>
     ensures ok { IfOk result (λ o. IfSome (R.remaining input.old) (λ bytes. IsOnlyRangesOutput bytes o)) }
     ensures err { IfErr result (λ e. e ≢ fault.Write) }
@@ -54,14 +54,14 @@ pub(crate) fn ranges_of<R: Read>(alloc: Global, input: &mut R) -> Result<Output,
     Ok(ranges::ranges_output(alloc, &bytes)?)
 }
 
-/// Carries out `affected`: reads all there is, and writes a line for each version that is asked
-/// about. The whole text is made before the first write. The answer is the status: 0, or 2 where a
-/// line is malformed or the lists are not accepted.
+/// Carries out `affected`: reads all there is, and writes a line for each version that the input names. The
+/// whole text is made before the first write. Returns the status: 0, or 2 if a line is malformed or the
+/// requirements are not accepted.
 ///
 /// # Errors
 ///
-/// `Memory` and `Read`, with nothing written; `Write`, after which nothing is said of how much went
-/// out.
+/// `Memory` or `Read`, with nothing written; or `Write`, after which it is unspecified how much was
+/// written.
 pub fn answer<R: Read, W: Write>(alloc: Global, input: &mut R, output: &mut W) -> Result<u8, Fault>
     ensures status { IfOk result (λ s. IfSome (R.remaining input.old) (λ bytes. s ≡ (affected_output bytes).status)) }
     ensures text { OnOk result (IfSome (R.remaining input.old) (λ bytes.
@@ -71,14 +71,14 @@ pub fn answer<R: Read, W: Write>(alloc: Global, input: &mut R, output: &mut W) -
     affected_of(alloc, input)?.write(output)
 }
 
-/// Carries out `ranges`: reads all there is, and writes a line for each range that the requirements
-/// leave. The whole text is made before the first write. The answer is the status: 0, or 2 where a
-/// line is malformed, as one that names a version is here, or the lists are not accepted.
+/// Carries out `ranges`: reads all there is, and writes a line for each range that the requirements leave.
+/// The whole text is made before the first write. Returns the status: 0, or 2 if a line is malformed or the
+/// requirements are not accepted. A line that names a version is malformed here.
 ///
 /// # Errors
 ///
-/// `Memory` and `Read`, with nothing written; `Write`, after which nothing is said of how much went
-/// out.
+/// `Memory` or `Read`, with nothing written; or `Write`, after which it is unspecified how much was
+/// written.
 pub fn answer_ranges<R: Read, W: Write>(
     alloc: Global,
     input: &mut R,

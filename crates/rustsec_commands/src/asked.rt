@@ -1,4 +1,4 @@
-//! What the lines of an input ask together.
+//! Parses the input of the commands `affected` and `ranges`.
 
 ghost use Rattle.std.specs.Prelude.{◌≡◌, ◌≤◌, IfOk, MatchResult, None, OnOk, Some, [], length, option_map};
 ghost use Rattle.rustsec_commands.specs.Asked.{asked, first_malformed, says};
@@ -10,16 +10,16 @@ use semver::{Version, VersionReq};
 use std::alloc::{AllocError, Global};
 use std::marker::Model;
 
-/// What a command asks of its input.
+/// The question that a command answers for its input.
 #[derive(Clone, Copy)]
 pub enum Question {
     /// Which of the versions that the lines name are affected.
     Verdicts,
-    /// Which ranges the requirements leave; no line names a version.
+    /// Which ranges the requirements leave. A line that names a version is malformed.
     Ranges,
 }
 
-/// The requirements of some lines, and the versions that they ask about.
+/// The requirements and the versions of some lines, each in order.
 #[derive(Drop)]
 pub struct Asked {
     pub patched: Vec<VersionReq>,
@@ -39,7 +39,7 @@ impl Model for Asked {
 }
 
 impl Asked {
-    /// What no line asks.
+    /// Returns the requirements and versions of no line.
     fn new(alloc: Global) -> Asked
         ensures { result ≡ asked [] }
     {
@@ -50,7 +50,7 @@ impl Asked {
         }
     }
 
-    /// Takes in one more line.
+    /// Appends the requirement or the version of one more line.
     fn add(&mut self, line: Line) -> Result<(), AllocError>
         ensures { OnOk result (self.new ≡ with_line self.old (line_view line)) }
     {
@@ -64,7 +64,7 @@ impl Asked {
     }
 }
 
-/// What a line says to a question.
+/// Parses a line for a question. A malformed line gives `None`.
 fn said(alloc: Global, question: Question, line: &[u8]) -> Result<Option<Line>, AllocError>
     ensures { IfOk result (λ o. option_map line_view o ≡ asked_by question (line_says line.now)) }
 {
@@ -75,7 +75,7 @@ fn said(alloc: Global, question: Question, line: &[u8]) -> Result<Option<Line>, 
     }
 }
 
-/// What the lines of an input ask, or the place of the first malformed one, from 0.
+/// Parses the lines of an input, or returns the place of the first malformed line, counted from 0.
 pub fn read(
     alloc: Global,
     question: Question,

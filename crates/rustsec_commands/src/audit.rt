@@ -1,4 +1,5 @@
-//! The text of the command `audit`: a line for each vulnerability and each warning, and how many there are.
+//! The text of the command `audit`: a line for each vulnerability and each warning, and one that counts
+//! them.
 
 ghost use Rattle.std.specs.Prelude.{◌≡◌, ◌≢◌, ◌++◌, ◌==◌, ◌&&◌, ◌||◌, IfErr, IfOk, OnOk, flat_map, if◌then◌else◌, length, not, string_bytes};
 ghost use Rattle.std.specs.Io.KnownBytes.{Appends, Keeps};
@@ -14,7 +15,7 @@ use std::alloc::{AllocError, Global};
 use std::fmt::Write as _;
 use std::io::Write;
 
-/// Appends the line of a vulnerability.
+/// Appends the line for a vulnerability.
 fn add_vulnerability(text: &mut String, vulnerability: &Vulnerability) -> Result<(), AllocError>
     ensures { OnOk result (string_bytes text.new ≡ string_bytes text.old ++ vulnerability_line vulnerability.now) }
 {
@@ -35,7 +36,7 @@ fn add_vulnerabilities(text: &mut String, found: &[Vulnerability]) -> Result<(),
     Ok(())
 }
 
-/// Appends the line of a warning.
+/// Appends the line for a warning.
 fn add_warning(text: &mut String, kind: WarningKind, warning: &Warning) -> Result<(), AllocError>
     ensures { OnOk result (string_bytes text.new ≡ string_bytes text.old ++ warning_line kind warning.now) }
 {
@@ -71,7 +72,8 @@ fn add_warnings(text: &mut String, warnings: &WarningInfo) -> Result<(), AllocEr
     Ok(())
 }
 
-/// The number of all warnings. More than a number of this size counts are refused: no memory holds them.
+/// Counts all warnings. A sum that exceeds a `usize` is answered as out of memory: no memory holds that
+/// many.
 fn warning_count(warnings: &WarningInfo) -> Result<usize, AllocError>
     ensures { IfOk result (λ n. n ≡ warning_count warnings.now) }
 {
@@ -85,7 +87,7 @@ fn warning_count(warnings: &WarningInfo) -> Result<usize, AllocError>
     Ok(count)
 }
 
-/// The text of a report with so many warnings.
+/// Returns the text for a report with this number of warnings.
 fn audit_text(alloc: Global, report: &Report, warnings: usize) -> Result<String, AllocError>
     ensures { IfOk result (λ t. string_bytes t ≡ flat_map vulnerability_line report.now.vulnerabilities.list
         ++ (flat_map kind_lines report.now.warnings ++ count_line (length report.now.vulnerabilities.list) warnings)) }
@@ -101,21 +103,21 @@ fn audit_text(alloc: Global, report: &Report, warnings: usize) -> Result<String,
     Ok(text)
 }
 
-/// Whether there is a vulnerability, or a warning where they are denied.
+/// Returns whether there is a vulnerability, or a warning if warnings are denied.
 fn is_bad(vulnerabilities: usize, deny_warnings: bool, warnings: usize) -> bool
     ensures { result ≡ (not (vulnerabilities == 0) || (deny_warnings && not (warnings == 0))) }
 {
     vulnerabilities != 0 || (deny_warnings && warnings != 0)
 }
 
-/// Status 1 where it is bad.
+/// Returns status 1 for a bad report, and 0 for another.
 fn status_of(is_bad: bool) -> u8
     ensures { result ≡ (if is_bad then 1 else 0) }
 {
     if is_bad { 1 } else { 0 }
 }
 
-/// What `audit` writes of a report, and its status.
+/// Makes the output of `audit` for a report: the text and the status.
 pub(crate) fn audit_output(
     alloc: Global,
     deny_warnings: bool,
@@ -130,12 +132,12 @@ pub(crate) fn audit_output(
 }
 
 /// Writes a line for each vulnerability of a report, one for each warning by kind, and one that counts
-/// both. The whole text is made before the first write. The answer is the status: 1 where there is a
-/// vulnerability, or a warning and they are denied; else 0.
+/// both. The whole text is made before the first write. Returns the status: 1 if there is a vulnerability,
+/// or a warning and warnings are denied; else 0.
 ///
 /// # Errors
 ///
-/// `Memory`, with nothing written; `Write`, after which nothing is said of how much went out.
+/// `Memory`, with nothing written; or `Write`, after which it is unspecified how much was written.
 pub fn write_audit<W: Write>(
     alloc: Global,
     report: &Report,

@@ -15,7 +15,7 @@ use std::alloc::Global;
 use std::io::{self, Read, Write};
 use std::rt::Files;
 
-/// Makes what a command writes.
+/// Makes the output of a command.
 fn output_of<F: Folders, R: Read>(
     alloc: Global,
     folders: &mut F,
@@ -39,7 +39,7 @@ fn output_of<F: Folders, R: Read>(
     }
 }
 
-/// Makes what a command writes, writes it, and hands it back.
+/// Makes the output of a command, writes its text, and returns the output.
 fn carry_out<F: Folders, R: Read, W: Write>(
     alloc: Global,
     folders: &mut F,
@@ -58,32 +58,32 @@ fn carry_out<F: Folders, R: Read, W: Write>(
     Ok(made)
 }
 
-/// Carries out the command that the words name, and answers its status:
+/// Carries out the command that the words name, and returns its status:
 ///
 /// - `affected`: as `answer`;
 /// - `ranges`: as `answer_ranges`;
-/// - `lint` and a path: writes a line for each lint error of the advisory in that file; status 1 where there
-///   is one, else 0. A refusal of the file gives `refused: KIND`, status 2. The input is not read;
+/// - `lint` and a path: writes a line for each lint error of the advisory in that file; status 1 if it has
+///   a lint error, else 0. A refusal of the file gives `refused: KIND`, status 2. The input is not read;
 /// - `osv`, a path and a time: writes the tree of the document of the advisory in that file, as changed at
 ///   that time, on one line; status 0. A refusal of the file or of the export is answered as under `lint`.
 ///   The input is not read;
-/// - `report`, a root and the path of a lockfile: writes the tree of the report that the database under
-///   the root gives of the lockfile, on one line; status 1 where vulnerabilities were found, else 0. A
-///   refusal of the database or of the lockfile is answered as under `lint`. The input is not read;
+/// - `report`, a root and the path of a lockfile: writes the tree of the report on the lockfile by the
+///   database under the root, on one line; status 1 if vulnerabilities were found, else 0. A refusal of the
+///   database or of the lockfile is answered as under `lint`. The input is not read;
 /// - `audit`, a root, the path of a lockfile and options: writes the same report as `write_audit` does.
 ///   The options are `--deny-warnings`, and `--ignore` with the ID after it, in any order and repeated;
 ///   other words give the usage line, status 2. An ID that is refused is answered before the database is
 ///   opened. The input is not read;
 /// - any other words: writes the usage line, status 2.
 ///
-/// All files are read through `folders`. After the output a note goes to `notes`, for a person: why something
-/// is refused, what helps against what `audit` found, how the program is used, or what failed. The note's
-/// wording is unspecified. It is lost if it cannot be written or memory for it is refused.
+/// All files are read through `folders`. After the output a note for a person is written to `notes`: why
+/// something is refused, what helps against what `audit` found, how the program is used, or what failed.
+/// The note's wording is unspecified. The note is lost if it cannot be written or memory for it is refused.
 ///
 /// # Errors
 ///
-/// `Memory` and `Read`, with nothing written; `Write`, after which nothing is said of how much went
-/// out.
+/// `Memory` or `Read`, with nothing written; or `Write`, after which it is unspecified how much was
+/// written.
 pub fn run_over<F: Folders, R: Read, W: Write, N: Write>(
     folders: &mut F,
     alloc: Global,
@@ -97,7 +97,7 @@ pub fn run_over<F: Folders, R: Read, W: Write, N: Write>(
     ensures unread { words_read_input (map (λ w. w.now) words.now) ≡ false → R.remaining input.new ≡ R.remaining input.old }
     ensures kept { IfErr result (λ e. e ≢ fault.Write → Keeps (W.contents output.old) (W.contents output.new)) }
 
-    // Where each path has one answer, there is no other output and no other status.
+    // If each path has one answer, there is no other output and no other status.
     ensures once { AnswersOnce (F.allowed folders.old) → HaveOneOutput (F.allowed folders.old) (map (λ w. w.now) words.now) (R.remaining input.old) }
     ensures same { AllowSame (F.allowed folders.old) (F.allowed folders.new) }
 {
@@ -113,7 +113,7 @@ pub fn run_over<F: Folders, R: Read, W: Write, N: Write>(
     }
 }
 
-/// Carries out the command that the words name, as `run_over` over the folders of the disk.
+/// Carries out the command that the words name as `run_over` does, over the folders of the disk.
 ///
 /// # Errors
 ///
@@ -134,7 +134,7 @@ pub fn run_with_notes<T: Files + AllocGlobal, R: Read, W: Write, N: Write>(
     run_over(&mut folders, rt.alloc(), words, input, output, notes)
 }
 
-/// Carries out the command that the words name, as `run_with_notes`, without the note.
+/// Carries out the command that the words name as `run_with_notes` does, without the note.
 ///
 /// # Errors
 ///

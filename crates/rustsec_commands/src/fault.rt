@@ -1,10 +1,10 @@
-//! Why a command gave no answer.
+//! The reasons why a command gave no answer.
 
 use std::alloc::AllocError;
 use std::io::Write;
 use thiserror::Error;
 
-/// Why a command gave no answer.
+/// The reason why a command gave no answer.
 #[derive(Clone, Copy, Debug, PartialEq, Eq, Error)]
 pub enum Fault {
     /// Memory was refused.
@@ -19,7 +19,7 @@ pub enum Fault {
 }
 
 impl Fault {
-    /// Writes what failed, as a note. One that cannot be written is lost.
+    /// Writes a note that says what failed. A note that cannot be written is lost.
     pub(crate) fn write_note<N: Write>(self, notes: &mut N) {
         let note = match self {
             Fault::Memory => "rustsec_audit: out of memory\n",

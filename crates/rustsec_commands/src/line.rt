@@ -1,4 +1,4 @@
-//! The lines of the input.
+//! Parses a line of the input.
 
 ghost use Rattle.std.specs.Prelude.{◌≡◌, IfOk, option_map};
 ghost use Rattle.semver.specs.Identifiers.{parts_of};
@@ -13,7 +13,7 @@ use semver::{Version, VersionReq};
 use std::alloc::{AllocError, Global};
 use std::str;
 
-/// What a line says.
+/// The content of a line.
 #[derive(Drop)]
 pub enum Line {
     Blank,
@@ -22,7 +22,7 @@ pub enum Line {
     Version(Version),
 }
 
-/// The line without the carriage return that ends it.
+/// Returns the line without the one carriage return that ends it, if any.
 fn without_return(line: &[u8]) -> &[u8]
     ensures { result.now ≡ without_return line.now }
 {
@@ -32,7 +32,7 @@ fn without_return(line: &[u8]) -> &[u8]
     }
 }
 
-/// The requirement of a text, if it is one.
+/// Parses a requirement. A text that is not a requirement gives `None`.
 fn requirement(alloc: Global, text: &str) -> Result<Option<VersionReq>, AllocError>
     ensures { IfOk result (λ o. option_map comparators_of o ≡ value_of (req_of text.now)) }
 {
@@ -43,7 +43,7 @@ fn requirement(alloc: Global, text: &str) -> Result<Option<VersionReq>, AllocErr
     }
 }
 
-/// The version of a text, if it is one.
+/// Parses a version. A text that is not a version gives `None`.
 fn version(alloc: Global, text: &str) -> Result<Option<Version>, AllocError>
     ensures { IfOk result (λ o. option_map parts_of o ≡ value_of (version_parts text.now)) }
 {
@@ -54,7 +54,7 @@ fn version(alloc: Global, text: &str) -> Result<Option<Version>, AllocError>
     }
 }
 
-/// What a text says by its word, or nothing where it is malformed.
+/// Parses a text by the word that it begins with. A malformed text gives `None`.
 fn by_word(alloc: Global, text: &str) -> Result<Option<Line>, AllocError>
     ensures { IfOk result (λ o. option_map line_view o ≡ by_word text.now) }
 {
@@ -69,7 +69,7 @@ fn by_word(alloc: Global, text: &str) -> Result<Option<Line>, AllocError>
     }
 }
 
-/// What a line says, or nothing where it is malformed.
+/// Parses a line. A malformed line gives `None`.
 pub fn line_says(alloc: Global, line: &[u8]) -> Result<Option<Line>, AllocError>
     ensures { IfOk result (λ o. option_map line_view o ≡ line_says line.now) }
 {

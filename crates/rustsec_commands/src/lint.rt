@@ -11,7 +11,7 @@ use rustsec_folders::Folders;
 use std::alloc::{AllocError, Global};
 use std::fmt::Write as _;
 
-/// A line for each lint error.
+/// Returns a line for each lint error.
 fn error_lines(alloc: Global, errors: &[linter::Error]) -> Result<String, AllocError>
     ensures { IfOk result (λ t. string_bytes t ≡ flat_map error_line errors.now) }
 {
@@ -22,7 +22,7 @@ fn error_lines(alloc: Global, errors: &[linter::Error]) -> Result<String, AllocE
     Ok(text)
 }
 
-/// The answer to an advisory: its lint errors.
+/// Makes the output for the lint errors of an advisory.
 fn errors_output(alloc: Global, linter: &Linter) -> Result<Output, AllocError>
     ensures { IfOk result (λ o. o ≡ errors_output linter.now.errors) }
 {
@@ -32,7 +32,7 @@ fn errors_output(alloc: Global, linter: &Linter) -> Result<Output, AllocError>
     Ok(Output::new(text, status))
 }
 
-/// Makes what `lint` writes for the file at a path.
+/// Makes the output of `lint` for the file at a path.
 pub fn lint_output<F: Folders>(
     alloc: Global,
     folders: &mut F,

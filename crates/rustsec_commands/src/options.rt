@@ -12,7 +12,7 @@ use rustsec_versions::ErrorKind;
 use std::alloc::{AllocError, Global};
 use std::marker::Model;
 
-/// What the words behind the two paths of `audit` ask for.
+/// The options that the words after the two paths of `audit` name.
 #[derive(Drop)]
 pub struct Options<'a> {
     /// The texts of the IDs that are ignored.
@@ -30,7 +30,7 @@ impl<'a> Model for Options<'a> {
     ghost view = { λ o. record { ignored = map (λ t. t.now) o.ignored.items; deny_warnings = o.deny_warnings } };
 }
 
-/// The IDs of texts, in order.
+/// Parses IDs, in order. A text that is not an ID gives the error `Parse`.
 fn ids_of(alloc: Global, texts: &[&str]) -> rustsec_versions::Result<Items<Id>>
     ensures ok { IfOk result (λ ids. read_all id_of (map (λ t. t.now) texts.now) ≡ Some ids) }
     ensures err { IfErr result (IsRefusal ErrorKind.Parse (read_all id_of (map (λ t. t.now) texts.now) ≡ None)) }
@@ -46,7 +46,7 @@ fn ids_of(alloc: Global, texts: &[&str]) -> rustsec_versions::Result<Items<Id>>
 }
 
 impl<'a> Options<'a> {
-    /// The IDs that are ignored.
+    /// Parses the IDs that are ignored. A text that is not an ID gives the error `Parse`.
     pub fn ignored_ids(&self, alloc: Global) -> rustsec_versions::Result<Items<Id>>
         ensures ok { IfOk result (λ ids. read_all id_of self.now.ignored ≡ Some ids) }
         ensures err { IfErr result (IsRefusal ErrorKind.Parse (read_all id_of self.now.ignored ≡ None)) }
@@ -54,7 +54,7 @@ impl<'a> Options<'a> {
         ids_of(alloc, self.ignored.as_slice())
     }
 
-    /// Whether a warning is as bad as a vulnerability.
+    /// Returns whether a warning is as bad as a vulnerability.
     pub fn denies_warnings(&self) -> bool
         ensures { result ≡ self.now.deny_warnings }
     {
@@ -62,7 +62,7 @@ impl<'a> Options<'a> {
     }
 }
 
-/// The options that some words stand for; none where they stand for none.
+/// Parses words as options. Another word than an option, or a last `--ignore` without its ID, gives `None`.
 pub fn options_of<'a>(alloc: Global, words: &[&'a str]) -> Result<Option<Options<'a>>, AllocError>
     ensures { IfOk result (λ o. o ≡ options_of (map (λ w. w.now) words.now)) }
 {

@@ -13,7 +13,7 @@ use rustsec_folders::Folders;
 use rustsec_osv::OsvAdvisory;
 use std::alloc::{AllocError, Global};
 
-/// The text of a document's tree on one line.
+/// Returns the text of a document's tree on one line.
 fn document_line(alloc: Global, document: &OsvAdvisory) -> Result<String, AllocError>
     ensures { IfOk result (λ t. string_bytes t ≡ tree_line (document_tree document.now)) }
 {
@@ -23,7 +23,7 @@ fn document_line(alloc: Global, document: &OsvAdvisory) -> Result<String, AllocE
     }
 }
 
-/// What `osv` writes of a document.
+/// Makes the output of `osv` for a document.
 fn document_output(alloc: Global, document: &OsvAdvisory) -> Result<Output, AllocError>
     ensures { IfOk result (λ o. o ≡ document_output document.now) }
 {
@@ -31,7 +31,7 @@ fn document_output(alloc: Global, document: &OsvAdvisory) -> Result<Output, Allo
     Ok(Output::new(text, 0))
 }
 
-/// Exports the advisory in the file at a path, which was last changed at a time.
+/// Exports the advisory in the file at a path, with `modified` as the time of its last change.
 fn document_of<F: Folders>(
     alloc: Global,
     folders: &mut F,
@@ -46,7 +46,7 @@ fn document_of<F: Folders>(
     OsvAdvisory::from_rustsec(alloc, advisory, modified)
 }
 
-/// Makes what `osv` writes for the file at a path, which was last changed at a time.
+/// Makes the output of `osv` for the file at a path, with `modified` as the time of its last change.
 pub fn osv_output<F: Folders>(
     alloc: Global,
     folders: &mut F,

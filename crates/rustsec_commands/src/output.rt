@@ -1,4 +1,4 @@
-//! The text that a command writes, its status and a note; the answers that commands share.
+//! The output of a command: a text, a status and a note. Also the outputs that commands share.
 
 ghost use Rattle.rustsec_commands.specs.declared.fault.Fault.TheVariants as fault;
 ghost use Rattle.std.specs.Prelude.{◌≡◌, ◌<◌, ◌^◌, ◌-◌, IfErr, IfOk, OnOk, false, string_bytes};
@@ -18,7 +18,7 @@ use std::io::Write;
 use std::marker::Model;
 use std::str;
 
-/// A text, the status that goes with it, and a note for a person, of which no contract speaks.
+/// A text, the status that goes with it, and a note for a person. No contract mentions the note.
 #[derive(Drop)]
 pub struct Output {
     text: String,
@@ -36,7 +36,7 @@ impl Model for Output {
 }
 
 impl Output {
-    /// A text and a status, without a note.
+    /// Returns the output of a text and a status, without a note.
     pub fn new(text: String, status: u8) -> Output
         ensures { result ≡ record { text = string_bytes text; status = status } }
     {
@@ -47,7 +47,7 @@ impl Output {
         }
     }
 
-    /// The same with a note, if there is one.
+    /// Returns the output with another note, or without a note if `note` is `None`.
     pub fn with_note(self, note: Option<String>) -> Output
         ensures { result ≡ self }
     {
@@ -58,21 +58,21 @@ impl Output {
         }
     }
 
-    /// Writes the note, if there is one. A note that cannot be written is lost.
+    /// Writes the note, if any. A note that cannot be written is lost.
     pub fn write_note<N: Write>(&self, notes: &mut N) {
         if let Some(note) = &self.note {
             let _ = notes.write_all(note.as_bytes());
         }
     }
 
-    /// The status.
+    /// Returns the status.
     pub fn status(&self) -> u8
         ensures { result ≡ self.now.status }
     {
         self.status
     }
 
-    /// The whole text is written, and nothing else.
+    /// Writes the whole text and nothing else, and returns the status. The only error is `Write`.
     pub fn write<W: Write>(&self, output: &mut W) -> Result<u8, Fault>
         ensures status { IfOk result (λ s. s ≡ self.now.status) }
         ensures text { OnOk result (Appends (W.contents output.old) (W.contents output.new) self.now.text) }
@@ -85,10 +85,10 @@ impl Output {
     }
 }
 
-/// What a line may be.
+/// The forms that a line may have.
 const LINES: &str = "`patched REQ`, `unaffected REQ`, for `affected` also `version V`, or nothing";
 
-/// The line at a place.
+/// Returns the line at a place, counted from 0, or an empty line if the input has no such line.
 fn line_at(input: &[u8], place: usize) -> &[u8] {
     for (i, line) in input.split(|b| *b == b'\n').enumerate() {
         if i == place {
@@ -98,7 +98,7 @@ fn line_at(input: &[u8], place: usize) -> &[u8] {
     &[]
 }
 
-/// What is said of the malformed line at a place.
+/// Returns the note about the malformed line at a place.
 fn line_note(alloc: Global, input: &[u8], place: usize) -> Result<String, AllocError> {
     let number = place.saturating_add(1);
     let mut note = format!(in alloc; "rustsec_audit: line {number}: ")?;
@@ -111,7 +111,8 @@ fn line_note(alloc: Global, input: &[u8], place: usize) -> Result<String, AllocE
     Ok(note)
 }
 
-/// The answer to the malformed line of an input at a place.
+/// Makes the output for an input with a malformed line at a place. The place is counted from 0, and printed
+/// from 1.
 pub fn malformed(alloc: Global, input: &[u8], place: usize) -> Result<Output, AllocError>
     requires { place < 2 ^ 64 - 1 }
     ensures { IfOk result (λ o. o ≡ malformed place) }
@@ -121,7 +122,7 @@ pub fn malformed(alloc: Global, input: &[u8], place: usize) -> Result<Output, Al
     Ok(Output::new(text, 2).with_note(line_note(alloc, input, place).ok()))
 }
 
-/// The answer to lists that are not accepted.
+/// Makes the output for requirements that are not accepted.
 pub fn refused(alloc: Global, error: &Error) -> Result<Output, AllocError>
     ensures { IfOk result (λ o. o ≡ refused) }
 {
@@ -129,7 +130,7 @@ pub fn refused(alloc: Global, error: &Error) -> Result<Output, AllocError>
     Ok(Output::new(text, 2).with_note(why(alloc, error).ok()))
 }
 
-/// The answer to words that name no command.
+/// Makes the output for words that do not name a command.
 pub fn usage(alloc: Global) -> Result<Output, AllocError>
     ensures { IfOk result (λ o. o ≡ usage) }
 {
@@ -138,7 +139,7 @@ pub fn usage(alloc: Global) -> Result<Output, AllocError>
     Ok(Output::new(text, 2).with_note(note.ok()))
 }
 
-/// The text of a tree on one line.
+/// Returns the text of a tree on one line, with a line feed at its end.
 pub fn tree_line(alloc: Global, tree: &Value) -> Result<String, AllocError>
     ensures { IfOk result (λ t. has_float (view tree.now) ≡ false → string_bytes t ≡ tree_line (view tree.now)) }
 {

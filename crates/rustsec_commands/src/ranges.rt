@@ -12,7 +12,7 @@ use semver::Version;
 use std::alloc::{AllocError, Global};
 use std::fmt::Write as _;
 
-/// Appends a side of a range, a dash where it is missing.
+/// Appends a side of a range, or a dash if it is missing.
 fn push_side(text: &mut String, side: &Option<Version>) -> Result<(), AllocError>
     ensures { OnOk result (string_bytes text.new ≡ string_bytes text.old ++ side_text (option_map parts_of side.now)) }
 {
@@ -22,7 +22,7 @@ fn push_side(text: &mut String, side: &Option<Version>) -> Result<(), AllocError
     }
 }
 
-/// A line for each range.
+/// Returns a line for each range.
 fn range_lines(alloc: Global, ranges: &[OsvRange]) -> Result<String, AllocError>
     ensures { IfOk result (λ t. string_bytes t ≡ flat_map range_line ranges.now) }
 {
@@ -36,7 +36,7 @@ fn range_lines(alloc: Global, ranges: &[OsvRange]) -> Result<String, AllocError>
     Ok(text)
 }
 
-/// The ranges, where no line is malformed.
+/// Makes the output of `ranges` for an input without a malformed line.
 fn ranges(alloc: Global, asked: Asked) -> Result<Output, AllocError>
     ensures { IfOk result (AreRangeLines asked.lists) }
 {
@@ -56,7 +56,7 @@ fn ranges(alloc: Global, asked: Asked) -> Result<Output, AllocError>
     Ok(Output::new(range_lines(alloc, &ranges)?, 0))
 }
 
-/// What `ranges` writes for an input.
+/// Makes the output of `ranges` for an input.
 pub fn ranges_output(alloc: Global, input: &[u8]) -> Result<Output, AllocError>
     ensures output { IfOk result (IsRangesOutput input.now) }
     ensures only { IfOk result (λ o. (p : spec.Output) → IsRangesOutput input.now p → p ≡ o) }

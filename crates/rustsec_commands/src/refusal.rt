@@ -1,4 +1,4 @@
-//! The answers to what is refused, each with a note that says why.
+//! The outputs for errors, each with a note that says why.
 
 ghost use Rattle.std.specs.Prelude.{◌≡◌, ◌≢◌, IfOk};
 ghost use Rattle.rustsec_commands.specs.Output.{refused_as};
@@ -9,7 +9,7 @@ use crate::shown::push_shown;
 use rustsec_versions::{Error, ErrorKind, refused_file};
 use std::alloc::{AllocError, Global};
 
-/// Why something is refused, with its cause, on one line.
+/// Returns the note that says why something is refused, with its cause, on one line.
 pub fn why(alloc: Global, error: &Error) -> Result<String, AllocError> {
     let text = error.to_string(alloc)?;
     let mut note = String::from_str(alloc, "rustsec_audit: ")?;
@@ -22,7 +22,7 @@ pub fn why(alloc: Global, error: &Error) -> Result<String, AllocError> {
     Ok(note)
 }
 
-/// The answer to a refusal, which is not that memory ran out.
+/// Makes the output for an error. Out of memory is passed on as an error.
 pub fn refusal(alloc: Global, error: &Error) -> Result<Output, AllocError>
     ensures { IfOk result (λ o. (error.now.kind ≢ failure.OutOfMemory) × (o ≡ refused_as error.now.kind)) }
 {
@@ -34,7 +34,8 @@ pub fn refusal(alloc: Global, error: &Error) -> Result<Output, AllocError>
     Ok(Output::new(text, 2).with_note(why(alloc, error).ok()))
 }
 
-/// The same of a file's text, whose refusal need not name the file.
+/// Makes the output for an error of a file, as `refusal` does. The path is added to the note, unless the
+/// kind is `Io`.
 pub fn refusal_of_file(alloc: Global, path: &str, error: &Error) -> Result<Output, AllocError>
     ensures { IfOk result (λ o. (error.now.kind ≢ failure.OutOfMemory) × (o ≡ refused_as error.now.kind)) }
 {

@@ -24,7 +24,7 @@ use rustsec_values::Items;
 use rustsec_versions::ErrorKind;
 use std::alloc::{AllocError, Global};
 
-/// The text of a report's tree on one line.
+/// Returns the text of a report's tree on one line.
 fn report_line(alloc: Global, report: &Report) -> Result<String, AllocError>
     ensures { IfOk result (λ t. string_bytes t ≡ tree_line (report_tree report.now)) }
 {
@@ -34,7 +34,7 @@ fn report_line(alloc: Global, report: &Report) -> Result<String, AllocError>
     }
 }
 
-/// What `report` writes of a report.
+/// Makes the output of `report` for a report.
 fn report_output(alloc: Global, report: &Report) -> Result<Output, AllocError>
     ensures { IfOk result (λ o. o ≡ report_output report.now) }
 {
@@ -43,7 +43,8 @@ fn report_output(alloc: Global, report: &Report) -> Result<Output, AllocError>
     Ok(Output::new(text, status))
 }
 
-/// What the commands ask a report for.
+/// Returns the settings of the commands' reports: these IDs are ignored, and there are warnings of three
+/// kinds.
 fn settings_with(alloc: Global, ignored: Items<Id>) -> Result<Settings, AllocError>
     ensures { IfOk result (λ s. s ≡ settings_with ignored) }
 {
@@ -58,7 +59,7 @@ fn settings_with(alloc: Global, ignored: Items<Id>) -> Result<Settings, AllocErr
     Ok(settings)
 }
 
-/// Generates the report of the lockfile at a path, by the database under a root.
+/// Generates the report on the lockfile at a path, by the database under a root.
 fn report_of<F: Folders>(
     alloc: Global,
     folders: &mut F,
@@ -75,7 +76,7 @@ fn report_of<F: Folders>(
     Report::generate(alloc, &database, &lockfile, settings)
 }
 
-/// Makes what `report` writes for a root and the path of a lockfile.
+/// Makes the output of `report` for a root and the path of a lockfile.
 pub fn report<F: Folders>(
     alloc: Global,
     folders: &mut F,
@@ -92,7 +93,7 @@ pub fn report<F: Folders>(
     }
 }
 
-/// Makes what `audit` writes of a report, with a note of what helps.
+/// Makes the output of `audit` for a report, with a note that says what helps.
 fn advised_output(alloc: Global, deny_warnings: bool, report: &Report) -> Result<Output, AllocError>
     ensures { IfOk result (λ o. o ≡ audit_output deny_warnings report.now) }
 {
@@ -100,14 +101,15 @@ fn advised_output(alloc: Global, deny_warnings: bool, report: &Report) -> Result
     Ok(output.with_note(advice(alloc, report).ok()))
 }
 
-/// What `audit` asks for: the IDs that are ignored, and whether a warning is as bad as a vulnerability.
+/// The parsed options of `audit`: the IDs that are ignored, and whether a warning is as bad as a
+/// vulnerability.
 #[derive(Drop)]
 struct Wanted {
     ignored: Items<Id>,
     deny_warnings: bool,
 }
 
-/// Makes what `audit` writes for a root, the path of a lockfile and what is wanted of their report.
+/// Makes the output of `audit` for a root, the path of a lockfile and parsed options.
 fn audit_with<F: Folders>(
     alloc: Global,
     folders: &mut F,
@@ -129,7 +131,7 @@ fn audit_with<F: Folders>(
     }
 }
 
-/// Makes what `audit` writes for a root, the path of a lockfile, and the words after them.
+/// Makes the output of `audit` for a root, the path of a lockfile, and the words after them.
 pub fn audit<F: Folders>(
     alloc: Global,
     folders: &mut F,

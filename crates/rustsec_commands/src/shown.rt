@@ -1,9 +1,9 @@
-//! Texts of files as a terminal may show them.
+//! Escapes texts of files, so that a terminal may show them.
 
 use std::alloc::AllocError;
 use std::fmt::Write as _;
 
-/// Whether a character is a control character, or one that shows nothing and turns the direction of
+/// Returns whether a character is a control character, or an invisible one that turns the direction of
 /// others, joins them or ends their line.
 fn is_hidden(c: char) -> bool {
     c.is_control()
@@ -21,7 +21,7 @@ fn is_hidden(c: char) -> bool {
         )
 }
 
-/// Appends a text on one line. In place of each hidden character stands its number.
+/// Appends a text on one line. Each hidden character is replaced by its Unicode escape.
 pub fn push_shown(note: &mut String, text: &str) -> Result<(), AllocError> {
     for c in text.chars() {
         if is_hidden(c) {

@@ -1,4 +1,4 @@
-//! What the program can do, on a page.
+//! The page that explains how the program is used.
 
 /// Each command with its words, what it writes, its statuses and an example.
 pub const PAGE: &str = "

@@ -1,10 +1,10 @@
-//! Which command words name.
+//! Parses the words that name a command.
 
 ghost use Rattle.std.specs.Prelude.{◌≡◌, map};
 ghost use Rattle.rustsec_commands.specs.Commands.{command_view};
 ghost use Rattle.rustsec_commands.specs.Words.{command_of};
 
-/// A command, with its words.
+/// A command, with the words after its name.
 #[derive(Clone, Copy)]
 pub enum Command<'a> {
     /// Verdicts on the versions of the input.
@@ -17,13 +17,13 @@ pub enum Command<'a> {
     Osv(&'a str, &'a str),
     /// The report of the database under a root and the lockfile at a path.
     Report(&'a str, &'a str),
-    /// The same as lines, with options.
+    /// The same report as lines, with options.
     Audit(&'a str, &'a str, &'a [&'a str]),
-    /// No command.
+    /// Words that do not name a command.
     Unknown,
 }
 
-/// The command that words name.
+/// Returns the command that words name, or `Unknown`.
 pub fn command_of<'a>(words: &'a [&'a str]) -> Command<'a>
     ensures { command_view result ≡ command_of (map (λ w. w.now) words.now) }
 {

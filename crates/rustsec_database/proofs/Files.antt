@@ -1,4 +1,4 @@
--- What is loaded from files, one file after another.
+-- Loading files, one after another.
 use Rattle.std.proofs.Common.{◌≡◌, ◌∙◌, ◌⊎◌, ◌+◌, ◌<◌, ◌++◌, ℕ, suc, Bool, true, false, cond, List, [], ◌∷◌, Option, Some, None, inl, inr, get_or, length, take, drop, not, refl, subst, sym, ap, arith}
 use Rattle.std.proofs.lemmas.List.{append-nil, take-append-drop, take_more}
 use Rattle.std.proofs.lemmas.List.Elements.{filter-append}
@@ -39,7 +39,7 @@ own-more false loaded a new own = own
 pub loaded-none : AreLoaded [] []
 loaded-none = record { all = []; are_filed = tt; loaded_are = refl; own_ids = λ i j d l m. absurd (omega (arith, m)) }
 
--- one file more, without fault
+-- one more file, without fault
 pub loaded-more : (files : List SourceFile) (f : SourceFile) (loaded more : List Advisory) (place : Option ℕ) → AreLoaded files loaded
     → IsAdded loaded f.path f.text place more → AreLoaded (files ++ f ∷ []) more
 loaded-more files f loaded more place h one =
@@ -52,7 +52,7 @@ loaded-more files f loaded more place h one =
       own_ids = subst HaveOwnIds (sym one.more_are) (own-more (is_stored one.one) loaded one.one one.is_new h.own_ids);
     }
 
--- the same of the files up to a place
+-- as `loaded-more`, for the files up to a place
 pub loaded-step : (files : List SourceFile) (i : ℕ) (f : SourceFile) (loaded more : List Advisory) (place : Option ℕ) → i < length files
     → f ≡ get_or files i f → AreLoaded (take i files) loaded → IsAdded loaded f.path f.text place more → AreLoaded (take (i + 1) files) more
 loaded-step files i f loaded more place l is h one =
@@ -60,7 +60,7 @@ loaded-step files i f loaded more place l is h one =
     ap (λ x. take i files ++ x ∷ []) is ∙ sym (take_more files i f l) in
     subst (λ fs. AreLoaded fs more) longer (loaded-more (take i files) f loaded more place h one)
 
--- the first file that is at fault behind others without fault
+-- a file at fault after files without fault is the first fault
 pub first-fault : (files : List SourceFile) (i : ℕ) (f : SourceFile) (loaded : List Advisory) (e : Failure) → i < length files
     → f ≡ get_or files i f → AreLoaded (take i files) loaded → IsFault loaded f.path f.text e → IsFirstFault files e ⊎ IsMemory e
 first-fault files i f loaded e l is h (inr memory) = inr memory
@@ -77,11 +77,11 @@ first-fault files i f loaded e l is h (inl fault) =
       names = fault.1;
     })
 
--- at the path and the text of a file
+-- a property of a path and a text holds for equal ones
 pub at-file : (P : List ℕ → List ℕ → Type 0) (p q t u : List ℕ) → p ≡ q → t ≡ u → P p t → P q u
 at-file P p q t u path text h = rw (← path, ← text) h
 
--- ---- what was added
+-- ---- the advisory that was added
 
 some-step : (b : Bool) (n m : ℕ) (l k more : List Advisory) → Some n ≡ cond b (Some m) None → more ≡ cond b l k → (n ≡ m) × (more ≡ l)
 some-step true n m l k more is are = (cc is, are)
@@ -101,7 +101,7 @@ pub added-none : {path text : List ℕ} (loaded more : List Advisory) (o : Optio
 added-none loaded more o h is =
     none-step (is_stored h.one) (length loaded) (loaded ++ h.one ∷ []) loaded more (sym is ∙ h.place_is) h.more_are
 
--- the refusal of a file's text, as that of the file
+-- the refusal of a file's text becomes the refusal of the file
 pub fault-of-file : (loaded : List Advisory) (path text : List ℕ) (e r : Failure) → IsAtFault loaded path text e.kind ⊎ IsMemory e
     → (IsMemory e → IsMemory r) → (r ≡ of_file path e) ⊎ IsMemory r → IsFault loaded path text r
 fault-of-file loaded path text e r (inr memory) keeps says = inr (keeps memory)
@@ -112,13 +112,13 @@ fault-of-file loaded path text e r (inl fault) keeps (inl is) =
 pub not-false : (b : Bool) → b ≡ false → not b ≡ true
 not-false b h = rw h refl
 
--- the ID of a filed advisory is known
+-- a file is at fault if the ID of its advisory is known
 pub known-fault : (loaded : List Advisory) (path text : List ℕ) (a : Advisory) (e : Failure) → IsFiled path text a → is_stored a ≡ true
     → is_known loaded a ≡ true → IsOfKind kind.Parse e → IsAtFault loaded path text e.kind ⊎ IsMemory e
 known-fault loaded path text a e filed stored known (inl is) = inl (inr (a, (filed, (stored, (known, is)))))
 known-fault loaded path text a e filed stored known (inr memory) = inr memory
 
--- an advisory that was stored
+-- an advisory that was stored is added
 pub added : (loaded more : List Advisory) (path text : List ℕ) (a : Advisory) (n : ℕ) → IsFiled path text a → is_stored a ≡ true
     → is_known loaded a ≡ false → n ≡ length loaded → more ≡ loaded ++ a ∷ [] → IsAdded loaded path text (Some n) more
 added loaded more path text a n filed stored new at are = record {

@@ -1,4 +1,4 @@
--- Maps from names to slots, by what contracts see of them.
+-- Maps from names to slots, as contracts see them.
 use Rattle.std.proofs.Common.{◌≡◌, ◌∙◌, ◌<◌, ℕ, Bool, true, false, cond, List, [], ◌∷◌, Option, Some, None, Ok, Err, length, nat_eq, refl, subst, sym, ap}
 use Rattle.std.specs.Prelude.{IfSome, IsSome, OnErr, Result}
 use Rattle.std.specs.BTreeMap as tree
@@ -9,7 +9,7 @@ use Rattle.std.specs.declared.vec.Vec.{Vec}
 use Rattle.rustsec_database.specs.Indexes.{AllRise, names, shown}
 use Rattle.rustsec_database.specs.Slots.{Rises, or_none, slots_at}
 
--- the slots of a list that may be missing
+-- the slots of a vector, or none if it is missing
 abbrev pub slots_of : {Z : Type 0} → Option (Vec ℕ Z) → List ℕ
 slots_of None = []
 slots_of (Some v) = v.items
@@ -27,7 +27,7 @@ module _ {Z : Type 0} where
   look test [] = refl
   look test (e ∷ es) = or-none-cond (test e.0) e.1 (lookup test (shown es)) (lookup test es) (look test es)
 
-  -- what contracts see under a name is what stands there
+  -- the slots that contracts see under a name are those of the map
   pub seen-at : (name : List ℕ) (m : BTreeMap (List ℕ) (Vec ℕ Z)) → slots_at name (shown m.entries) ≡ slots_of (tree.get names m name)
   seen-at name m = ap (λ t. or_none (lookup t (shown m.entries))) (same-test name) ∙ look (is_at (names name)) m.entries
 
@@ -35,7 +35,7 @@ module _ {Z : Type 0} where
   slots_of-cond true o p = refl
   slots_of-cond false o p = refl
 
-  -- a map in which one list was put under a name
+  -- a map after one vector was put under a name
   pub seen-updated : (m n : BTreeMap (List ℕ) (Vec ℕ Z)) (key : List ℕ) (v : Vec ℕ Z) → UpdatesBy names (names key) m n (Some v)
       → (name : List ℕ) → slots_at name (shown n.entries) ≡ cond (pointwise nat_eq key name) v.items (slots_at name (shown m.entries))
   seen-updated m n key v h name =
@@ -68,13 +68,13 @@ module _ {Z : Type 0} where
   written-at true e es fs o w h more = same-items e.0 e.1 w (shown es) (sym h)
   written-at false e es fs o w h more = tail-shown e fs es (more h)
 
-  -- a list that was written back with the same elements
+  -- contracts see the same map after a vector is written back with the same elements
   pub written : (test : List ℕ → Bool) (es : List (List ℕ × Vec ℕ Z)) (w : Vec ℕ Z) → slots_of (lookup test es) ≡ w.items
       → shown (set_value test es w) ≡ shown es
   written test [] w h = refl
   written test (e ∷ es) w h = written-at (test e.0) e es (set_value test es w) (lookup test es) w h (λ k. written test es w k)
 
-  -- what was found under a name is what contracts see there
+  -- the slots that were found under a name are those that contracts see there
   pub found-slots : (name : List ℕ) (m : BTreeMap (List ℕ) (Vec ℕ Z)) (index : List (List ℕ × List ℕ)) (v : Vec ℕ Z)
       → shown m.entries ≡ index → Some v ≡ tree.get names m name → slots_at name index ≡ v.items
   found-slots name m index v view is = ap (slots_at name) (sym view) ∙ (seen-at name m ∙ ap slots_of (sym is))
@@ -90,7 +90,7 @@ module _ {Z : Type 0} where
   pub is-there : (v : Vec ℕ Z) (o : Option (Vec ℕ Z)) → Some v ≡ o → IsSome o
   is-there v o is = subst (λ o. IsSome o) is refl
 
-  -- the same as `seen-updated`, for a key and slots by other names
+  -- as `seen-updated`, for a key, slots and an index that equal those of the maps
   pub put-seen : (m n : BTreeMap (List ℕ) (Vec ℕ Z)) (key k : List ℕ) (v : Vec ℕ Z) (slots : List ℕ) (index : List (List ℕ × List ℕ))
       → k ≡ key → v.items ≡ slots → shown m.entries ≡ index → UpdatesBy names (names k) m n (Some v)
       → (name : List ℕ) → slots_at name (shown n.entries) ≡ cond (pointwise nat_eq key name) slots (slots_at name index)

@@ -1,4 +1,4 @@
--- Files load as one list of advisories, or one of them is the first at fault, with one kind, and not both.
+-- Files load as one list of advisories only, or their first fault has one kind only, and not both.
 use Rattle.std.proofs.Common.{◌≡◌, ◌∙◌, ◌⊎◌, ◌+◌, ◌<◌, ◌++◌, ℕ, Bool, true, false, List, [], ◌∷◌, Some, None, Ok, Err, Contains, inl, inr, filter, get_or, length, refl, subst, sym, ap, arith}
 use Rattle.std.proofs.lemmas.Bool.{cases_Bool}
 use Rattle.std.proofs.lemmas.List.{get_or_append_left, length-append}
@@ -21,7 +21,7 @@ use Rattle.rustsec_database.specs.Opened.{AreOpened, IsOpenRefusal}
 
 -- ---- one file
 
--- a file is filed as one advisory
+-- a file is filed as one advisory only
 pub filed-unique : (path text : List ℕ) (a b : Advisory) → IsFiled path text a → IsFiled path text b → a ≡ b
 filed-unique path text a b h k =
     let same = advisory_unique text h.written k.written h.is_advisory k.is_advisory in
@@ -30,14 +30,14 @@ filed-unique path text a b h k =
     let step : in_collection h.collection h.written ≡ in_collection k.collection k.written = λ i. in_collection (there i) (same i) in
     h.is ∙ (step ∙ sym k.is)
 
--- and is not misfiled then
+-- a file that is filed is not misfiled
 filed-or-not : {P : Type 0} (path text : List ℕ) (a : Advisory) (k : ErrorKind) → IsFiled path text a → IsMisfiled path text k → P
 filed-or-not path text a k h (inl (is, never)) = absurd (never h.written h.is_advisory)
 filed-or-not path text a k h (inr (b, m, (is, (verdict, same)))) =
     let one = advisory_unique text h.written b h.is_advisory is in
     absurd (cc (sym h.verdict ∙ (ap (path_verdict path) one ∙ verdict)))
 
--- a file is misfiled in one way
+-- a misfiled file has one kind of error only
 misfiled-once : (path text : List ℕ) (k l : ErrorKind) → IsMisfiled path text k → IsMisfiled path text l → k ≡ l
 misfiled-once path text k l (inl (is, never)) (inl (also, still)) = is ∙ sym also
 misfiled-once path text k l (inl (is, never)) (inr (b, m, (there, rest))) = absurd (never b there)
@@ -47,7 +47,7 @@ misfiled-once path text k l (inr (a, m, (there, (verdict, is)))) (inr (b, n, (al
     let fails = sym verdict ∙ (ap (path_verdict path) one ∙ other) in
     is ∙ (ap kind_of (cc fails) ∙ sym same)
 
--- a file is at fault in one way
+-- a file at fault has one kind of error only
 at-fault-once : (loaded : List Advisory) (path text : List ℕ) (k l : ErrorKind) → IsAtFault loaded path text k → IsAtFault loaded path text l → k ≡ l
 at-fault-once loaded path text k l (inl h) (inl g) = misfiled-once path text k l h g
 at-fault-once loaded path text k l (inl h) (inr (a, (filed, rest))) = filed-or-not path text a k filed h
@@ -70,7 +70,7 @@ are-filed-once (f ∷ files) (x ∷ xs) (y ∷ ys) h k =
 pub loaded-once : (files : List SourceFile) (xs ys : List Advisory) → AreLoaded files xs → AreLoaded files ys → xs ≡ ys
 loaded-once files xs ys h k = h.loaded_are ∙ (ap (filter is_stored) (are-filed-once files h.all k.all h.are_filed k.are_filed) ∙ sym k.loaded_are)
 
--- what the files before one, it and those after it are filed as
+-- the advisories that the files before one, the file itself and the files after it are filed as
 record FiledAround (good : List SourceFile) (bad : SourceFile) (all : List Advisory) : Type 0 where
   before : List Advisory
   one : Advisory
@@ -95,7 +95,7 @@ filed-around (f ∷ good) bad rest (a ∷ all) h =
       is_filed = more.is_filed;
     }
 
--- where no ID stands twice, none before an advisory has its ID
+-- if no two advisories have the same ID, none before an advisory has its ID
 own-id : (before : List Advisory) (a : Advisory) (after : List Advisory) → HaveOwnIds (before ++ a ∷ after) → is_known before a ≡ false
 own-id before a after own = elim (cases_Bool (is_known before a)) [
   | inl known ↦
@@ -126,7 +126,7 @@ filed-not-at-fault good bad all loaded k around own before (inr (a, (filed, (sto
     let there = subst (λ (xs : List Advisory). is_known xs around.one ≡ true) before known_too in
     absurd (cc (sym apart ∙ there))
 
--- files do not load of which one is at fault beside those before it
+-- files do not load if one is at fault after those before it are loaded
 loaded-or-at-fault : {P : Type 0} (files good : List SourceFile) (bad : SourceFile) (rest : List SourceFile) (loaded before : List Advisory) (k : ErrorKind)
     → files ≡ good ++ bad ∷ rest → AreLoaded files loaded → AreLoaded good before → IsAtFault before bad.path bad.text k → P
 loaded-or-at-fault files good bad rest loaded before k parts h g fault =
@@ -140,7 +140,7 @@ pub loaded-or-fault : {P : Type 0} (files : List SourceFile) (loaded : List Advi
 loaded-or-fault files loaded e h fault =
     loaded-or-at-fault files fault.good fault.bad fault.rest loaded fault.loaded e.kind fault.files_are h fault.are_loaded fault.fault
 
--- a refusal for a first fault, so for files that do not load
+-- files with a first fault do not load
 pub fault-excludes : (files : List SourceFile) (e : Failure) → IsFirstFault files e ⊎ IsMemory e
     → ((other : List Advisory) → ¬ AreLoaded files other) ⊎ IsMemory e
 fault-excludes files e (inl fault) = inl (λ other h. loaded-or-fault files other e h fault)
@@ -148,7 +148,7 @@ fault-excludes files e (inr memory) = inr memory
 
 -- ---- the first fault
 
--- of two ways to part a list at an element: the same one, or one before the other
+-- two elements at which a list is split are at the same place, or one is before the other
 abbrev Parted : List SourceFile → SourceFile → List SourceFile → SourceFile → Type 0
 Parted good bad good' bad' =
     ((good ≡ good') × (bad ≡ bad'))
@@ -195,7 +195,7 @@ fault-of-parts files e f h g (inr (inr (mid, is))) =
 pub fault-once : (files : List SourceFile) (e f : Failure) → IsFirstFault files e → IsFirstFault files f → e.kind ≡ f.kind
 fault-once files e f h g = fault-of-parts files e f h g (parted h.good h.bad h.rest g.good g.bad g.rest (sym h.files_are ∙ g.files_are))
 
--- ---- what stands under a root, where each path has one answer
+-- ---- the files under a root, if each path has one answer
 
 module _ (allowed : Allowed) (once : AnswersOnce allowed) (root : List ℕ) where
   pub opened-once : (xs ys : List Advisory) → AreOpened allowed root xs → AreOpened allowed root ys → xs ≡ ys
@@ -203,7 +203,7 @@ module _ (allowed : Allowed) (once : AnswersOnce allowed) (root : List ℕ) wher
       let same = listed-once allowed once root files files' listed listed' in
       loaded-once files' xs ys (subst (λ (fs : List SourceFile). AreLoaded fs xs) same load) load'
 
-  -- a root that opens is refused for memory alone
+  -- if a root opens, its only refusal is out of memory
   pub opened-or-refused : (xs : List Advisory) (e : Failure) → AreOpened allowed root xs → IsOpenRefusal allowed root e → IsMemory e
   opened-or-refused xs e (files, (listed, load)) (inl (inl (is, fails))) = listed-or-error allowed once root files listed fails
   opened-or-refused xs e (files, (listed, load)) (inl (inr memory)) = memory

@@ -1,4 +1,4 @@
--- What loading answers, one file after another, where a file at fault is remembered.
+-- The result of loading one file after another: it keeps the error of the first file at fault.
 use Rattle.std.proofs.Common.{◌≡◌, ◌∙◌, ◌⊎◌, ◌+◌, ◌<◌, ◌++◌, ℕ, List, [], ◌∷◌, Option, Some, None, inl, inr, get_or, length, take, refl, subst, sym, ap}
 use Rattle.std.proofs.lemmas.List.{append_assoc}
 use Rattle.std.specs.Prelude.{Err, IfErr, IfOk, Ok, Result}
@@ -15,7 +15,7 @@ use Rattle.rustsec_database.specs.Loaded.{AreLoaded, IsAdded, IsFault, IsFirstFa
 use Rattle.rustsec_database.specs.Opened.{AreOpened, AreRead, IsLoadOf, IsOpenRefusal, IsReadRefusal}
 use Rattle.rustsec_database.proofs.Files.{loaded-more}
 
--- ---- what loading answers, from what loading the files before answered
+-- ---- the result of loading one more file, from the result for the files before it
 
 behind : (files : List SourceFile) (f : SourceFile) (e : Failure) → IsFirstFault files e → IsFirstFault (files ++ f ∷ []) e
 behind files f e h = record {
@@ -29,7 +29,7 @@ behind files f e h = record {
   names = h.names;
 }
 
--- a refusal is the answer for the files behind it too
+-- a refusal stays the result with one more file
 pub still-refused : (files : List SourceFile) (f : SourceFile) (e : Failure) → IsFirstFault files e ⊎ IsMemory e
     → IsFirstFault (files ++ f ∷ []) e ⊎ IsMemory e
 still-refused files f e (inl h) = inl (behind files f e h)
@@ -51,21 +51,21 @@ last-fault files f loaded e h (inl fault) =
       names = fault.1;
     })
 
--- one file more behind files that are loaded
+-- one more file after files that are loaded
 pub load-next : (files : List SourceFile) (f : SourceFile) (loaded : List Advisory) (answer : Result (List Advisory) Failure) → AreLoaded files loaded
     → IfOk answer (λ d. (place : Option ℕ) × IsAdded loaded f.path f.text place d) → IfErr answer (IsFault loaded f.path f.text)
     → IsLoadOf (files ++ f ∷ []) answer
 load-next files f loaded (Ok more) h one fault = (loaded-more files f loaded more one.0 h one.1, tt)
 load-next files f loaded (Err e) h one fault = (tt, last-fault files f loaded e h fault)
 
--- a refusal is handed on
+-- a refusal is passed on
 pub refused-next : (files : List SourceFile) (f : SourceFile) (before answer : Result (List Advisory) Failure) (e r : Failure) → before ≡ Err e
     → answer ≡ Err r → r ≡ e → IsLoadOf files before → IsLoadOf (files ++ f ∷ []) answer
 refused-next files f before answer e r was is same h =
     subst (IsLoadOf (files ++ f ∷ [])) (sym (is ∙ ap (λ x. Err x) same))
     (tt, still-refused files f e (subst (λ (a : Result (List Advisory) Failure). IfErr a (λ x. IsFirstFault files x ⊎ IsMemory x)) was h.1))
 
--- ---- paths that are gone through
+-- ---- a loop over paths
 
 -- a path that cannot be read
 pub file-fails : (a b : Allowed) (paths : List (List ℕ)) (i : ℕ) (item path : List ℕ) → AllowSame a b → i < length paths → item ≡ get_or paths i item
@@ -77,7 +77,7 @@ file-read : (a b : Allowed) (item path copy text whole : List ℕ) → AllowSame
 file-read a b item path copy text whole same is also all h =
     (also, subst (λ (p : List ℕ). a.reads p (Some text)) is (subst (λ (t : List ℕ). a.reads path (Some t)) (sym all) ((same.reads path (Some whole)).1 h)))
 
--- one file more was read, and what loading it too answers
+-- one more file was read and loaded
 pub load-step : (a b : Allowed) (paths : List (List ℕ)) (i : ℕ) (item path copy text whole : List ℕ) (before answer : Result (List Advisory) Failure)
     → AllowSame a b → i < length paths → item ≡ get_or paths i item → path ≡ item → copy ≡ item → text ≡ whole
     → (files : List SourceFile) × (Pairwise (IsFile a) (take i paths) files × IsLoadOf files before) → b.reads path (Some whole)
@@ -96,7 +96,7 @@ pub load-none : (a : Allowed) (paths : List (List ℕ)) (answer : List Advisory)
     → (files : List SourceFile) × (Pairwise (IsFile a) (take 0 paths) files × IsLoadOf files (Ok answer))
 load-none a paths answer is none = ([], (tt, (rw is none, tt)))
 
--- ---- paths that stand under a root, and what was read of them then
+-- ---- paths that are listed under a root, and the files that are read at them afterwards
 
 pub opened : (a b : Allowed) (root : List ℕ) (paths items : List (List ℕ)) (loaded : List Advisory) → AllowSame a b → Paths a root (Some paths)
     → items ≡ paths → AreRead b items loaded → AreOpened a root loaded

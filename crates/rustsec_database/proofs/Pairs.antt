@@ -1,4 +1,4 @@
--- The pairs of a package, and those of one package more.
+-- The pairs of a package with advisories, and the pairs after one more package.
 use Rattle.std.proofs.Common.{◌≡◌, ◌∙◌, ◌+◌, ◌<◌, ◌++◌, ℕ, true, false, List, [], ◌∷◌, get_or, length, map, take, refl, sym, ap, append_assoc}
 use Rattle.std.specs.Borrow.{Bor}
 use Rattle.std.specs.List.{filter, flat_map}
@@ -33,7 +33,7 @@ as-pairs : (p : PackageValue) (xs : List (Bor Advisory)) (ys : List Advisory) �
     → map (λ (x : Bor Advisory). vulnerability_of x.now p) xs ≡ map as_vulnerability (map (as_pair p) ys)
 as-pairs p xs ys h = of-list p xs ∙ ap (λ zs. map as_vulnerability (map (as_pair p) zs)) h
 
--- the pairs of one that is are of what its query finds
+-- the pairs of an audited package are those of the advisories that its query finds
 pub found-pairs : (advisories : List Advisory) (q : Asked) (p : PackageValue) (found : List (Bor Advisory)) → is_audited p ≡ true
     → map (λ x. x.now) found ≡ filter (selects (of_package q p)) advisories
     → map (λ (x : Bor Advisory). vulnerability_of x.now p) found ≡ map as_vulnerability (pairs_of advisories q p)
@@ -45,7 +45,7 @@ flat-append : {A B : Type 0} (f : A → List B) (xs : List A) (x : A) → flat_m
 flat-append f [] x = append-nil (f x)
 flat-append f (y ∷ ys) x = ap (λ zs. f y ++ zs) (flat-append f ys x) ∙ sym (append_assoc (f y) (flat_map f ys) (f x))
 
--- one package more
+-- the pairs after one more package
 pub pairs-more : (advisories : List Advisory) (q : Asked) (packages : List PackageValue) (i : ℕ) (p : PackageValue) (before more : List Vulnerability)
     → i < length packages → p ≡ get_or packages i p → before ≡ map as_vulnerability (pairs advisories (take i packages) q)
     → more ≡ before ++ map as_vulnerability (pairs_of advisories q p)

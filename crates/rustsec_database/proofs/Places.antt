@@ -1,4 +1,4 @@
--- Places in lists, and lists of which elements are taken by their places.
+-- Places in lists, and the elements at given places.
 use Rattle.std.proofs.Common.{◌≡◌, ◌∙◌, ◌+◌, ◌<◌, ◌++◌, ◌||◌, ℕ, suc, Bool, true, false, cond, List, [], ◌∷◌, Option, Some, None, get_or, length, map, take, refl, sym, ap, append_assoc, arith, length-append}
 use Rattle.std.specs.Borrow.{Bor}
 use Rattle.std.specs.Option.{is_some, option_copied}
@@ -32,7 +32,7 @@ all-step P true i us p h = All-cons P i us p h
 all-step P false i us p h = h
 
 module _ {A : Type 0} where
-  -- the first place at which a test holds, behind a list in which it holds nowhere
+  -- the first place at which a test holds, if it holds for an element after a list in which it holds nowhere
   pub first-last : (test : A → Bool) (i : ℕ) (xs : List A) (x : A) → list_any test xs ≡ false → test x ≡ true
       → position_from test i (xs ++ x ∷ []) ≡ Some (i + length xs)
   first-last test i [] x none holds = rw holds (ap Some (omega arith))
@@ -40,7 +40,7 @@ module _ {A : Type 0} where
       let parts = neither (test y) (list_any test ys) none in
       rw parts.0 (first-last test (i + 1) ys x parts.1 holds ∙ ap Some (omega arith))
 
-  -- an element more at which it does not hold
+  -- one more element for which the test does not hold keeps the first place
   pub first-other : (test : A → Bool) (i : ℕ) (xs : List A) (x : A) → test x ≡ false → position_from test i (xs ++ x ∷ []) ≡ position_from test i xs
   first-other test i [] x fails = rw fails refl
   first-other test i (y ∷ ys) x fails = same-first (test y) i _ _ (first-other test (i + 1) ys x fails)
@@ -62,7 +62,7 @@ module _ {A : Type 0} where
   found-from test i n (x ∷ xs) is =
       found-step (test x) i n x xs (position_from test (i + 1) xs) (find test xs) is (found-from test (i + 1) n xs)
 
-  -- what stands at the first place is the first element at which the test holds
+  -- the element at the first place is the first element for which the test holds
   pub found-at : (test : A → Bool) (n : ℕ) (xs : List A) → Some n ≡ position_from test 0 xs → slice_get xs n ≡ find test xs
   found-at test n xs is =
       let h = found-from test 0 n xs is in
@@ -113,7 +113,7 @@ module _ {A : Type 0} where
       taken-step (test x) ys n x (places_from test (n + 1) xs) (filter test xs) at
       (taken-from test (zs ++ x ∷ []) xs ys (n + 1) (is ∙ sym (append_assoc zs (x ∷ []) xs)) longer)
 
-  -- the elements at the places at which a test holds are those at which it holds
+  -- the elements at the places at which a test holds are those for which it holds
   pub taken : (test : A → Bool) (xs : List A) → at_places (places_from test 0 xs) xs ≡ filter test xs
   taken test xs = taken-from test [] xs xs 0 refl refl
 
@@ -123,12 +123,12 @@ module _ {A : Type 0} where
   narrow-step p q x us xs false is only h =
       rw (is-false (q x) (λ t. cc (sym (only t) ∙ is))) h
 
-  -- a filter behind a wider one
+  -- a filter after a wider filter gives the same as the filter alone
   pub narrow : (p q : A → Bool) → ((x : A) → q x ≡ true → p x ≡ true) → (xs : List A) → filter q (filter p xs) ≡ filter q xs
   narrow p q only [] = refl
   narrow p q only (x ∷ xs) = narrow-step p q x (filter p xs) xs (p x) refl (only x) (narrow p q only xs)
 
-  -- what an element more adds to what passes a test at places
+  -- one more place adds its element, if the element passes the test
   pub taken-more : (test : A → Bool) (places : List ℕ) (i d : ℕ) (xs : List A) → i < length places
       → filter test (at_places (take (i + 1) places) xs)
       ≡ filter test (at_places (take i places) xs) ++ filter test (cons_option (slice_get xs (get_or places i d)) [])
@@ -137,7 +137,7 @@ module _ {A : Type 0} where
       ∙ (ap (filter test) (filter_map-append (slice_get xs) (take i places) (get_or places i d ∷ []))
       ∙ filter-append test (at_places (take i places) xs) (cons_option (slice_get xs (get_or places i d)) []))
 
-  -- ---- what a loop over places found
+  -- ---- a loop over places
 
   one-test : (test : A → Bool) (o : Option A) (x : A) (b : Bool) → Some x ≡ o → test x ≡ b → filter test (cons_option o []) ≡ cond b (x ∷ []) []
   one-test test o x b is at = ap (λ p. filter test (cons_option p [])) (sym is) ∙ ap (λ c. cond c (x ∷ []) []) at
@@ -186,6 +186,6 @@ module _ {A : Type 0} where
   seen-some None = refl
   seen-some (Some x) = refl
 
-  -- whether one was found, and whether there is one
+  -- an element was found exactly if the test holds for an element
   pub known-by : (test : A → Bool) (xs : List A) (o : Option (Bor A)) (b : Bool) → option_copied o ≡ find test xs → is_some o ≡ b → list_any test xs ≡ b
   known-by test xs o b at is = sym (find-any test xs) ∙ (ap is_some (sym at) ∙ (seen-some o ∙ is))

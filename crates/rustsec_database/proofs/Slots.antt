@@ -1,4 +1,4 @@
--- Where a slot goes among rising ones.
+-- Inserting a slot into rising ones.
 use Rattle.std.proofs.Common.{◌≡◌, ◌<◌, ◌≤◌, ◌++◌, ℕ, zero, suc, Bool, true, false, cond, List, [], ◌∷◌, Some, Ok, Err, ltb, eqb, get_or, length, refl, subst, sym, ap, ⊎_elim, arith}
 use Rattle.std.specs.List.Sorted.{IsBinarySearchResult}
 use Rattle.std.specs.Ordering.{nat_cmp}
@@ -28,7 +28,7 @@ itself-false n = grind arith
 itself-true : (n : ℕ) → eqb n n ≡ true
 itself-true n = grind arith
 
--- a slot put between those below and those above it
+-- a slot that is inserted between those below and those above it
 pub insert-is : (xs : List ℕ) (i n : ℕ) → i ≤ length xs → ((k : ℕ) → k < i → get_or xs k 0 < n)
     → ((k : ℕ) → i ≤ k → k < length xs → n < get_or xs k 0) → insert xs i n ≡ with_slot n xs
 insert-is [] zero n le below above = refl
@@ -40,7 +40,7 @@ insert-is (x ∷ xs) (suc i) n le below above =
     (ap (λ ys. x ∷ ys) (insert-is xs i n (omega (arith, le)) (λ k l. below (suc k) (omega (arith, l)))
     (λ k l m. above (suc k) (omega (arith, l)) (omega (arith, m)))))
 
--- a slot that stands neither below nor above its place
+-- a slot is not in a list if those before a place are below it and the others above it
 pub lacks : (xs : List ℕ) (i n : ℕ) → ((k : ℕ) → k < i → get_or xs k 0 < n) → ((k : ℕ) → i ≤ k → k < length xs → n < get_or xs k 0)
     → list_any (eqb n) xs ≡ false
 lacks [] i n below above = refl
@@ -53,7 +53,7 @@ lacks (x ∷ xs) (suc i) n below above =
 rises-rest : (x : ℕ) (xs : List ℕ) → Rises (x ∷ xs) → Rises xs
 rises-rest x xs h = λ i j d l m. h (suc i) (suc j) d (omega (arith, l)) (omega (arith, m))
 
--- a slot that is there already
+-- a slot that is there already is not inserted
 pub with_slot-there : (xs : List ℕ) (i n : ℕ) → Rises xs → i < length xs → get_or xs i 0 ≡ n → with_slot n xs ≡ xs
 with_slot-there [] i n rising l is = absurd (omega (arith, l))
 with_slot-there (x ∷ xs) zero n rising l is = rw (sym is) (rw (itself-false x, itself-true x) refl)
@@ -67,7 +67,7 @@ by-test : {A : Type 0} (P : A → Type 0) (b : Bool) (u v : A) → (b ≡ true �
 by-test P true = λ u v here there. here refl
 by-test P false = λ u v here there. there refl
 
--- what is below some slots and below one more is below all
+-- a slot below some slots and below one more is below all of them
 above-with : (m n : ℕ) (xs : List ℕ) → m < n → All (λ x. m < x) xs → All (λ x. m < x) (with_slot n xs)
 above-with m n [] l h = All-cons (λ x. m < x) n [] l h
 above-with m n (x ∷ xs) l h =
@@ -97,7 +97,7 @@ rises-with n (x ∷ xs) h =
     (λ f. by-test Rises (eqb n x) _ _ (λ t. h)
     (λ g. AllPairs-cons (λ x y. x < y) x (with_slot n xs) (above-with x n xs (above-tests n x f g) firsts) (rises-with n xs (rises-rest x xs h))))
 
--- a slot above all
+-- a slot above all others is inserted at the end
 pub with_slot-last : (xs : List ℕ) (n : ℕ) → All (λ x. x < n) xs → with_slot n xs ≡ xs ++ n ∷ []
 with_slot-last [] n h = refl
 with_slot-last (x ∷ xs) n h =
@@ -115,12 +115,12 @@ rises-le xs h i j l m =
     ⊎_elim (λ (b : i < j). let up = h i j 0 b m in omega (arith, up))
     (λ (g : j ≤ i). let same : i ≡ j = omega (arith, l, g) in let e = ap (λ k. get_or xs k 0) same in omega (arith, e)) (cases_lt i j)
 
--- what a search among rising slots found
+-- a search among rising slots that succeeds has found the slot
 pub found-there : (ys xs : List ℕ) (n i : ℕ) → ys ≡ xs → Rises xs → IsBinarySearchResult (λ y. nat_cmp y n) ys (Ok i) → (i < length xs) × (get_or xs i 0 ≡ n)
 found-there ys xs n i same rising h =
     searched xs n (Ok i) (subst (λ zs. IsBinarySearchResult (λ y. nat_cmp y n) zs (Ok i)) same h) (rises-le xs rising)
 
--- where it found that the slot belongs
+-- a search that fails gives the place between the slots below and those above
 pub found-place : (ys xs : List ℕ) (n i : ℕ) → ys ≡ xs → Rises xs → IsBinarySearchResult (λ y. nat_cmp y n) ys (Err i)
     → (i ≤ length xs) × ((k : ℕ) → k < i → get_or xs k 0 < n) × ((k : ℕ) → i ≤ k → k < length xs → n < get_or xs k 0)
 found-place ys xs n i same rising h =

@@ -1,4 +1,4 @@
--- The tables of a database, when an advisory more is stored.
+-- The tables of a database after one more advisory is stored.
 use Rattle.std.proofs.Common.{◌≡◌, ◌∙◌, ◌+◌, ◌++◌, ◌&&◌, ℕ, Bool, true, false, cond, List, [], ◌∷◌, Option, Some, length, nat_eq, refl, subst, sym, ap, arith}
 use Rattle.std.specs.BTreeMap as tree
 use Rattle.std.specs.BTreeMap.{BTreeMap, Updates}
@@ -96,14 +96,14 @@ empty-index c index e name = rw e refl
 
 -- ---- queries
 
--- the first two of the ten tests
+-- an advisory that a query selects passes the first two of the ten tests
 first-two : (q : Asked) (a : Advisory) → selects q a ≡ true → (in_collection q a && has_name q a) ≡ true
 unfolding selects
 first-two q a h =
     first_so _ (has_version q a) (first_so _ (has_source q a) (first_so _ (is_severe q a) (first_so _ (on_arch q a) (first_so _ (on_os q a)
     (first_so _ (of_year q a) (first_so _ (as_withdrawn q a) (first_so _ (as_informational q a) h)))))))
 
--- what a query selects is of the collection and the package that it asks for
+-- an advisory that a query selects is of the collection and the package that the query asks for
 pub selected-under : (q : Asked) (c : Collection) (name : List ℕ) (a : Advisory) → Some c ≡ q.collection → Some name ≡ q.package_name
     → selects q a ≡ true → is_under c name a ≡ true
 selected-under q c name a of named h =
@@ -112,12 +112,12 @@ selected-under q c name a of named h =
     (subst (λ o. if_there (λ c. option_eq (sameb collection) (Some c) a.metadata.collection) o ≡ true) (sym of) (first_so (in_collection q a) (has_name q a) two))
     (subst (λ o. if_there (λ n. pointwise nat_eq n a.metadata.«package») o ≡ true) (sym named) (second_so (in_collection q a) (has_name q a) two))
 
--- and what it selects for a package is of the package's name
+-- an advisory that a query selects for a package is of the query's collection and the package's name
 pub selected-of : (q : Asked) (p : PackageValue) (c : Collection) (a : Advisory) → q.collection ≡ Some c → selects (of_package q p) a ≡ true
     → is_under c p.name a ≡ true
 selected-of q p c a of h = selected-under (of_package q p) c p.name a (sym of) refl h
 
--- so the index's places are enough for such a test
+-- the places of an index are enough for a test that only advisories of its collection and name pass
 pub by-index : (test : Advisory → Bool) (c : Collection) (name : List ℕ) (advisories : List Advisory) (slots : List ℕ)
     → ((a : Advisory) → test a ≡ true → is_under c name a ≡ true) → slots ≡ places_from (is_under c name) 0 advisories
     → filter test (at_places slots advisories) ≡ filter test advisories

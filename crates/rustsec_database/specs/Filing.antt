@@ -1,4 +1,4 @@
--- Where the file of an advisory stands: the checks of its path, and the advisory that it is filed as.
+-- The checks of the path of an advisory's file, and the advisory that the file is filed as.
 use Rattle.std.specs.Prelude.{◌≡◌, ◌⊎◌, ◌||◌, ℕ, Bool, true, List, Option, Some, None, Result, Ok, Err, if◌then◌else◌, option_and_then}
 use Rattle.std.specs.Str.{bytes_eq}
 use denote.Enum.Bare.{sameb}
@@ -13,7 +13,7 @@ use Rattle.rustsec_advisory.specs.declared.advisory.Advisory.{Advisory}
 use Rattle.rustsec_database.specs.declared.filing.Misfit.{Misfit}
 use Rattle.rustsec_database.specs.declared.filing.Misfit.TheVariants as misfit
 
--- the kind of the refusal where a check fails
+-- the kind of the error for a check that fails
 abbrev pub kind_of : Misfit → ErrorKind
 kind_of misfit.Extension = kind.Repo
 kind_of misfit.FileName = kind.Repo
@@ -21,33 +21,33 @@ kind_of misfit.Folder = kind.Repo
 kind_of misfit.Parent = kind.Repo
 kind_of misfit.Collection = kind.Parse
 
--- what further checks give, where this one holds
+-- the result of the further checks if this one holds; otherwise this one, as the check that fails
 abbrev pub checked : {A : Type 0} → Bool → Misfit → Result A Misfit → Result A Misfit
 checked test failed further = if test then further else Err failed
 
--- the file is named after the ID, or it is a draft's
+-- the file is named after the ID, or it is a draft
 abbrev pub is_named : List ℕ → List ℕ → Bool
 is_named path id = is_markdown_file_of id path || is_draft path
 
--- it stands in a folder of this name
+-- the file is in a folder of this name
 abbrev pub is_in_folder : List ℕ → List ℕ → Bool
 is_in_folder path name = passes (bytes_eq name) (folder path)
 
--- the collection that the folder's parent is
+-- the collection whose name the folder's parent has
 abbrev pub collection_at : List ℕ → Option Collection
 collection_at path = option_and_then collection_of (folder_parent path)
 
--- a collection that the advisory names, if it names one, is this one
+-- the advisory names this collection or none
 abbrev pub agrees : Option Collection → Collection → Bool
 agrees None c = true
 agrees (Some named) c = sameb collection named c
 
--- the folder's collection, where there is one with which the advisory agrees
+-- the folder's collection if the advisory names it or none; otherwise the check that fails
 abbrev pub agreed : Option Collection → Option Collection → Result Collection Misfit
 agreed named None = Err misfit.Parent
 agreed named (Some c) = checked (agrees named c) misfit.Collection (Ok c)
 
--- the collection in which the file of an advisory stands, or the first check of its path that fails
+-- the collection that the file of an advisory is in, or the first check of its path that fails
 abbrev pub path_verdict : List ℕ → Advisory → Result Collection Misfit
 path_verdict path a =
     checked (is_markdown path) misfit.Extension
@@ -55,11 +55,11 @@ path_verdict path a =
     (checked (is_in_folder path a.metadata.«package») misfit.Folder
     (agreed a.metadata.collection (collection_at path))))
 
--- an advisory in a collection
+-- an advisory with its collection set
 abbrev pub in_collection : Collection → Advisory → Advisory
 in_collection c a = record a { metadata = record a.metadata { collection = Some c } }
 
--- the file with this path and this text is filed as this advisory: as the text's, in its folder's collection
+-- the file with this path and this text is filed as this advisory: that of the text, with the collection of the folder
 pub record IsFiled (path text : List ℕ) (a : Advisory) : Type 0 where
   pub written : Advisory
   pub is_advisory : IsAdvisory text written
@@ -67,7 +67,7 @@ pub record IsFiled (path text : List ℕ) (a : Advisory) : Type 0 where
   pub verdict : path_verdict path written ≡ Ok collection
   pub is : a ≡ in_collection collection written
 
--- the text is no advisory, or its path fails a check; the kind is that of the first failure
+-- the text is not an advisory, or the path fails a check; the kind is that of the first failure
 abbrev pub IsMisfiled : List ℕ → List ℕ → ErrorKind → Type 0
 IsMisfiled path text k =
     ((k ≡ kind.Parse) × ((a : Advisory) → ¬ IsAdvisory text a))

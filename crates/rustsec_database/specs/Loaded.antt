@@ -1,4 +1,4 @@
--- What is loaded from files: their advisories, or the first fault.
+-- The result of loading files: their advisories, or the first fault.
 use Rattle.std.specs.Prelude.{◌≡◌, ◌⊎◌, ◌++◌, ◌∷◌, [], ℕ, Bool, true, false, List, Option, Some, None, codes, if◌then◌else◌, length, not}
 use Rattle.std.specs.List.{AllPairs, AllZip, filter, list_any}
 use Rattle.rustsec_versions.specs.Failure.{Failure, IsMemory}
@@ -22,22 +22,22 @@ has_id id a = id_eq id a.metadata.id
 abbrev pub is_known : List Advisory → Advisory → Bool
 is_known others a = list_any (has_id a.metadata.id) others
 
--- no ID stands twice
+-- no two advisories have the same ID
 abbrev pub HaveOwnIds : List Advisory → Type 0
 HaveOwnIds advisories = AllPairs (λ a b. has_id b.metadata.id a ≡ false) advisories
 
--- the files without fault are filed as these advisories, one by one
+-- each file is filed as the advisory at the same place
 abbrev pub AreFiled : List SourceFile → List Advisory → Type 0
 AreFiled files advisories = AllZip (λ (f : SourceFile) a. IsFiled f.path f.text a) files advisories
 
--- no file is at fault, and these are the advisories of all, in the order of the files, without placeholders
+-- no file is at fault, and these are the advisories of all files, in the order of the files, without those whose ID is the placeholder
 pub record AreLoaded (files : List SourceFile) (loaded : List Advisory) : Type 0 where
   pub all : List Advisory
   pub are_filed : AreFiled files all
   pub loaded_are : loaded ≡ filter is_stored all
   pub own_ids : HaveOwnIds loaded
 
--- a file is at fault beside those that are loaded: it is misfiled, or its ID is theirs
+-- a file is at fault after these advisories are loaded: it is misfiled, or its ID is that of one of them
 abbrev pub IsAtFault : List Advisory → List ℕ → List ℕ → ErrorKind → Type 0
 IsAtFault loaded path text k =
     IsMisfiled path text k
@@ -58,14 +58,15 @@ pub record IsFirstFault (files : List SourceFile) (e : Failure) : Type 0 where
   pub fault : IsAtFault loaded bad.path bad.text e.kind
   pub names : e.message ≡ codes "error parsing " ++ bad.path
 
--- one file more: what is loaded then, and the place of its advisory, unless that is a placeholder
+-- the loaded advisories after one more, which is left out if its ID is the placeholder
 abbrev pub with_one : List Advisory → Advisory → List Advisory
 with_one loaded a = if is_stored a then loaded ++ a ∷ [] else loaded
 
+-- the place of one more advisory, or `None` if its ID is the placeholder
 abbrev pub place_of_one : List Advisory → Advisory → Option ℕ
 place_of_one loaded a = if is_stored a then Some (length loaded) else None
 
--- a file without fault beside those that are loaded
+-- a file is without fault after these advisories are loaded: the place of its advisory, and the advisories with it
 pub record IsAdded (loaded : List Advisory) (path text : List ℕ) (place : Option ℕ) (more : List Advisory) : Type 0 where
   pub one : Advisory
   pub is_filed : IsFiled path text one

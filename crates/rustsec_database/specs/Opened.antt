@@ -1,4 +1,4 @@
--- What opening a root gives, by the answers that its folders allow.
+-- The result of opening a root, for the answers that its folders allow.
 use Rattle.std.specs.Prelude.{◌⊎◌, ℕ, IfErr, IfOk, List, None, Option, Result, Some}
 use Rattle.rustsec_folders.specs.Allowed.{Allowed}
 use Rattle.rustsec_folders.specs.Listed.{FailsAtFile, IsFile, Listed, Pairwise}
@@ -8,18 +8,18 @@ use Rattle.rustsec_versions.specs.declared.error.ErrorKind.TheVariants as kind
 use Rattle.rustsec_advisory.specs.declared.advisory.Advisory.{Advisory}
 use Rattle.rustsec_database.specs.Loaded.{AreLoaded, IsAdded, IsFault, IsFirstFault}
 
--- what is loaded from files that stand under a root
+-- the advisories loaded from files that are listed under a root
 abbrev pub AreOpened : Allowed → List ℕ → List Advisory → Type 0
 AreOpened allowed root loaded = (files : List SourceFile) × (Listed allowed root (Some files) × AreLoaded files loaded)
 
--- an I/O error that is met under a root, the refusal of the first file at fault of those that stand there, or out of memory
+-- an I/O error under a root, the refusal of the first file at fault among those that are listed there, or out of memory
 abbrev pub IsOpenRefusal : Allowed → List ℕ → Failure → Type 0
 IsOpenRefusal allowed root e =
     IsRefusal kind.Io (Listed allowed root None) e ⊎ ((files : List SourceFile) × (Listed allowed root (Some files) × IsFirstFault files e))
 
 -- ---- the file at one path
 
--- what is loaded with a text more that may be read at a path
+-- the loaded advisories after the file at a path, whose text is one that may be read there
 abbrev pub IsAddedAt : Allowed → List ℕ → List Advisory → Option ℕ → List Advisory → Type 0
 IsAddedAt allowed path loaded place more = (text : List ℕ) × (allowed.reads path (Some text) × IsAdded loaded path text place more)
 
@@ -28,9 +28,9 @@ abbrev pub IsFaultAt : Allowed → List ℕ → List Advisory → Failure → Ty
 IsFaultAt allowed path loaded e =
     IsRefusal kind.Io (allowed.reads path None) e ⊎ ((text : List ℕ) × (allowed.reads path (Some text) × IsFault loaded path text e))
 
--- ---- the same of the files at some paths, for what opening calls
+-- ---- the files at some paths, for the functions that opening calls
 
--- what is loaded from the files at these paths
+-- the advisories loaded from the files at these paths
 abbrev pub AreRead : Allowed → List (List ℕ) → List Advisory → Type 0
 AreRead allowed paths loaded = (files : List SourceFile) × (Pairwise (IsFile allowed) paths files × AreLoaded files loaded)
 
@@ -39,6 +39,6 @@ abbrev pub IsReadRefusal : Allowed → List (List ℕ) → Failure → Type 0
 IsReadRefusal allowed paths e =
     IsRefusal kind.Io (FailsAtFile allowed paths) e ⊎ ((files : List SourceFile) × (Pairwise (IsFile allowed) paths files × IsFirstFault files e))
 
--- what loading these files answers: their advisories, the refusal of the first file at fault, or out of memory
+-- the result of loading these files: their advisories, the refusal of the first file at fault, or out of memory
 abbrev pub IsLoadOf : List SourceFile → Result (List Advisory) Failure → Type 0
 IsLoadOf files answer = IfOk answer (AreLoaded files) × IfErr answer (λ e. IsFirstFault files e ⊎ IsMemory e)

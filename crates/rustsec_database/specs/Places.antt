@@ -1,4 +1,4 @@
--- Places in a list of advisories: what the tables of a database hold. No public contract's meaning rests on these words.
+-- Places in a list of advisories, which the tables of a database hold. No public contract depends on these definitions.
 use Rattle.std.specs.Prelude.{◌≡◌, ◌&&◌, ◌+◌, ℕ, Bool, List, [], ◌∷◌, Some, if◌then◌else◌, nat_eq, slice_get}
 use Rattle.std.specs.BTreeMap as tree
 use Rattle.std.specs.BTreeMap.{BTreeMap}
@@ -14,23 +14,23 @@ use Rattle.rustsec_advisory.specs.declared.advisory.Advisory.{Advisory}
 use Rattle.rustsec_database.specs.Loaded.{has_id}
 use Rattle.rustsec_database.specs.Slots.{slots_at}
 
--- the places from the i-th on at which a test holds
+-- the places of the elements for which a test holds; the first element is at the place i
 abbrev pub places_from : {A : Type 0} → (A → Bool) → ℕ → List A → List ℕ
 places_from test i [] = []
 places_from test i (x ∷ xs) = if test x then i ∷ places_from test (i + 1) xs else places_from test (i + 1) xs
 
--- the elements at some places
+-- the elements at some places; a place out of range gives none
 abbrev pub at_places : {A : Type 0} → List ℕ → List A → List A
 at_places places xs = filter_map (slice_get xs) places
 
--- an advisory of this collection and this package
+-- whether an advisory is of this collection and this package
 abbrev pub is_under : Collection → List ℕ → Advisory → Bool
 is_under c name a = option_eq (sameb collection) (Some c) a.metadata.collection && pointwise nat_eq name a.metadata.«package»
 
--- the index of a collection: under each name the places of its advisories
+-- the index of a collection: it maps each name to the places of its advisories
 abbrev pub IsIndexOf : Collection → List Advisory → List (List ℕ × List ℕ) → Type 0
 IsIndexOf c advisories index = (name : List ℕ) → slots_at name index ≡ places_from (is_under c name) 0 advisories
 
--- the table of IDs: each ID with the place of its advisory
+-- the table of IDs: it maps each ID to the place of its advisory
 abbrev pub IsTableOf : List Advisory → BTreeMap IdValue ℕ → Type 0
 IsTableOf advisories table = (id : IdValue) → tree.get id_order table id ≡ position_from (has_id id) 0 advisories

@@ -1,4 +1,4 @@
-// The database.
+//! The database: advisories loaded from files, with indexes by ID and by package.
 
 ghost use Rattle.std.specs.Prelude.{◌≡◌, ◌++◌, ◌∷◌, ◌⊎◌, ◌<◌, ◌^◌, [], ℕ, Bool, IfErr, IfOk, List, OnErr, OnOk, Option, Some, length, map, true};
 ghost use Rattle.std.specs.Iterator.Adapters.{IterYieldsInOrder};
@@ -28,10 +28,10 @@ use std::alloc::{AllocError, Global};
 use std::marker::Model;
 use std::{slice, vec};
 
-/// The advisories of a database, in the order in which they were loaded.
+/// An iterator over the advisories of a database, in the order in which they were loaded.
 pub type Iter<'a> = slice::Iter<'a, Advisory>;
 
-/// The advisories of a database, with what finds them by ID and by package.
+/// The advisories of a database, with indexes that find them by ID and by package.
 #[derive(Debug, Drop)]
 pub struct Database {
     entries: Entries,
@@ -52,7 +52,7 @@ impl Model for Database {
     ghost invariant = { λ d. IsIndexOf collection.Crates d.entries d.crates × IsIndexOf collection.Rust d.entries d.rust };
 }
 
-/// Puts the slot of an advisory into the index of a collection, if the advisory is of the collection.
+/// Adds the slot of an advisory to the index of a collection, if the advisory is in the collection.
 fn index_in(
     alloc: Global,
     index: &mut Index,
@@ -70,7 +70,7 @@ fn index_in(
     Ok(())
 }
 
-/// Puts the advisory in a slot into the index of its collection.
+/// Adds a slot to the index of the collection that its advisory is in.
 fn index_both(
     alloc: Global,
     entries: &Entries,
@@ -90,7 +90,7 @@ fn index_both(
     Ok(())
 }
 
-/// Loads the file with this path and this text.
+/// Loads the advisory of the file with this path and this text, and indexes it if it is stored.
 fn load_one(
     alloc: Global,
     path: &str,
@@ -149,7 +149,7 @@ impl<'a> Test<Advisory> for MatchesPackage<'a> {
     }
 }
 
-/// The advisories in some slots that pass a test.
+/// Returns the advisories in some slots that pass a test, in the order of the slots.
 fn matching<'a, T: Test<Advisory>>(
     alloc: Global,
     entries: &'a Entries,
@@ -169,7 +169,7 @@ fn matching<'a, T: Test<Advisory>>(
     Ok(found)
 }
 
-/// The advisories that pass a test.
+/// Returns the advisories that pass a test, in the order in which they were loaded.
 fn all_matching<'a, T: Test<Advisory>>(
     alloc: Global,
     entries: &'a Entries,
@@ -186,7 +186,7 @@ fn all_matching<'a, T: Test<Advisory>>(
     Ok(found)
 }
 
-/// A package with each of some advisories, as vulnerabilities behind others.
+/// Appends one vulnerability for each advisory, all of `package`.
 fn add_vulnerabilities(
     alloc: Global,
     vulnerabilities: &mut Items<Vulnerability>,
@@ -215,7 +215,7 @@ fn is_audited(package: &Package) -> bool
 }
 
 impl Database {
-    /// The database of no file.
+    /// Returns a database without advisories.
     pub(crate) fn empty(alloc: Global) -> Database
         ensures { result ≡ [] }
     {
@@ -226,7 +226,7 @@ impl Database {
         }
     }
 
-    /// The database with one file more, of this path and this text.
+    /// Loads one more file, with this path and this text, and returns the database.
     ///
     /// # Errors
     ///
@@ -248,12 +248,12 @@ impl Database {
         })
     }
 
-    /// The database of some files. Advisories whose ID is the placeholder are left out.
+    /// Loads the database of some files. Advisories whose ID is the placeholder are left out.
     ///
     /// # Errors
     ///
-    /// The refusal of the first file that `Entries::load_text` refuses behind those before it; else
-    /// `OutOfMemory`.
+    /// The refusal of the first file that `Entries::load_text` refuses after the files before it are
+    /// loaded; else `OutOfMemory`.
     pub fn load(alloc: Global, files: &[SourceFile]) -> Result<Database>
         ensures ok { IfOk result (AreLoaded files.now) }
 
@@ -269,14 +269,14 @@ impl Database {
         Ok(database)
     }
 
-    /// The advisory with an ID.
+    /// Returns the advisory with an ID, or `None` if no advisory has it.
     pub fn get(&self, id: &Id) -> Option<&Advisory>
         ensures { option_copied result ≡ find (has_id id.now) self.now }
     {
         self.entries.find_by_id(id)
     }
 
-    /// The advisories, in the order in which they were loaded.
+    /// Returns an iterator over the advisories, in the order in which they were loaded.
     pub fn iter(&self) -> Iter<'_>
         ensures rest { iter_rest result ≡ self.now }
         ensures bound { length (iter_rest result) < 2 ^ 64 }
@@ -285,7 +285,7 @@ impl Database {
         self.entries.iter()
     }
 
-    /// The slots of a package's advisories in a collection.
+    /// Returns the slots of the advisories of a collection and a package name.
     fn slots(&self, collection: Collection, name: &Name) -> &[Slot]
         ensures { result.now ≡ places_from (is_under collection name.now) 0 self.now }
     {
@@ -299,7 +299,8 @@ impl Database {
         }
     }
 
-    /// The advisories that pass a test which only those of a collection and a name pass, by the index.
+    /// Uses the index to find the advisories that pass a test, in the order in which they were loaded. Only
+    /// advisories of this collection and this package name may pass the test.
     fn indexed<T: Test<Advisory>>(
         &self,
         alloc: Global,
@@ -313,8 +314,8 @@ impl Database {
         matching(alloc, &self.entries, self.slots(collection, name), test)
     }
 
-    /// The advisories that match a query, in the order in which they were loaded. If the query asks for
-    /// a collection and a name, only the package's advisories are looked at.
+    /// Returns the advisories that match a query, in the order in which they were loaded. If the query asks
+    /// for a collection and a name, only the advisories of that collection and that name are looked at.
     ///
     /// # Errors
     ///
@@ -333,7 +334,7 @@ impl Database {
         Ok(found)
     }
 
-    /// The advisories that a query finds for a package. It copies no query.
+    /// Returns the advisories that a query finds for a package. It does not copy the query.
     fn query_of_package(
         &self,
         alloc: Global,
@@ -349,7 +350,8 @@ impl Database {
         }
     }
 
-    /// Puts what a query finds of one package behind other vulnerabilities.
+    /// Appends one vulnerability for each advisory that a query finds for a package. A package that is not
+    /// audited adds none.
     fn query_package(
         &self,
         alloc: Global,
@@ -368,7 +370,7 @@ impl Database {
         add_vulnerabilities(alloc, vulnerabilities, package, found.as_slice())
     }
 
-    /// What a query finds of some packages.
+    /// Returns the vulnerabilities that a query finds for some packages, in the order of the packages.
     fn query_packages(
         &self,
         alloc: Global,
@@ -385,10 +387,10 @@ impl Database {
         Ok(vulnerabilities)
     }
 
-    /// The packages of a lockfile, each with each advisory that a query finds for it: by package in the
-    /// lockfile's order, then by advisory in the order in which they were loaded. A package is looked at
-    /// only if its source is one of the two default registries; it is found by its name, version and
-    /// source.
+    /// Returns one vulnerability for each package of a lockfile and each advisory that a query finds for
+    /// it. They are in the lockfile's order of packages, then in the order in which the advisories were
+    /// loaded. A package is looked at only if its source is one of the two default registries. The query
+    /// takes its name, version and source from the package.
     ///
     /// # Errors
     ///
@@ -406,7 +408,8 @@ impl Database {
         Ok(Vec::from(found))
     }
 
-    /// The vulnerabilities of a lockfile: what `query_vulnerabilities` finds for `Query::crate_scope`.
+    /// Returns the vulnerabilities that `query_vulnerabilities` finds in a lockfile for
+    /// `Query::crate_scope`.
     ///
     /// # Errors
     ///
@@ -433,7 +436,7 @@ impl IntoIterator for Database {
     ghost into_iter_gives = { λ d it. (into_iter_items it ≡ d) × (into_iter_len it < 2 ^ 64)
         × EveryRun (into_iter_steps {X = given.Advisory} {Z = Global}) (λ p. ItemsAre p (into_iter_items p.from)) };
 
-    /// The advisories by value, in the order in which they were loaded.
+    /// Returns an iterator over the advisories by value, in the order in which they were loaded.
     fn into_iter(self) -> vec::IntoIter<Advisory> {
         let Database {
             entries,

@@ -1,4 +1,4 @@
-// The stored advisories.
+//! The stored advisories, with a table that finds them by ID.
 
 ghost use Rattle.std.specs.Prelude.{◌≡◌, ◌++◌, ◌∷◌, ◌⊎◌, ◌<◌, ◌^◌, [], false, ℕ, IfErr, IfOk, List, OnErr, OnOk, length, slice_get};
 ghost use Rattle.std.specs.Iterator.Adapters.{IterYieldsInOrder};
@@ -24,7 +24,7 @@ use std::marker::Model;
 use std::rt::Files;
 use std::{slice, vec};
 
-/// The stored advisories, in the order in which they were loaded. No ID stands twice.
+/// The stored advisories, in the order in which they were loaded. No two have the same ID.
 #[derive(Debug, Drop)]
 pub struct Entries {
     advisories: Vec<Advisory>,
@@ -43,7 +43,7 @@ impl Model for Entries {
     ghost invariant = { λ e. IsTableOf e.advisories.items e.slots };
 }
 
-/// The refusal of a file whose ID is that of a stored advisory.
+/// Makes the error for a file whose ID is that of a stored advisory.
 fn duplicate(alloc: Global, id: &Id) -> Error
     ensures { IsOfKind ErrorKind.Parse result }
 {
@@ -54,7 +54,7 @@ fn duplicate(alloc: Global, id: &Id) -> Error
 }
 
 impl Entries {
-    /// No advisory, which takes no memory.
+    /// Returns an empty list. It takes no memory.
     pub fn new(alloc: Global) -> Entries
         ensures { result ≡ [] }
     {
@@ -64,8 +64,8 @@ impl Entries {
         }
     }
 
-    /// Stores an advisory behind the others, or changes nothing. All memory is taken before the first
-    /// change.
+    /// Appends an advisory whose ID is not stored yet, and returns its slot. On an error nothing is
+    /// changed: all memory is taken before the first change.
     fn store(&mut self, advisory: Advisory) -> std::result::Result<Slot, AllocError>
         requires { is_known self.old advisory ≡ false }
         ensures ok { OnOk result (self.new ≡ self.old ++ advisory ∷ []) }
@@ -80,7 +80,8 @@ impl Entries {
         Ok(slot)
     }
 
-    /// Stores the advisory of a file, unless its ID is the placeholder.
+    /// Stores the advisory of a file and returns its slot, or returns `None` if its ID is the placeholder.
+    /// On an error nothing is changed.
     fn add(&mut self, alloc: Global, path: &str, text: &str) -> Result<Option<Slot>>
         ensures ok { IfOk result (λ slot. IsAdded self.old path.now text.now slot self.new) }
         ensures kept { OnErr result (self.new ≡ self.old) }
@@ -98,16 +99,20 @@ impl Entries {
     }
 
     /// Loads the advisory of a file with this path and this text, and stores it unless its ID is the
-    /// placeholder. It answers the slot of the advisory, or nothing for a placeholder. The stored
-    /// advisory has the collection of its folder.
+    /// placeholder. Returns the slot of the advisory, or `None` for a placeholder. The stored advisory has
+    /// the collection of its folder.
     ///
     /// # Errors
     ///
-    /// `Parse` if the text is no advisory; then `Repo` if the extension of the path is not `md`, the
-    /// file is neither named `ID.md` nor a draft's, the folder is not named after the package, or its
-    /// parent is neither `crates` nor `rust`; then `Parse` if the text names another collection than
-    /// the parent, or the ID is that of a stored advisory; else `OutOfMemory`. Nothing is changed then.
-    /// The message names the path, the cause says why.
+    /// The first of these checks that fails gives the error:
+    /// - `Parse` if the text is not an advisory;
+    /// - `Repo` if the extension of the path is not `md`, the file is neither named `ID.md` nor a draft,
+    ///   the folder is not named after the package, or its parent is neither `crates` nor `rust`;
+    /// - `Parse` if the text names another collection than the parent, or the ID is that of a stored
+    ///   advisory.
+    ///
+    /// The message then names the path, and the cause says why. Otherwise the error is `OutOfMemory`. On
+    /// any error nothing is changed.
     pub fn load_text(&mut self, alloc: Global, path: &str, text: &str) -> Result<Option<Slot>>
         ensures ok { IfOk result (λ slot. IsAdded self.old path.now text.now slot self.new) }
         ensures kept { OnErr result (self.new ≡ self.old) }
@@ -119,7 +124,7 @@ impl Entries {
         }
     }
 
-    /// Loads the advisory of the file at a path of any folders, as `load_text` does.
+    /// Reads the file at a path through `folders`, and loads its advisory as `load_text` does.
     ///
     /// # Errors
     ///
@@ -139,7 +144,7 @@ impl Entries {
         self.load_text(alloc, path, text.as_str())
     }
 
-    /// Loads the advisory of the file at a path of the disk, as `load_file_with`.
+    /// Reads the file at a path of the disk, and loads its advisory as `load_file_with` does.
     ///
     /// # Errors
     ///
@@ -154,7 +159,7 @@ impl Entries {
         self.load_text(alloc, path, text.as_str())
     }
 
-    /// The stored advisory with an ID.
+    /// Returns the stored advisory with an ID, or `None` if no stored advisory has it.
     pub fn find_by_id(&self, id: &Id) -> Option<&Advisory>
         ensures { option_copied result ≡ find (has_id id.now) self.now }
     {
@@ -164,21 +169,21 @@ impl Entries {
         }
     }
 
-    /// The advisory in a slot, if there are so many.
+    /// Returns the advisory in a slot, or `None` if the slot is out of range.
     pub fn get(&self, slot: Slot) -> Option<&Advisory>
         ensures { option_copied result ≡ slice_get self.now slot }
     {
         self.advisories.get(slot.place())
     }
 
-    /// The stored advisories as a slice.
+    /// Returns the stored advisories as a slice.
     pub(crate) fn as_slice(&self) -> &[Advisory]
         ensures { result.now ≡ self.now }
     {
         self.advisories.as_slice()
     }
 
-    /// The stored advisories, in the order in which they were loaded.
+    /// Returns an iterator over the stored advisories, in the order in which they were loaded.
     pub fn iter(&self) -> slice::Iter<'_, Advisory>
         ensures rest { iter_rest result ≡ self.now }
         ensures bound { length (iter_rest result) < 2 ^ 64 }
@@ -202,7 +207,7 @@ impl IntoIterator for Entries {
     ghost into_iter_gives = { λ e it. (into_iter_items it ≡ e) × (into_iter_len it < 2 ^ 64)
         × EveryRun (into_iter_steps {X = given.Advisory} {Z = Global}) (λ p. ItemsAre p (into_iter_items p.from)) };
 
-    /// The stored advisories by value, in the order in which they were loaded.
+    /// Returns an iterator over the stored advisories by value, in the order in which they were loaded.
     fn into_iter(self) -> vec::IntoIter<Advisory> {
         let Entries {
             advisories,

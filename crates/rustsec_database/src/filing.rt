@@ -1,4 +1,4 @@
-// Where the file of an advisory stands.
+//! Checks the path of an advisory's file against the advisory, and sets the advisory's collection.
 
 ghost use Rattle.std.specs.Prelude.{◌≡◌, ◌⊎◌, IfErr, IfOk};
 ghost use Rattle.rustsec_versions.specs.Failure.{IsMemory, IsOfKind};
@@ -16,24 +16,24 @@ use std::alloc::{AllocError, Global};
 pub enum Misfit {
     /// The extension is not `md`.
     Extension,
-    /// The file is not named after the ID, and is no draft.
+    /// The file is not named after the ID, and is not a draft.
     FileName,
     /// The folder is not named after the package.
     Folder,
-    /// The folder stands in no collection.
+    /// The folder is not in a collection.
     Parent,
-    /// The advisory names another collection.
+    /// The advisory names another collection than that of the folder.
     Collection,
 }
 
-/// Whether the file is named after an ID, or is a draft.
+/// Returns whether the file is named after an ID, or is a draft.
 fn is_named(path: &str, id: &str) -> bool
     ensures { result ≡ is_named path.now id.now }
 {
     path::is_markdown_file_of(path, id) || path::is_draft(path)
 }
 
-/// Whether the file stands in a folder of this name.
+/// Returns whether the file is in a folder of this name.
 fn is_in_folder(path: &str, name: &str) -> bool
     ensures { result ≡ is_in_folder path.now name.now }
 {
@@ -43,7 +43,7 @@ fn is_in_folder(path: &str, name: &str) -> bool
     }
 }
 
-/// The collection that the folder's parent is.
+/// Returns the collection whose name the parent of the file's folder has, or `None` if it has another name.
 fn collection_at(path: &str) -> Option<Collection>
     ensures { result ≡ collection_at path.now }
 {
@@ -53,7 +53,7 @@ fn collection_at(path: &str) -> Option<Collection>
     }
 }
 
-/// Whether a collection that an advisory names, if it names one, is this one.
+/// Returns whether an advisory names this collection or none.
 fn agrees(named: Option<Collection>, collection: Collection) -> bool
     ensures { result ≡ agrees named collection }
 {
@@ -63,7 +63,7 @@ fn agrees(named: Option<Collection>, collection: Collection) -> bool
     }
 }
 
-/// The folder's collection, where there is one with which an advisory agrees.
+/// Returns the folder's collection if the advisory names it or none; otherwise the check that fails.
 fn agreed(
     named: Option<Collection>,
     at: Option<Collection>,
@@ -82,7 +82,7 @@ fn agreed(
     }
 }
 
-/// The collection in which the file of an advisory stands, or the first check that fails.
+/// Returns the collection that the file of an advisory is in, or the first check that fails.
 fn verdict(path: &str, advisory: &Advisory) -> std::result::Result<Collection, Misfit>
     ensures { result ≡ path_verdict path.now advisory.now }
 {
@@ -98,7 +98,7 @@ fn verdict(path: &str, advisory: &Advisory) -> std::result::Result<Collection, M
     agreed(advisory.metadata.collection, collection_at(path))
 }
 
-/// The kind of the refusal where a check fails.
+/// Returns the kind of the error for a check that fails.
 fn kind_of(misfit: Misfit) -> ErrorKind
     ensures { result ≡ kind_of misfit }
 {
@@ -108,7 +108,7 @@ fn kind_of(misfit: Misfit) -> ErrorKind
     }
 }
 
-/// What is said where a check fails, of the advisory with this ID and package.
+/// Returns the message for a check that fails, about the advisory with this ID and package.
 fn message(
     alloc: Global,
     misfit: Misfit,
@@ -128,7 +128,7 @@ fn message(
     }
 }
 
-/// The refusal of a file that fails a check.
+/// Makes the error for a file that fails a check.
 fn misfiled(alloc: Global, misfit: Misfit, advisory: &Advisory) -> Error
     ensures { IsOfKind (kind_of misfit) result }
 {
@@ -139,7 +139,8 @@ fn misfiled(alloc: Global, misfit: Misfit, advisory: &Advisory) -> Error
     }
 }
 
-/// The advisory of a file's text, in the collection of its folder.
+/// Parses the advisory of a file's text, checks the file's path, and sets the collection to that of the
+/// folder.
 pub(crate) fn filed(alloc: Global, path: &str, text: &str) -> Result<Advisory>
     ensures ok { IfOk result (IsFiled path.now text.now) }
     ensures err { IfErr result (λ e. IsMisfiled path.now text.now e.kind ⊎ IsMemory e) }

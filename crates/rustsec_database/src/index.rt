@@ -1,4 +1,4 @@
-// Indexes: which slots stand under which name.
+//! An index: the slots of each name.
 
 ghost use Rattle.std.specs.Prelude.{◌≡◌, ◌∷◌, [], if◌then◌else◌, ℕ, IfErr, IfOk, IfSome, List, OnErr, OnOk, nat_eq, not};
 ghost use Rattle.std.specs.Cmp.Lexicographic.{pointwise};
@@ -14,7 +14,7 @@ use std::alloc::{AllocError, Global};
 use std::collections::BTreeMap;
 use std::marker::Model;
 
-/// Which slots stand under which name. Contracts see it as the list of the names with their slots.
+/// A map from names to slots. Contracts see it as the list of the names with their slots.
 #[derive(Debug, Drop)]
 pub struct Index {
     slots: BTreeMap<Name, Vec<Slot>>,
@@ -31,7 +31,7 @@ impl Model for Index {
     ghost invariant = { λ i. AllRise i.slots };
 }
 
-/// Puts a slot to its place among rising ones, unless it is there. Whether it was put there.
+/// Inserts a slot into a rising list without duplicates. Returns whether the slot was new.
 fn add(slots: &mut Vec<Slot>, slot: Slot) -> std::result::Result<bool, AllocError>
     requires { Rises slots.old.items }
     ensures ok { OnOk result (slots.new.items ≡ with_slot slot slots.old.items) }
@@ -48,7 +48,7 @@ fn add(slots: &mut Vec<Slot>, slot: Slot) -> std::result::Result<bool, AllocErro
 }
 
 impl Index {
-    /// The index without a slot, which takes no memory.
+    /// Returns an empty index. It takes no memory.
     pub fn new(alloc: Global) -> Index
         ensures { result ≡ [] }
     {
@@ -57,7 +57,7 @@ impl Index {
         }
     }
 
-    /// Puts the first slot under a name that has none.
+    /// Inserts the first slot of a name that has none.
     fn insert_first(
         &mut self,
         alloc: Global,
@@ -74,7 +74,7 @@ impl Index {
         Ok(())
     }
 
-    /// Puts a slot under a name. It answers whether the slot did not stand there before.
+    /// Inserts a slot under a name. Returns whether the name did not have the slot before.
     ///
     /// # Errors
     ///
@@ -98,7 +98,7 @@ impl Index {
         }
     }
 
-    /// The slots under a name, each once and rising, or nothing if there is none.
+    /// Returns the slots of a name, rising and without duplicates, or `None` if the name has no slot.
     pub fn get(&self, key: &Name) -> Option<&[Slot]>
         ensures slots { option_copied result ≡ where_any (slots_at key.now self.now) }
         ensures rising { IfSome result (λ slots. Rises slots.now) }

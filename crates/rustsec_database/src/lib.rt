@@ -1,4 +1,4 @@
-//! The advisory database: advisories that were loaded from files, and what is asked of them.
+//! The advisory database: loads advisories from files, and answers queries about them.
 #![tactic(auto)]
 
 mod database;

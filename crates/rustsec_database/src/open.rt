@@ -1,4 +1,4 @@
-// Databases of the files under a root.
+//! Opens the database of the files under a root.
 
 ghost use Rattle.std.specs.Prelude.{◌++◌, ◌∷◌, [], IfErr, IfOk, List};
 ghost use Rattle.rustsec_folders.specs.Allowed.{AllowSame, real_folders};
@@ -12,8 +12,8 @@ use rustsec_versions::Result;
 use std::alloc::Global;
 use std::rt::Files;
 
-/// What loading some files answers, from what loading those before the last answered. Behind a file at
-/// fault none is loaded.
+/// Loads one more file into the database of the files before it. If `before` is an error, that error is
+/// returned and the file is not loaded.
 fn load_next(alloc: Global, before: Result<Database>, path: &str, text: &str) -> Result<Database>
     ensures { (files : List SourceFile) → IsLoadOf files before
         → IsLoadOf (files ++ record { path = path.now; text = text.now } ∷ []) result }
@@ -22,7 +22,7 @@ fn load_next(alloc: Global, before: Result<Database>, path: &str, text: &str) ->
     database.with_file(alloc, path, text)
 }
 
-/// The database of the files at some paths. All are read, also behind a file at fault; one text is held
+/// Loads the database of the files at some paths. Files after one at fault are read too. One text is held
 /// at a time.
 fn load_paths<F: Folders>(alloc: Global, folders: &mut F, paths: &[Text]) -> Result<Database>
     ensures ok { IfOk result (AreRead (F.allowed folders.old) paths.now) }
@@ -38,14 +38,14 @@ fn load_paths<F: Folders>(alloc: Global, folders: &mut F, paths: &[Text]) -> Res
 }
 
 impl Database {
-    /// The database of the files under a root, by any folders: the files of `crates` and behind them
-    /// those of `rust`, in the order of their folders' names and then of their own. All folders are
-    /// listed first; then each file is read and loaded, and its text is dropped.
+    /// Opens the database of the files under a root, read through `folders`: the files of `crates` and
+    /// after them those of `rust`, in the order of their folders' names and then of their own. All folders
+    /// are listed first. Then each file is read and loaded, and its text is dropped.
     ///
     /// # Errors
     ///
-    /// `Io` if `crates`, a package's folder or a file in one cannot be listed or read, wherever it
-    /// stands; then as `load`.
+    /// `Io` if `crates`, a package's folder or a file in one cannot be listed or read, also if a file
+    /// before it is at fault; then as `load`.
     pub fn open_with<F: Folders>(alloc: Global, folders: &mut F, root: &str) -> Result<Database>
         ensures ok { IfOk result (AreOpened (F.allowed folders.old) root.now) }
         ensures err { IfErr result (IsOpenRefusal (F.allowed folders.old) root.now) }
@@ -55,8 +55,8 @@ impl Database {
         load_paths(alloc, folders, paths.as_slice())
     }
 
-    /// The database of the files under a root of the disk. Nothing that waits is opened there: a pipe, a
-    /// device or a socket where a file is due is refused.
+    /// Opens the database of the files under a root of the disk. Nothing that waits is opened there: a
+    /// pipe, a device or a socket where a file is expected is refused.
     ///
     /// # Errors
     ///

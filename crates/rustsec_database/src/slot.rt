@@ -1,4 +1,4 @@
-// Places among the stored advisories.
+//! The place of an advisory among the stored ones.
 
 ghost use Rattle.std.specs.Prelude.{◌≡◌};
 ghost use Rattle.std.specs.Ordering.{nat_cmp};
@@ -6,7 +6,7 @@ ghost use Rattle.std.specs.Ordering.{nat_cmp};
 use rustsec_values::{ExactClone, ExactEq, StatedOrder};
 use std::marker::Model;
 
-/// The place of an advisory among the stored ones, from zero on.
+/// The place of an advisory among the stored ones, counted from zero.
 #[derive(Clone, Copy, Debug, PartialEq, Eq, PartialOrd, Ord)]
 pub struct Slot {
     place: usize,
@@ -23,14 +23,14 @@ impl Model for Slot {
 }
 
 impl Slot {
-    /// The slot of this place.
+    /// Returns the slot of this place.
     pub(crate) fn new(place: usize) -> Slot
         ensures { result ≡ place }
     {
         Slot { place }
     }
 
-    /// The place.
+    /// Returns the place, counted from zero.
     pub(crate) fn place(self) -> usize
         ensures { result ≡ self }
     {

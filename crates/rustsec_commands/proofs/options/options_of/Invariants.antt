@@ -3,7 +3,7 @@ use Rattle.rustsec_commands.specs.Options.{options_of}
 use Rattle.rustsec_commands.proofs.OptionWords.{behind_all, rest_of}
 use Rattle.rustsec_commands.proofs.options.options_of.Given as goal
 
--- what was taken in, and what the words that are left stand for behind it, is what all words stand for
+-- all words name the options so far, and after them the options that the words that are left name
 abbrev pub invariant-loop-word : goal.invariant-loop-word
 invariant-loop-word l =
     options_of (map (λ w. w.now) l.words)

@@ -3,6 +3,6 @@ use Rattle.std.specs.List.{filter}
 use Rattle.rustsec_database.specs.Places.{at_places}
 use Rattle.rustsec_database.proofs.database.matching.Given as goal
 
--- what was found so far is what passes in the slots so far
+-- the advisories found so far are those in the slots so far that pass the test
 abbrev pub invariant-loop-slot : goal.invariant-loop-slot
 invariant-loop-slot g l = map (λ a. a.now) l.found.items ≡ filter (g.T.Test.passes l.test) (at_places (take l.slot-index l.slots) l.entries)

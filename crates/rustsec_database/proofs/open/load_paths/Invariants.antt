@@ -5,7 +5,7 @@ use Rattle.rustsec_folders.specs.declared.source_file.SourceFile.{SourceFile}
 use Rattle.rustsec_database.specs.Opened.{IsLoadOf}
 use Rattle.rustsec_database.proofs.open.load_paths.Given as goal
 
--- the files at the paths so far were read, and `loaded` is what loading them answers
+-- the files at the paths so far were read, and `loaded` is the result of loading them
 abbrev pub invariant-loop-path : goal.invariant-loop-path
 invariant-loop-path g l = record {
   same : AllowSame (g.F.Folders.allowed l.fn.folders) (g.F.Folders.allowed l.folders);
