@@ -13,4 +13,4 @@ same_reason k e r (inr memory) h keeps = inr (keeps memory)
 
 pub names_file : (path : List ℕ) (e r : Failure) → (r ≡ of_file path e) ⊎ IsMemory r → NamesFile path r
 names_file path e r (inl same) = inr (e, same)
-names_file path e r (inr memory) = inl (inr memory)
+names_file path e r (inr memory) = inl (inl (inr memory))

@@ -204,7 +204,7 @@ fn add_vulnerabilities(
     Ok(())
 }
 
-/// Whether a package is audited: whether its source is one of the two default registries.
+/// Returns whether a package is audited: whether its source is one of the two default registries.
 fn is_audited(package: &Package) -> bool
     ensures { result ≡ is_audited «package».now }
 {
