@@ -79,6 +79,7 @@ impl Seek for Opened {
 }
 
 /// Files of which each is of one kind when its path is asked, and of another one when it is opened.
+#[derive(Drop)]
 struct SwappedFiles {
     asked: Kind,
     opened: Kind,

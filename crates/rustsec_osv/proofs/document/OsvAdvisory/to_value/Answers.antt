@@ -1,4 +1,4 @@
-use Rattle.std.proofs.Common.{◌≡◌, ◌∙◌, ap, sym, search}
+use Rattle.std.proofs.Common.{◌≡◌, ◌∙◌, ap, rules, sym}
 use Rattle.serde_json.specs.View.{view}
 use Rattle.rustsec_osv.specs.ReaderDocument.{read_document}
 use Rattle.rustsec_osv.specs.TreeDocument.{document_tree}
