@@ -1,9 +1,9 @@
--- Paths of files: segments between slashes, the last of which names the file.
+-- Paths of files: segments between slashes. The last segment names the file.
 use Rattle.std.specs.Prelude.{ℕ, ◌==◌, Bool, false, not, ◌&&◌, ◌||◌, ◌++◌, List, [], ◌∷◌, Option, Some, None, codes, filter, length, nat_eq, nat_lt}
 use Rattle.std.specs.List.{ends_with, slice_split, starts_with}
 use Rattle.std.specs.Str.{bytes_eq}
 
--- whether what stands between two slashes is a segment: empty texts and `.` are none
+-- whether a text between two slashes is a segment: an empty text and `.` are not segments
 abbrev pub is_segment : List ℕ → Bool
 is_segment text = not (length text == 0 || bytes_eq text (codes "."))
 
@@ -27,7 +27,7 @@ without_last (x ∷ y ∷ more) = x ∷ without_last (y ∷ more)
 abbrev pub file_name : List ℕ → Option (List ℕ)
 file_name path = last (segments path)
 
--- the name of the folder that it stands in: the segment before it
+-- the name of the folder that holds it: the segment before it
 abbrev pub folder : List ℕ → Option (List ℕ)
 folder path = last (without_last (segments path))
 
@@ -35,11 +35,11 @@ folder path = last (without_last (segments path))
 abbrev pub folder_parent : List ℕ → Option (List ℕ)
 folder_parent path = last (without_last (without_last (segments path)))
 
--- whether a file's name has the extension `md`: it ends so, and a byte stands before the full stop
+-- whether a file's name has the extension `md`: it ends with `.md`, and there is a byte before the full stop
 abbrev pub has_markdown_extension : List ℕ → Bool
 has_markdown_extension name = nat_lt 3 (length name) && ends_with nat_eq name (codes ".md")
 
--- whether a file's name is this one with `.md` behind it
+-- whether a file's name is this one with `.md` after it
 abbrev pub is_markdown_name : List ℕ → List ℕ → Bool
 is_markdown_name stem name = bytes_eq name (stem ++ codes ".md")
 

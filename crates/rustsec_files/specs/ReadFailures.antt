@@ -1,4 +1,4 @@
--- What a reader of files says of one that cannot be opened or read.
+-- The failures of a reader of files, for a file that cannot be opened or read.
 use Rattle.std.specs.Prelude.{◌≡◌, ◌⊎◌, ◌++◌, ℕ, IsSome, List, Some, codes}
 use Rattle.std.specs.Fmt.{decimal}
 use Rattle.rustsec_versions.specs.Failure.{Failure, out_of_memory}

@@ -1,5 +1,5 @@
-//! Paths of files: segments between slashes, the last of which names the file. Empty segments and `.`
-//! are dropped; `..` is a segment as any other.
+//! Paths of files: segments between slashes. The last segment names the file. Empty segments and `.` are
+//! dropped; `..` is a segment as any other.
 
 ghost use Rattle.std.specs.Prelude.{◌≡◌, ◌&&◌, ◌||◌, ◌==◌, MatchOption, false, not, codes, length};
 ghost use Rattle.std.specs.Option.{option_copied};
@@ -14,14 +14,14 @@ struct LastSegments<'a> {
     parent: Option<&'a str>,
 }
 
-/// Whether what stands between two slashes is a segment.
+/// Returns whether a text between two slashes is a segment.
 fn is_segment(text: &str) -> bool
     ensures { result ≡ is_segment text.now }
 {
     !text.is_empty() && text != "."
 }
 
-/// The last three segments of a path, as far as there are so many.
+/// Returns the last three segments of a path, or as many of them as there are.
 fn ending(path: &str) -> LastSegments<'_>
     ensures file { option_copied result.file ≡ file_name path.now }
     ensures folder { option_copied result.folder ≡ folder path.now }
@@ -42,36 +42,36 @@ fn ending(path: &str) -> LastSegments<'_>
     }
 }
 
-/// The name of a file: the last segment of its path.
+/// Returns the name of a file: the last segment of its path.
 pub fn file_name(path: &str) -> Option<&str>
     ensures { option_copied result ≡ file_name path.now }
 {
     ending(path).file
 }
 
-/// The name of the folder that a file stands in: the segment before the file's name.
+/// Returns the name of the folder that holds a file: the segment before the file's name.
 pub fn folder(path: &str) -> Option<&str>
     ensures { option_copied result ≡ folder path.now }
 {
     ending(path).folder
 }
 
-/// The name of that folder's parent: the segment before the folder's name.
+/// Returns the name of that folder's parent: the segment before the folder's name.
 pub fn folder_parent(path: &str) -> Option<&str>
     ensures { option_copied result ≡ folder_parent path.now }
 {
     ending(path).parent
 }
 
-/// Whether a byte and `.md` end a file's name.
+/// Returns whether a byte and `.md` end a file's name.
 fn has_markdown_extension(name: &str) -> bool
     ensures { result ≡ has_markdown_extension name.now }
 {
     name.len() > 3 && name.ends_with(".md")
 }
 
-/// What stands in a file's name behind its beginning: `.md`, if the name is the beginning with `.md`
-/// behind it.
+/// Returns what comes in a file's name after its beginning: `.md`, if the name is the beginning with `.md`
+/// after it.
 fn behind<'a>(name: &'a str, stem: &'a str) -> Option<&'a str>
     ensures { MatchOption result (is_markdown_name stem.now name.now ≡ false)
         (λ rest. is_markdown_name stem.now name.now ≡ bytes_eq rest.now (codes ".md")) }
@@ -79,7 +79,7 @@ fn behind<'a>(name: &'a str, stem: &'a str) -> Option<&'a str>
     name.strip_prefix(stem)
 }
 
-/// Whether a file's name is this one with `.md` behind it.
+/// Returns whether a file's name is this one with `.md` after it.
 fn is_markdown_name(stem: &str, name: &str) -> bool
     ensures { result ≡ is_markdown_name stem.now name.now }
 {
@@ -89,14 +89,14 @@ fn is_markdown_name(stem: &str, name: &str) -> bool
     }
 }
 
-/// Whether a file's name begins with `RUSTSEC-0000-0000.`.
+/// Returns whether a file's name begins with `RUSTSEC-0000-0000.`.
 fn is_draft_name(name: &str) -> bool
     ensures { result ≡ is_draft_name name.now }
 {
     name.starts_with("RUSTSEC-0000-0000.")
 }
 
-/// Whether a path is a Markdown file's: whether `md` is the extension of its file's name.
+/// Returns whether a path is a Markdown file's: whether `md` is the extension of its file's name.
 pub fn is_markdown(path: &str) -> bool
     ensures { result ≡ is_markdown path.now }
 {
@@ -106,7 +106,7 @@ pub fn is_markdown(path: &str) -> bool
     }
 }
 
-/// Whether a path is that of the Markdown file of a name: whether `STEM.md` is its file's name.
+/// Returns whether a path is that of the Markdown file of a name: whether `STEM.md` is its file's name.
 pub fn is_markdown_file_of(path: &str, stem: &str) -> bool
     ensures { result ≡ is_markdown_file_of stem.now path.now }
 {
@@ -116,7 +116,7 @@ pub fn is_markdown_file_of(path: &str, stem: &str) -> bool
     }
 }
 
-/// Whether a path is a draft's: whether its file's name begins with `RUSTSEC-0000-0000.`.
+/// Returns whether a path is a draft's: whether its file's name begins with `RUSTSEC-0000-0000.`.
 pub fn is_draft(path: &str) -> bool
     ensures { result ≡ is_draft path.now }
 {

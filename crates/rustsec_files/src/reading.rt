@@ -18,7 +18,7 @@ use std::{fs, io};
 /// The most reads of a reader, 2^32, so that a call returns for a reader without an end too.
 const MAX_READS: u64 = 4294967296;
 
-/// All bytes that a reader has left. A read that was interrupted is tried again.
+/// Returns all bytes that a reader has left. A read that was interrupted is tried again.
 ///
 /// # Errors
 ///
@@ -44,7 +44,7 @@ pub fn bytes_of<R: Read>(alloc: Global, reader: &mut R) -> io::Result<Vec<u8>>
     Err(io::Error::other("no end after 4294967296 reads"))
 }
 
-/// Whether reading failed since memory ran out, and not for what was read.
+/// Returns whether reading failed since memory ran out, and not for what was read.
 fn is_out_of_memory(error: &io::Error) -> bool
     ensures { result ≡ true ↔ error_kind error.now ≡ IoErrorKind.OutOfMemory }
 {
@@ -82,7 +82,7 @@ pub fn open_failure(alloc: Global, path: &str, why: &str) -> Error
     io_failure(alloc, format!(in alloc; "couldn't open {path}"), why)
 }
 
-/// Returns what an error says. An error of memory says nothing.
+/// Returns what an error says. For an error of memory it returns `OutOfMemory`.
 fn reason(alloc: Global, error: &io::Error) -> Result<String>
     ensures memory { error_kind error.now ≡ IoErrorKind.OutOfMemory → IsErr result }
     ensures err { IfErr result IsMemory }
@@ -168,13 +168,13 @@ pub fn text_of<R: Read>(alloc: Global, reader: &mut R, path: &str) -> Result<Str
     }
 }
 
-/// Whether a path leads to a regular file. A link is followed.
+/// Returns whether a path leads to a regular file. A link is followed.
 fn is_regular<R: Files>(rt: &R, path: &str) -> io::Result<bool> {
     let metadata = fs::metadata(rt, path)?;
     Ok(metadata.is_file())
 }
 
-/// Whether an open file is a regular one.
+/// Returns whether an open file is a regular one.
 fn is_open_regular<T: OpenFile>(file: &T) -> io::Result<bool> {
     let metadata = file.metadata()?;
     Ok(metadata.is_file())

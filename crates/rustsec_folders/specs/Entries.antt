@@ -1,4 +1,4 @@
--- The names in a folder's listing, and what is said of a folder that cannot be listed.
+-- The names in a folder's listing, and the failure of a folder that cannot be listed.
 use Rattle.std.specs.Prelude.{◌==◌, ◌||◌, ◌⊎◌, ℕ, Bool, List, codes, filter, length, not}
 use Rattle.std.specs.List.{slice_split}
 use Rattle.std.specs.Str.{bytes_eq}

@@ -1,4 +1,4 @@
--- What stands under a database's root, by the answers that its folders allow.
+-- What is under a database's root, by the answers that its folders allow.
 use Rattle.std.specs.Prelude.{◌≡◌, ◌⊎◌, ◌++◌, ℕ, Contains, List, [], ◌∷◌, Option, None, Some, codes, flat_map, map}
 use Rattle.rustsec_folders.specs.Allowed.{Allowed}
 use Rattle.rustsec_folders.specs.Names.{AreInOrder, shown, shown_folders, under}
@@ -58,7 +58,7 @@ crates_of root = under root (codes "crates")
 abbrev pub rust_of : List ℕ → List ℕ
 rust_of root = under root (codes "rust")
 
--- of a root: those of `crates`, and behind them those of `rust`, of which there are none where it cannot be listed. Any
+-- of a root: those of `crates`, and after them those of `rust`. `rust` has no paths where it cannot be listed. Any
 -- other folder that cannot be listed is the answer instead
 abbrev pub Paths : Allowed → List ℕ → Option (List (List ℕ)) → Type 0
 Paths allowed root (Some paths) =
@@ -76,7 +76,7 @@ IsFile allowed path file = (file.path ≡ path) × allowed.reads path (Some file
 abbrev pub FailsAtFile : Allowed → List (List ℕ) → Type 0
 FailsAtFile allowed paths = (path : List ℕ) × Contains paths path × allowed.reads path None
 
--- what stands under a root: the files at its paths. What is answered instead of the paths, or a file at one of them that
+-- what is under a root: the files at its paths. What is answered instead of the paths, or a file at one of them that
 -- cannot be read, is the answer instead
 abbrev pub Listed : Allowed → List ℕ → Option (List SourceFile) → Type 0
 Listed allowed root (Some files) = (paths : List (List ℕ)) × Paths allowed root (Some paths) × Pairwise (IsFile allowed) paths files

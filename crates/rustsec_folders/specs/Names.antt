@@ -38,7 +38,7 @@ is_shown_name name = not (begins_with_dot name)
 abbrev pub shown : List FolderEntry → List (List ℕ)
 shown entries = names_of (filter is_shown entries)
 
--- the names that a collection shows: those of its folders alone, but for those that begin with a dot
+-- the names that a collection shows: those of its folders alone, except those that begin with a dot
 abbrev pub shown_folders : List FolderEntry → List (List ℕ)
 shown_folders entries = shown (filter is_folder entries)
 

@@ -17,17 +17,17 @@ pub trait Folders {
     /// given at each asking.
     ghost allowed: { Self → Allowed };
 
-    /// The entries of a folder, in any order.
+    /// Returns the entries of a folder, in any order.
     ///
     /// # Errors
     ///
-    /// `Io` where the folder cannot be listed; else `OutOfMemory`, which says nothing of the path.
+    /// `Io` where the folder cannot be listed; else `OutOfMemory`, which does not mention the path.
     fn list(&mut self, alloc: Global, path: &str) -> Result<Items<FolderEntry>>
         ensures ok { IfOk result (λ entries. (allowed self.old).lists path.now (Some entries)) }
         ensures err { IfErr result (IsRefusal ErrorKind.Io ((allowed self.old).lists path.now None)) }
         ensures same { AllowSame (allowed self.old) (allowed self.new) };
 
-    /// The names of a folder's entries, in any order, where nobody asks which of them are folders.
+    /// Returns the names of a folder's entries, in any order, where nobody asks which of them are folders.
     ///
     /// # Errors
     ///
@@ -42,11 +42,11 @@ pub trait Folders {
         Ok(Items::from(names))
     }
 
-    /// The text of a file.
+    /// Returns the text of a file.
     ///
     /// # Errors
     ///
-    /// `Io` where the file cannot be read or is no UTF-8; else `OutOfMemory`, which says nothing of the
+    /// `Io` where the file cannot be read or is not UTF-8; else `OutOfMemory`, which does not mention the
     /// path.
     fn read(&mut self, alloc: Global, path: &str) -> Result<Text>
         ensures ok { IfOk result (λ text. (allowed self.old).reads path.now (Some text)) }

@@ -1,4 +1,4 @@
-//! The folders of a database: what stands in them, and the source files under a root, over any folders.
+//! The folders of a database: what is in them, and the source files under a root, over any folders.
 #![tactic(auto)]
 
 mod entry;

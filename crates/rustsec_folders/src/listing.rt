@@ -13,7 +13,7 @@ use rustsec_values::{Items, Text};
 use rustsec_versions::{ErrorKind, Result};
 use std::alloc::{AllocError, Global};
 
-/// The paths of names in a folder, in the order of the names.
+/// Returns the paths of names in a folder, in the order of the names.
 fn paths_under(
     alloc: Global,
     folder: &str,
@@ -29,7 +29,7 @@ fn paths_under(
     Ok(paths)
 }
 
-/// The paths of the files of a package's folder.
+/// Returns the paths of the files of a package's folder.
 fn paths_in<F: Folders>(alloc: Global, folders: &mut F, folder: &str) -> Result<Vec<Text>>
     ensures ok { IfOk result (λ v. IsFolder (F.allowed folders.old) folder.now v.items) }
     ensures err { IfErr result (IsRefusal ErrorKind.Io ((F.allowed folders.old).lists folder.now None)) }
@@ -40,7 +40,7 @@ fn paths_in<F: Folders>(alloc: Global, folders: &mut F, folder: &str) -> Result<
     Ok(paths)
 }
 
-/// The paths of the files of the folder of a name in a collection.
+/// Returns the paths of the files of the folder of a name in a collection.
 fn paths_of_package<F: Folders>(
     alloc: Global,
     folders: &mut F,
@@ -55,7 +55,7 @@ fn paths_of_package<F: Folders>(
     paths_in(alloc, folders, &path)
 }
 
-/// The paths of the files of the folders of names in a collection, in the order of the names.
+/// Returns the paths of the files of the folders of names in a collection, in the order of the names.
 fn paths_of_packages<F: Folders>(
     alloc: Global,
     folders: &mut F,
@@ -74,7 +74,7 @@ fn paths_of_packages<F: Folders>(
     Ok(paths)
 }
 
-/// The paths of the files of a collection.
+/// Returns the paths of the files of a collection.
 fn paths_of_collection<F: Folders>(
     alloc: Global,
     folders: &mut F,
@@ -89,7 +89,7 @@ fn paths_of_collection<F: Folders>(
     paths_of_packages(alloc, folders, collection, &names)
 }
 
-/// The paths of the files of a collection, or none where it cannot be listed.
+/// Returns the paths of the files of a collection, or none where it cannot be listed.
 fn paths_if_there<F: Folders>(alloc: Global, folders: &mut F, collection: &str) -> Result<Vec<Text>>
     ensures ok { IfOk result (λ v. IsCollectionIfThere (F.allowed folders.old) collection.now v.items) }
     ensures err { IfErr result (IsRefusal ErrorKind.Io (FailsBelow (F.allowed folders.old) collection.now)) }
@@ -107,7 +107,7 @@ fn paths_if_there<F: Folders>(alloc: Global, folders: &mut F, collection: &str) 
     }
 }
 
-/// The paths of the files of the collection `crates` of a root.
+/// Returns the paths of the files of the collection `crates` of a root.
 fn paths_of_crates<F: Folders>(alloc: Global, folders: &mut F, root: &str) -> Result<Vec<Text>>
     ensures ok { IfOk result (λ v. IsCollection (F.allowed folders.old) (crates_of root.now) v.items) }
     ensures err { IfErr result (IsRefusal ErrorKind.Io ((F.allowed folders.old).lists (crates_of root.now) None
@@ -118,7 +118,7 @@ fn paths_of_crates<F: Folders>(alloc: Global, folders: &mut F, root: &str) -> Re
     paths_of_collection(alloc, folders, &path)
 }
 
-/// The paths of the files of the collection `rust` of a root, or none where it cannot be listed.
+/// Returns the paths of the files of the collection `rust` of a root, or none where it cannot be listed.
 fn paths_of_rust<F: Folders>(alloc: Global, folders: &mut F, root: &str) -> Result<Vec<Text>>
     ensures ok { IfOk result (λ v. IsCollectionIfThere (F.allowed folders.old) (rust_of root.now) v.items) }
     ensures err { IfErr result (IsRefusal ErrorKind.Io (FailsBelow (F.allowed folders.old) (rust_of root.now))) }
@@ -128,13 +128,13 @@ fn paths_of_rust<F: Folders>(alloc: Global, folders: &mut F, root: &str) -> Resu
     paths_if_there(alloc, folders, &path)
 }
 
-/// The paths of the source files under a root: those of the collection `crates`, then those of `rust`;
-/// in each its folders in the order of their names, and in each folder its files in the order of theirs.
-/// A path is the root, the collection, the folder and the file's name, joined by `/`.
+/// Returns the paths of the source files under a root: those of the collection `crates`, then those of
+/// `rust`; in each its folders in the order of their names, and in each folder its files in the order of
+/// theirs. A path is the root, the collection, the folder and the file's name, joined by `/`.
 ///
-/// Names that begin with a dot are passed over, of folders and of files, and so is what stands in a
-/// collection and is no folder. There are no files of `rust` where it cannot be listed. A name that an
-/// answer has twice stands there twice.
+/// Names that begin with a dot are passed over, of folders and of files, and so is what is in a collection
+/// and is not a folder. There are no files of `rust` where it cannot be listed. A name that an answer has
+/// twice is there twice.
 ///
 /// # Errors
 ///
@@ -150,7 +150,7 @@ pub fn source_paths<F: Folders>(alloc: Global, folders: &mut F, root: &str) -> R
     Ok(Items::from(paths))
 }
 
-/// The file at a path.
+/// Returns the file at a path.
 fn file_at<F: Folders>(alloc: Global, folders: &mut F, path: Text) -> Result<SourceFile>
     ensures ok { IfOk result (IsFile (F.allowed folders.old) path) }
     ensures err { IfErr result (IsRefusal ErrorKind.Io ((F.allowed folders.old).reads path None)) }
@@ -160,7 +160,7 @@ fn file_at<F: Folders>(alloc: Global, folders: &mut F, path: Text) -> Result<Sou
     Ok(SourceFile { path, text })
 }
 
-/// The files at some paths, in their order.
+/// Returns the files at some paths, in their order.
 fn files_at<F: Folders>(
     alloc: Global,
     folders: &mut F,
@@ -178,8 +178,8 @@ fn files_at<F: Folders>(
     Ok(files)
 }
 
-/// The source files under a root, in the order of `source_paths`. All texts are held at once when this
-/// returns.
+/// Returns the source files under a root, in the order of `source_paths`. All texts are held at once when
+/// this returns.
 ///
 /// # Errors
 ///

@@ -1,4 +1,4 @@
-// Which names an answer shows, and in which order.
+//! The names that an answer shows, and their order.
 
 ghost use Rattle.std.specs.Prelude.{◌≡◌, IfErr, IfOk, None, filter, string_bytes};
 ghost use Rattle.rustsec_folders.specs.Allowed.{AllowSame};
@@ -12,7 +12,7 @@ use rustsec_values::{Items, Test, Text};
 use rustsec_versions::{ErrorKind, Result};
 use std::alloc::{AllocError, Global};
 
-/// The path of a name in a folder.
+/// Returns the path of a name in a folder.
 pub(crate) fn joined(
     alloc: Global,
     folder: &str,
@@ -23,7 +23,7 @@ pub(crate) fn joined(
     format!(in alloc; "{folder}/{name}")
 }
 
-/// Whether a name begins with a dot.
+/// Returns whether a name begins with a dot.
 fn begins_with_dot(name: &str) -> bool
     ensures { result ≡ begins_with_dot name.now }
 {
@@ -69,7 +69,7 @@ impl Test<FolderEntry> for IsFolder {
     }
 }
 
-/// The names of entries, in their order.
+/// Returns the names of entries, in their order.
 pub(crate) fn names_of(
     alloc: Global,
     entries: Items<FolderEntry>,
@@ -84,7 +84,7 @@ pub(crate) fn names_of(
     Ok(names)
 }
 
-/// The names of entries, in the order of their bytes.
+/// Returns the names of entries, in the order of their bytes.
 fn in_order(
     alloc: Global,
     entries: Items<FolderEntry>,
@@ -96,7 +96,7 @@ fn in_order(
     Ok(names)
 }
 
-/// Those of some names that begin with no dot, in the order of their bytes.
+/// Returns those of some names that begin with no dot, in the order of their bytes.
 fn shown_in_order(mut names: Items<Text>) -> std::result::Result<Vec<Text>, AllocError>
     ensures { IfOk result (λ v. AreInOrder (filter is_shown_name names) v.items) }
 {
@@ -106,7 +106,7 @@ fn shown_in_order(mut names: Items<Text>) -> std::result::Result<Vec<Text>, Allo
     Ok(ordered)
 }
 
-/// The names that a package's folder shows, in order.
+/// Returns the names that a package's folder shows, in order.
 pub(crate) fn names_in<F: Folders>(
     alloc: Global,
     folders: &mut F,
@@ -121,7 +121,7 @@ pub(crate) fn names_in<F: Folders>(
     Ok(ordered)
 }
 
-/// The names of the folders that a collection shows, in order.
+/// Returns the names of the folders that a collection shows, in order.
 pub(crate) fn folders_in<F: Folders>(
     alloc: Global,
     folders: &mut F,

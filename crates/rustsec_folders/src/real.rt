@@ -36,13 +36,13 @@ fn names<R: Files>(rt: &R, alloc: Global, path: &str) -> Result<Items<Text>>
     }
 }
 
-/// Whether the system says that a path is a folder's, and not that of a link to one.
+/// Returns whether the system says that a path is a folder's, and not that of a link to one.
 fn is_folder<R: Files>(rt: &R, path: &str) -> io::Result<bool> {
     let metadata = fs::symlink_metadata(rt, path)?;
     Ok(metadata.is_dir())
 }
 
-/// Whether there is a folder at a path, and not a link to one.
+/// Returns whether there is a folder at a path, and not a link to one.
 fn is_folder_at<R: Files>(rt: &R, alloc: Global, path: &str) -> Result<bool>
     ensures kind { IfErr result (IsOfKind ErrorKind.Io) }
     ensures names { IfErr result (IsIoFailure (open_message path.now)) }
@@ -53,7 +53,7 @@ fn is_folder_at<R: Files>(rt: &R, alloc: Global, path: &str) -> Result<bool>
     }
 }
 
-/// Whether an entry of a folder is a folder itself. The message of a failure names the entry's own path.
+/// Returns whether an entry of a folder is a folder itself. The message of a failure names the entry's own path.
 fn is_folder_entry<R: Files>(rt: &R, alloc: Global, folder: &str, name: &str) -> Result<bool>
     ensures kind { IfErr result (IsOfKind ErrorKind.Io) }
     ensures names { IfErr result (IsListFailure folder.now) }
@@ -103,7 +103,7 @@ pub struct RealFolders<'a, R> {
 }
 
 impl<'a, R: Files> RealFolders<'a, R> {
-    /// The folders and files of this runtime.
+    /// Returns the folders and files of this runtime.
     pub fn new(rt: &'a R) -> RealFolders<'a, R>
         ensures { result.files.now ≡ rt.now }
     {

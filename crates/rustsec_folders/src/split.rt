@@ -11,7 +11,8 @@ use rustsec_versions::{ErrorKind, Result};
 use std::alloc::Global;
 use std::io::Read;
 
-/// Whether a part of a listing is the name of an entry, and not that of the folder itself or its parent.
+/// Returns whether a part of a listing is the name of an entry, and not that of the folder itself or its
+/// parent.
 fn is_entry_name(name: &str) -> bool
     ensures { result ≡ is_entry_name name.now }
 {

@@ -1,5 +1,5 @@
-// Files that are exchanged between the question what a path leads to and the opening: what is opened and is not a regular
-// file is not read, and what was not a regular file is not opened.
+//! Tests of files that are exchanged between the question what a path leads to and the opening: what is opened and is
+//! not a regular file is not read, and what was not a regular file is not opened.
 
 use rustsec_files::reading::text_of_file;
 use rustsec_versions::ErrorKind;
@@ -18,7 +18,7 @@ enum Kind {
 }
 
 impl Kind {
-    /// What the system says of it.
+    /// Returns what the system answers about it.
     fn metadata(self) -> Metadata {
         match self {
             Kind::File => Metadata::of_file(0),
@@ -27,7 +27,7 @@ impl Kind {
     }
 }
 
-/// What a call answers that no test makes.
+/// Returns the answer of a call that no test makes.
 fn unsupported() -> io::Error {
     io::Error::from(io::ErrorKind::Unsupported)
 }
@@ -78,7 +78,7 @@ impl Seek for Opened {
     }
 }
 
-/// Files of which each is of one kind when its path is asked, and of another one when it is opened.
+/// Files that are each of one kind when their path is asked, and of another one when they are opened.
 #[derive(Drop)]
 struct SwappedFiles {
     asked: Kind,
@@ -131,7 +131,7 @@ impl Files for SwappedFiles {
     }
 }
 
-/// Whether the empty text is read, or refused for the reason that the file is not a regular one.
+/// Returns whether the empty text is read, or refused for the reason that the file is not a regular one.
 fn is_read(alloc: Global, asked: Kind, opened: Kind, wanted: bool) -> bool {
     let files = SwappedFiles { asked, opened };
     match text_of_file(&files, alloc, "x.md") {

@@ -1,5 +1,5 @@
-// What an audit makes of links, devices, pipes, unreadable files and large folders on the disk, each in a folder of its
-// own. What it reports is what shows which files were read.
+//! Tests of audits with links, devices, pipes, unreadable files and large folders on the disk, each in a folder of its
+//! own. What an audit reports shows which files were read.
 
 use crate::outputs::expect_outputs;
 use rustsec_commands::run;
@@ -54,7 +54,7 @@ fn make_linked<T: Files + AllocGlobal>(
     Ok(())
 }
 
-/// Checks an audit of a root in which a link stands beside what is read.
+/// Checks an audit of a root in which there is a link beside what is read.
 fn expect_linked<T: Files + AllocGlobal + Abort>(
     rt: &T,
     root: &str,
@@ -153,7 +153,7 @@ fn pipe_as_lockfile(rt: HostRuntime) -> Result<(), Fail> {
     expect_refused_lockfile(&rt, "disk-pipe", lock.as_str())
 }
 
-/// Whether a file can be opened, as a privileged user can whatever its permissions are.
+/// Returns whether a file can be opened, as a privileged user can whatever its permissions are.
 fn opens<T: Files>(rt: &T, path: &str) -> bool {
     fs::File::open(rt, path).is_ok()
 }
@@ -185,7 +185,7 @@ fn put_advisory<T: Files + AllocGlobal>(
     Ok(())
 }
 
-/// Writes so many advisories for one package, each in a file of one folder.
+/// Writes that many advisories for one package, each in a file of one folder.
 fn put_files<T: Files + AllocGlobal>(rt: &T, root: &str, count: u32) -> Result<(), Fail> {
     for i in 0..count {
         put_advisory(rt, root, "base", i + 1)?;
@@ -201,7 +201,7 @@ fn put_folder<T: Files + AllocGlobal>(rt: &T, root: &str, number: u32) -> Result
     put_advisory(rt, root, package.as_str(), number)
 }
 
-/// Writes so many folders with an advisory each.
+/// Writes that many folders with an advisory each.
 fn put_folders<T: Files + AllocGlobal>(rt: &T, root: &str, count: u32) -> Result<(), Fail> {
     for i in 0..count {
         put_folder(rt, root, i + 1)?;
@@ -225,7 +225,7 @@ fn push_numbered<T: AllocGlobal>(rt: &T, text: &mut String, number: u32) -> Resu
     push_package(text, package.as_str())
 }
 
-/// Writes a lockfile of so many packages.
+/// Writes a lockfile of that many packages.
 fn put_lockfile<T: Files + AllocGlobal>(rt: &T, path: &str, count: u32) -> Result<(), Fail> {
     let mut text = String::new(rt.alloc());
     for i in 0..count {
@@ -235,7 +235,7 @@ fn put_lockfile<T: Files + AllocGlobal>(rt: &T, path: &str, count: u32) -> Resul
     Ok(())
 }
 
-/// Whether an audit finds vulnerabilities, and this is the end of what it writes.
+/// Returns whether an audit finds vulnerabilities, and this is the end of what it writes.
 fn audit_ends<T: Files + AllocGlobal>(
     rt: &T,
     root: &str,

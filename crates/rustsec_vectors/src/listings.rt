@@ -1,4 +1,4 @@
-// The names in a folder's listing, from its bytes: all of them, in their order; and copies of entries.
+//! Tests of the names in a folder's listing, from its bytes: all of them, in their order; and of copies of entries.
 
 use rustsec_fixtures::ByteReader;
 use rustsec_folders::{FolderEntry, entry_names, listed_names};
@@ -7,7 +7,7 @@ use rustsec_versions::ErrorKind;
 use std::alloc::Global;
 use std::test::Fail;
 
-/// Whether names are these, in order.
+/// Returns whether names are these, in order.
 fn are(names: &Items<Text>, wanted: &[&str]) -> bool {
     for (i, name) in names.as_slice().iter().enumerate() {
         match wanted.get(i) {
@@ -18,7 +18,8 @@ fn are(names: &Items<Text>, wanted: &[&str]) -> bool {
     names.len() == wanted.len()
 }
 
-/// Whether a listing of these bytes, one a call, has these names; or is refused where none are given or a call fails.
+/// Returns whether a listing of these bytes, one a call, has these names; or is refused where none are given or a
+/// call fails.
 fn lists(alloc: Global, bytes: &[u8], fails_at: u64, wanted: Option<&[&str]>) -> bool {
     let mut listing = ByteReader::new(bytes, fails_at);
     match (listed_names(alloc, &mut listing, "db"), wanted) {
@@ -56,7 +57,7 @@ fn names_of_listings(rt: HostRuntime) {
     }
 }
 
-/// How many names a listing of so many has.
+/// Counts the names of a listing that has the given number of them.
 fn count_of(alloc: Global, count: usize) -> Result<usize, Fail> {
     let listing = "a\0".repeat(alloc, count)?;
     let names = entry_names(alloc, &listing)?;
@@ -71,7 +72,7 @@ fn names_of_long_listings(rt: HostRuntime) -> Result<(), Fail> {
     Ok(())
 }
 
-/// Whether a copy of an entry is equal to it and has its parts.
+/// Returns whether a copy of an entry is equal to it and has its parts.
 fn entry_is_copied(alloc: Global, name: &str, folder: bool) -> Result<bool, Fail> {
     let entry = FolderEntry {
         name: Text::from_str(alloc, name)?,
