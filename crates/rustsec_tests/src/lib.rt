@@ -32,5 +32,3 @@ mod refused_requirements;
 mod sampled_commands;
 #[cfg(test)]
 mod scores;
-#[cfg(test)]
-mod swapped_files;
