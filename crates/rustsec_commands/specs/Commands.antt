@@ -18,7 +18,7 @@ command_view (command.Lint path) = lint path.now
 command_view (command.Osv path modified) = osv path.now modified.now
 command_view (command.Report root lock) = report root.now lock.now
 command_view (command.Audit root lock options) = audit root.now lock.now (map (λ w. w.now) options.now)
-command_view command.Unknown = none
+command_view (command.Unknown words) = none
 
 -- the one output of `ranges` for an input
 abbrev pub IsOnlyRangesOutput : List ℕ → Output → Type 0

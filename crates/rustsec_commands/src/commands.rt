@@ -9,7 +9,7 @@ ghost use Rattle.rustsec_commands.specs.Commands.{Carries, HaveOneOutput, IsOutp
 use crate::fault::Fault;
 use crate::output::{self, Output};
 use crate::words::{Command, command_of};
-use crate::{answers, lint, osv, report};
+use crate::{answers, lint, misuse, osv, report};
 use rustsec_folders::{Folders, RealFolders};
 use std::alloc::Global;
 use std::io::{self, Read, Write};
@@ -35,7 +35,7 @@ fn output_of<F: Folders, R: Read>(
         Command::Audit(root, lock, options) => {
             Ok(report::audit(alloc, folders, root, lock, options)?)
         }
-        Command::Unknown => Ok(output::usage(alloc)?),
+        Command::Unknown(words) => Ok(output::usage(alloc, misuse::of_words(alloc, words).ok())?),
     }
 }
 

@@ -10,7 +10,6 @@ ghost use Rattle.rustsec_commands.specs.Output.{malformed, refused, tree_line, u
 use crate::fault::Fault;
 use crate::refusal::why;
 use crate::shown::push_shown;
-use crate::usage::PAGE;
 use rustsec_versions::{Error, refused_text};
 use serde_json::Value;
 use std::alloc::{AllocError, Global};
@@ -130,13 +129,12 @@ pub fn refused(alloc: Global, error: &Error) -> Result<Output, AllocError>
     Ok(Output::new(text, 2).with_note(why(alloc, error).ok()))
 }
 
-/// Makes the output for words that do not name a command.
-pub fn usage(alloc: Global) -> Result<Output, AllocError>
+/// Makes the output for words that do not name a command, with this note.
+pub fn usage(alloc: Global, note: Option<String>) -> Result<Output, AllocError>
     ensures { IfOk result (λ o. o ≡ usage) }
 {
     let text = String::from_str(alloc, "usage: rustsec_audit COMMAND\n")?;
-    let note = String::from_str(alloc, PAGE);
-    Ok(Output::new(text, 2).with_note(note.ok()))
+    Ok(Output::new(text, 2).with_note(note))
 }
 
 /// Returns the text of a tree on one line, with a line feed at its end.

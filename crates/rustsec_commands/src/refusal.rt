@@ -14,10 +14,6 @@ pub fn why(alloc: Global, error: &Error) -> Result<String, AllocError> {
     let text = error.to_string(alloc)?;
     let mut note = String::from_str(alloc, "rustsec_audit: ")?;
     push_shown(&mut note, &text)?;
-    if let Some(cause) = error.cause() {
-        note.push_str(": ")?;
-        push_shown(&mut note, cause)?;
-    }
     note.push_str("\n")?;
     Ok(note)
 }

@@ -12,9 +12,10 @@ ghost use Rattle.rustsec_commands.specs.Output.{tree_line};
 
 use crate::advice::advice;
 use crate::audit::audit_output;
-use crate::options;
 use crate::output::{self, Output, tree_line};
+use crate::overview::{Paths, overview};
 use crate::refusal::refusal;
+use crate::{misuse, options};
 use rustsec_database::Database;
 use rustsec_folders::Folders;
 use rustsec_lock::Lockfile;
@@ -23,6 +24,7 @@ use rustsec_texts::{Id, Informational};
 use rustsec_values::Items;
 use rustsec_versions::ErrorKind;
 use std::alloc::{AllocError, Global};
+use std::marker::Model;
 
 /// Returns the text of a report's tree on one line.
 fn report_line(alloc: Global, report: &Report) -> Result<String, AllocError>
@@ -59,21 +61,52 @@ fn settings_with(alloc: Global, ignored: Items<Id>) -> Result<Settings, AllocErr
     Ok(settings)
 }
 
+/// A report, and a note on what it looked at. Contracts see the report alone.
+#[derive(Drop)]
+struct Noted {
+    report: Report,
+    note: Option<String>,
+}
+
+impl Model for Noted {
+    ghost use Rattle.rustsec_report.specs.declared.report.Report as given;
+
+    ghost Value = { given.Report };
+
+    ghost view = { λ n. n.report };
+}
+
 /// Generates the report on the lockfile at a path, by the database under a root.
 fn report_of<F: Folders>(
     alloc: Global,
     folders: &mut F,
-    root: &str,
-    lock: &str,
+    paths: Paths<'_>,
     settings: &Settings,
-) -> rustsec_versions::Result<Report>
-    ensures ok { IfOk result (IsReportOfPaths (F.allowed folders.old) root.now lock.now settings.now) }
-    ensures err { IfErr result (IsReportRefusal (F.allowed folders.old) root.now lock.now) }
+) -> rustsec_versions::Result<Noted>
+    ensures ok { IfOk result (IsReportOfPaths (F.allowed folders.old) paths.entry.root.now paths.entry.lock.now settings.now) }
+    ensures err { IfErr result (IsReportRefusal (F.allowed folders.old) paths.entry.root.now paths.entry.lock.now) }
     ensures same { AllowSame (F.allowed folders.old) (F.allowed folders.new) }
 {
-    let database = Database::open_with(alloc, folders, root)?;
-    let lockfile = Lockfile::load_with(alloc, folders, lock)?;
-    Report::generate(alloc, &database, &lockfile, settings)
+    let database = Database::open_with(alloc, folders, paths.root)?;
+    let lockfile = Lockfile::load_with(alloc, folders, paths.lock)?;
+    let report = Report::generate(alloc, &database, &lockfile, settings)?;
+    let note = overview(
+        alloc,
+        paths,
+        &database,
+        &lockfile,
+        settings.ignore.as_slice(),
+    )
+    .ok();
+    Ok(Noted { report, note })
+}
+
+/// Makes the output of `report` for a report, with the note on what it looked at.
+fn noted_output(alloc: Global, noted: Noted) -> Result<Output, AllocError>
+    ensures { IfOk result (λ o. o ≡ report_output noted) }
+{
+    let output = report_output(alloc, &noted.report)?;
+    Ok(output.with_note(noted.note))
 }
 
 /// Makes the output of `report` for a root and the path of a lockfile.
@@ -87,18 +120,27 @@ pub fn report<F: Folders>(
     ensures same { AllowSame (F.allowed folders.old) (F.allowed folders.new) }
 {
     let settings = settings_with(alloc, Items::new(alloc))?;
-    match report_of(alloc, folders, root, lock, &settings) {
-        Ok(report) => report_output(alloc, &report),
+    match report_of(alloc, folders, Paths { root, lock }, &settings) {
+        Ok(noted) => noted_output(alloc, noted),
         Err(error) => refusal(alloc, &error),
     }
 }
 
-/// Makes the output of `audit` for a report, with a note that says what helps.
-fn advised_output(alloc: Global, deny_warnings: bool, report: &Report) -> Result<Output, AllocError>
-    ensures { IfOk result (λ o. o ≡ audit_output deny_warnings report.now) }
+/// Returns what helps against what a report found, and after it what the report looked at.
+fn advice_and_note(alloc: Global, noted: &Noted) -> rustsec_versions::Result<String> {
+    let mut note = advice(alloc, &noted.report)?;
+    if let Some(looked) = &noted.note {
+        note.push_str(looked)?;
+    }
+    Ok(note)
+}
+
+/// Makes the output of `audit` for a report, with a note that says what helps and what was looked at.
+fn advised_output(alloc: Global, deny_warnings: bool, noted: &Noted) -> Result<Output, AllocError>
+    ensures { IfOk result (λ o. o ≡ audit_output deny_warnings noted.now) }
 {
-    let output = audit_output(alloc, deny_warnings, report)?;
-    Ok(output.with_note(advice(alloc, report).ok()))
+    let output = audit_output(alloc, deny_warnings, &noted.report)?;
+    Ok(output.with_note(advice_and_note(alloc, noted).ok()))
 }
 
 /// The parsed options of `audit`: the IDs that are ignored, and whether a warning is as bad as a
@@ -125,8 +167,8 @@ fn audit_with<F: Folders>(
         deny_warnings,
     } = wanted;
     let settings = settings_with(alloc, ignored)?;
-    match report_of(alloc, folders, root, lock, &settings) {
-        Ok(report) => advised_output(alloc, deny_warnings, &report),
+    match report_of(alloc, folders, Paths { root, lock }, &settings) {
+        Ok(noted) => advised_output(alloc, deny_warnings, &noted),
         Err(error) => refusal(alloc, &error),
     }
 }
@@ -143,7 +185,7 @@ pub fn audit<F: Folders>(
     ensures same { AllowSame (F.allowed folders.old) (F.allowed folders.new) }
 {
     let Some(options) = options::options_of(alloc, words)? else {
-        return output::usage(alloc);
+        return output::usage(alloc, misuse::of_options(alloc, words).ok());
     };
     match options.ignored_ids(alloc) {
         Ok(ignored) => {

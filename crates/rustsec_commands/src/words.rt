@@ -20,7 +20,7 @@ pub enum Command<'a> {
     /// The same report as lines, with options.
     Audit(&'a str, &'a str, &'a [&'a str]),
     /// Words that do not name a command.
-    Unknown,
+    Unknown(&'a [&'a str]),
 }
 
 /// Returns the command that words name, or `Unknown`.
@@ -34,6 +34,6 @@ pub fn command_of<'a>(words: &'a [&'a str]) -> Command<'a>
         ["osv", path, modified] => Command::Osv(path, modified),
         ["report", root, lock] => Command::Report(root, lock),
         ["audit", root, lock, options @ ..] => Command::Audit(root, lock, options),
-        _ => Command::Unknown,
+        _ => Command::Unknown(words),
     }
 }

@@ -30,7 +30,7 @@ none-has : (loaded : List Advisory) (a : Advisory) → is_known loaded a ≡ fal
 none-has loaded a h k d l =
     is-false (has_id a.metadata.id (get_or loaded k d)) (λ t. cc (sym h ∙ list_any_at (has_id a.metadata.id) loaded k d l t))
 
-own-more : (b : Bool) (loaded : List Advisory) (a : Advisory) → (b ≡ true → is_known loaded a ≡ false) → HaveOwnIds loaded
+pub own-more : (b : Bool) (loaded : List Advisory) (a : Advisory) → (b ≡ true → is_known loaded a ≡ false) → HaveOwnIds loaded
     → HaveOwnIds (cond b (loaded ++ a ∷ []) loaded)
 own-more true loaded a new own =
     all_pairs_push (λ x y. has_id y.metadata.id x ≡ false) loaded a own (λ k d l. none-has loaded a (new refl) k d l)

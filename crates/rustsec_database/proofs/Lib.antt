@@ -1,6 +1,8 @@
 pub mod Files
+pub mod FurtherFile
 pub mod Indexes
 pub mod Once
+pub mod OnlyWithId
 pub mod Opening
 pub mod Pairs
 pub mod Places

@@ -1,6 +1,6 @@
 -- The result of loading files: their advisories, or the first fault.
 use Rattle.std.specs.Prelude.{◌≡◌, ◌⊎◌, ◌++◌, ◌∷◌, [], ℕ, Bool, true, false, List, Option, Some, None, codes, if◌then◌else◌, length, not}
-use Rattle.std.specs.List.{AllPairs, AllZip, filter, list_any}
+use Rattle.std.specs.List.{All, AllPairs, AllZip, filter, list_any}
 use Rattle.rustsec_versions.specs.Failure.{Failure, IsMemory}
 use Rattle.rustsec_versions.specs.declared.error.ErrorKind.{ErrorKind}
 use Rattle.rustsec_versions.specs.declared.error.ErrorKind.TheVariants as kind
@@ -25,6 +25,10 @@ is_known others a = list_any (has_id a.metadata.id) others
 -- no two advisories have the same ID
 abbrev pub HaveOwnIds : List Advisory → Type 0
 HaveOwnIds advisories = AllPairs (λ a b. has_id b.metadata.id a ≡ false) advisories
+
+-- an advisory is the only one of a list with an ID
+abbrev pub IsOnlyWithId : IdValue → List Advisory → Advisory → Type 0
+IsOnlyWithId id advisories a = All (λ b. has_id id b ≡ true → b ≡ a) advisories
 
 -- each file is filed as the advisory at the same place
 abbrev pub AreFiled : List SourceFile → List Advisory → Type 0

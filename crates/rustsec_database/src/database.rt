@@ -1,6 +1,6 @@
 //! The database: advisories loaded from files, with indexes by ID and by package.
 
-ghost use Rattle.std.specs.Prelude.{◌≡◌, ◌++◌, ◌∷◌, ◌⊎◌, ◌<◌, ◌^◌, [], ℕ, Bool, IfErr, IfOk, List, OnErr, OnOk, Option, Some, length, map, true};
+ghost use Rattle.std.specs.Prelude.{◌≡◌, ◌++◌, ◌∷◌, ◌⊎◌, ◌<◌, ◌^◌, [], ℕ, Bool, IfErr, IfOk, IfSome, List, OnErr, OnOk, Option, Some, length, map, true};
 ghost use Rattle.std.specs.Iterator.Adapters.{IterYieldsInOrder};
 ghost use Rattle.std.specs.List.{filter, find};
 ghost use Rattle.std.specs.Option.{option_copied};
@@ -10,7 +10,7 @@ ghost use Rattle.rustsec_advisory.specs.declared.advisory.Advisory as given;
 ghost use Rattle.rustsec_query.specs.Pairs.{as_vulnerability, is_audited, pairs, pairs_of, vulnerability_of};
 ghost use Rattle.rustsec_query.specs.Query.{crate_scope, of_package};
 ghost use Rattle.rustsec_query.specs.Selects.{selects};
-ghost use Rattle.rustsec_database.specs.Loaded.{AreLoaded, IsAdded, IsFault, IsFirstFault, has_id};
+ghost use Rattle.rustsec_database.specs.Loaded.{AreLoaded, IsAdded, IsFault, IsFirstFault, IsOnlyWithId, has_id};
 ghost use Rattle.rustsec_database.specs.Places.{IsIndexOf, at_places, is_under, places_from};
 
 use crate::entries::Entries;
@@ -271,7 +271,8 @@ impl Database {
 
     /// Returns the advisory with an ID, or `None` if no advisory has it.
     pub fn get(&self, id: &Id) -> Option<&Advisory>
-        ensures { option_copied result ≡ find (has_id id.now) self.now }
+        ensures found { option_copied result ≡ find (has_id id.now) self.now }
+        ensures only { IfSome result (λ a. IsOnlyWithId id.now self.now a.now) }
     {
         self.entries.find_by_id(id)
     }

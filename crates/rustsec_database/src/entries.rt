@@ -1,6 +1,6 @@
 //! The stored advisories, with a table that finds them by ID.
 
-ghost use Rattle.std.specs.Prelude.{◌≡◌, ◌++◌, ◌∷◌, ◌⊎◌, ◌<◌, ◌^◌, [], false, ℕ, IfErr, IfOk, List, OnErr, OnOk, length, slice_get};
+ghost use Rattle.std.specs.Prelude.{◌≡◌, ◌++◌, ◌∷◌, ◌⊎◌, ◌<◌, ◌^◌, [], false, ℕ, IfErr, IfOk, IfSome, List, OnErr, OnOk, length, slice_get};
 ghost use Rattle.std.specs.Iterator.Adapters.{IterYieldsInOrder};
 ghost use Rattle.std.specs.List.{find};
 ghost use Rattle.std.specs.Option.{option_copied};
@@ -9,7 +9,7 @@ ghost use Rattle.rustsec_files.specs.ReadFailures.{IsReadFailure};
 ghost use Rattle.rustsec_folders.specs.Allowed.{AllowSame, real_folders};
 ghost use Rattle.rustsec_versions.specs.Failure.{IsMemory, IsOfKind};
 ghost use Rattle.rustsec_database.specs.Filing.{IsFiled};
-ghost use Rattle.rustsec_database.specs.Loaded.{IsAdded, IsAtFault, IsFault, has_id, is_known};
+ghost use Rattle.rustsec_database.specs.Loaded.{IsAdded, IsAtFault, IsFault, IsOnlyWithId, has_id, is_known};
 ghost use Rattle.rustsec_database.specs.Opened.{IsAddedAt, IsFaultAt};
 
 use crate::filing::filed;
@@ -34,13 +34,14 @@ pub struct Entries {
 impl Model for Entries {
     ghost use Rattle.std.specs.Prelude.{List};
     ghost use Rattle.rustsec_advisory.specs.declared.advisory.Advisory as given;
+    ghost use Rattle.rustsec_database.specs.Loaded.{HaveOwnIds};
     ghost use Rattle.rustsec_database.specs.Places.{IsTableOf};
 
     ghost Value = { List given.Advisory };
 
     ghost view = { λ e. e.advisories.items };
 
-    ghost invariant = { λ e. IsTableOf e.advisories.items e.slots };
+    ghost invariant = { λ e. IsTableOf e.advisories.items e.slots × HaveOwnIds e.advisories.items };
 }
 
 /// Makes the error for a file whose ID is that of a stored advisory.
@@ -161,7 +162,8 @@ impl Entries {
 
     /// Returns the stored advisory with an ID, or `None` if no stored advisory has it.
     pub fn find_by_id(&self, id: &Id) -> Option<&Advisory>
-        ensures { option_copied result ≡ find (has_id id.now) self.now }
+        ensures found { option_copied result ≡ find (has_id id.now) self.now }
+        ensures only { IfSome result (λ a. IsOnlyWithId id.now self.now a.now) }
     {
         match self.slots.get(id) {
             Some(slot) => self.get(*slot),

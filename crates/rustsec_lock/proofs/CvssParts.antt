@@ -1,11 +1,15 @@
 -- The text after a prefix, and the only match among several parts.
-use Rattle.std.proofs.Common.{◌≡◌, ◌∙◌, ◌==◌, ℕ, ◌+◌, ◌<◌, ◌≤◌, true, false, List, [], ◌∷◌, ◌++◌, Option, Some, None, option_map, is_some, map, filter_map, drop, get_or, length, nat_eq, refl, sym, ap, subst, add-one, drop-cons, append-nil}
-use Rattle.std.proofs.lemmas.List.{drop_all, length-map}
+use Rattle.std.proofs.Common.{◌≡◌, ◌∙◌, ◌==◌, ℕ, ◌+◌, ◌<◌, ◌≤◌, true, false, List, [], ◌∷◌, ◌++◌, Option, Some, None, option_map, is_some, map, filter_map, drop, get_or, length, nat_eq, refl, take, sym, ap, subst, add-one, drop-cons, append-nil, arith}
+use Rattle.std.proofs.lemmas.Bool.{ne_eqb}
+use Rattle.std.proofs.lemmas.Iterator.{YieldsList, YieldsList-from_take}
+use Rattle.std.proofs.lemmas.List.{drop_all}
 use Rattle.std.proofs.lemmas.Str.Pattern.{starts_text}
+use Rattle.std.specs.Iterator.Adapters.{take_count, take_source, take_steps}
 use Rattle.std.specs.List.{starts_with}
 use Rattle.std.specs.Option.{MatchOption}
 use Rattle.std.specs.Str.{IsCharBoundary}
 use Rattle.std.specs.Str.Pattern.{FindsTextPrefix, StripsPrefix}
+use Rattle.std.specs.declared.iter.Take.{Take}
 use denote.Ref.{Bor}
 use Rattle.rustsec_values.specs.Reading.{only_if}
 use Rattle.rustsec_lock.specs.Cvss.{base_of, behind, given, lone, metrics_of, parts_of}
@@ -77,10 +81,34 @@ given_again name parts k d (Some x) v h found some e = given_twice name parts k 
 
 -- ---- the text after a version
 
+-- nine parts at most tell whether there are eight
+eight-of-nine : {A : Type 0} (xs : List A) → (length (take 9 xs) == 8) ≡ (length xs == 8)
+eight-of-nine (a ∷ b ∷ c ∷ d ∷ e ∷ f ∷ g ∷ h ∷ i ∷ xs) = sym (ne_eqb (length (a ∷ b ∷ c ∷ d ∷ e ∷ f ∷ g ∷ h ∷ i ∷ xs)) 8 (λ is. absurd (omega (arith, is))))
+eight-of-nine (a ∷ b ∷ c ∷ d ∷ e ∷ f ∷ g ∷ h ∷ []) = refl
+eight-of-nine (a ∷ b ∷ c ∷ d ∷ e ∷ f ∷ g ∷ []) = refl
+eight-of-nine (a ∷ b ∷ c ∷ d ∷ e ∷ f ∷ []) = refl
+eight-of-nine (a ∷ b ∷ c ∷ d ∷ e ∷ []) = refl
+eight-of-nine (a ∷ b ∷ c ∷ d ∷ []) = refl
+eight-of-nine (a ∷ b ∷ c ∷ []) = refl
+eight-of-nine (a ∷ b ∷ []) = refl
+eight-of-nine (a ∷ []) = refl
+eight-of-nine [] = refl
+
+-- the first items of an iterator
+pub first_items : {S A B : Type 0} {steps : S → Option A → S → Type 0} {v : A → B} {ys : List B} {s : S} {t : Take S} (n : ℕ)
+    → YieldsList steps v s ys → take_source t ≡ s → take_count t ≡ n → YieldsList (take_steps steps) v t (take n ys)
+first_items {S} {A} {B} {steps} {v} {ys} n whole source count =
+    YieldsList-from_take n (subst (λ x. YieldsList steps v x ys) (sym source) whole) count
+
+-- a number of parts, counted up to nine
+pub counted_eight : (text : List ℕ) (n : ℕ) → n ≡ length (take 9 (parts_of text)) → (n == 8) ≡ (length (parts_of text) == 8)
+counted_eight text n is = ap (λ k. k == 8) is ∙ eight-of-nine (parts_of text)
+
 -- the metrics of the parts, if there are eight of them
-pub base_of_parts : (minor : ℕ) (text : List ℕ) (ps : List (Bor (List ℕ))) → map (λ p. p.now) ps ≡ parts_of text
-    → base_of minor text ≡ only_if (length ps == 8) (metrics_of minor (map (λ p. p.now) ps))
+pub base_of_eight : (minor : ℕ) (text : List ℕ) → (length (parts_of text) == 8) ≡ true → base_of minor text ≡ metrics_of minor (parts_of text)
 unfolding base_of
-base_of_parts minor text ps e =
-    ap (λ qs. only_if (length qs == 8) (metrics_of minor qs)) (sym e)
-    ∙ ap (λ n. only_if (n == 8) (metrics_of minor (map (λ p. p.now) ps))) (length-map ps (λ p. p.now))
+base_of_eight minor text e = rw e refl
+
+pub base_of_other : (minor : ℕ) (text : List ℕ) → (length (parts_of text) == 8) ≡ false → base_of minor text ≡ None
+unfolding base_of
+base_of_other minor text e = rw e refl

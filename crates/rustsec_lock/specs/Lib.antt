@@ -1,6 +1,7 @@
 pub mod Cvss
 pub mod CvssEquality
 pub mod Lockfile
+pub mod LockfileEquality
 pub mod Metrics
 pub mod Names
 pub mod Package

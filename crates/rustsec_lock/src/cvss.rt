@@ -3,7 +3,7 @@
 ghost use Rattle.std.specs.Prelude.{◌≡◌, ◌==◌, Some, None, IfErr, IfOk, IfSome, length, map, option_map};
 ghost use Rattle.std.specs.Fmt.{DisplaysOnOk};
 ghost use Rattle.rustsec_versions.specs.Failure.{IsMemory, IsRefusal};
-ghost use Rattle.rustsec_lock.specs.Cvss.{base_of, base_text, behind, cvss_of, cvss_severity, cvss_text, given, metric, metrics_of};
+ghost use Rattle.rustsec_lock.specs.Cvss.{base_of, base_text, behind, cvss_of, cvss_severity, cvss_text, given, metric, metrics_of, parts_of};
 
 use crate::metrics::Base;
 use crate::severity::Severity;
@@ -71,11 +71,11 @@ fn metrics(minor_version: usize, parts: &[&str]) -> Option<Base>
     })
 }
 
-/// Returns whether a vector has a part for each of the eight base metrics, and no other part.
-fn are_eight(parts: &[&str]) -> bool
-    ensures { result ≡ (length parts.now == 8) }
+/// Returns whether a text has a part for each of the eight base metrics, and no other part. It reads nine parts at most.
+fn has_eight_parts(text: &str) -> bool
+    ensures { result ≡ (length (parts_of text.now) == 8) }
 {
-    parts.len() == 8
+    text.split('/').take(9).count() == 8
 }
 
 /// Parses the text after a vector's version: eight parts between slashes.
@@ -84,8 +84,8 @@ fn base(alloc: Global, minor_version: usize, text: &str) -> Result<Base>
     ensures minor { IfOk result (λ b. b.minor_version ≡ minor_version) }
     ensures err { IfErr result (IsRefusal ErrorKind.Parse (base_of minor_version text.now ≡ None)) }
 {
-    let parts: Vec<&str> = text.split('/').collect(alloc)?;
-    if are_eight(&parts) {
+    if has_eight_parts(text) {
+        let parts: Vec<&str> = text.split('/').collect(alloc)?;
         if let Some(base) = metrics(minor_version, &parts) {
             return Ok(base);
         }
@@ -100,8 +100,7 @@ fn base(alloc: Global, minor_version: usize, text: &str) -> Result<Base>
 
 impl Cvss {
     /// Parses a vector (CVSS 3.1, section 6): `CVSS:3.0` or `CVSS:3.1` with each of the eight base metrics once, in
-    /// any
-    /// order, or `CVSS:4.0/` and any text, which is kept.
+    /// any order, or `CVSS:4.0/` and any text, which is kept.
     ///
     /// # Errors
     ///

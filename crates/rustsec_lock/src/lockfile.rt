@@ -14,7 +14,7 @@ use crate::packages::Package;
 use crate::source::SourceId;
 use rustsec_folders::{Folders, RealFolders};
 use rustsec_toml::Section;
-use rustsec_values::{ExactClone, Items, Text, beginning_of};
+use rustsec_values::{ExactClone, ExactEq, Items, Text, beginning_of};
 use rustsec_versions::{
     Error, ErrorKind, Result, read_version, refused_at, refused_file, refused_text,
 };
@@ -133,7 +133,7 @@ fn no_document(alloc: Global, error: &toml::de::Error) -> Error
 }
 
 /// A lockfile: its packages, in order.
-#[derive(Debug, Drop)]
+#[derive(Debug, PartialEq, Eq, Drop)]
 pub struct Lockfile {
     /// The packages.
     pub packages: Items<Package>,
@@ -259,4 +259,10 @@ impl Clone for Lockfile {
 
 impl ExactClone for Lockfile {
     ghost exact = { λ x y e. e };
+}
+
+impl ExactEq for Lockfile {
+    ghost use Rattle.rustsec_lock.specs.LockfileEquality.{lockfile_decides};
+
+    ghost decides = { lockfile_decides };
 }

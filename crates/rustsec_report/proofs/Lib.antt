@@ -1,5 +1,7 @@
 pub mod Again
 pub mod ByKind
 pub mod EndToEnd
+pub mod FurtherFiles
 pub mod Held
 pub mod Members
+pub mod ReportLaws

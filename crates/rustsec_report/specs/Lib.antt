@@ -3,4 +3,5 @@ pub mod Filter
 pub mod Held
 pub mod Kinds
 pub mod Report
+pub mod ReportLaws
 pub mod Trees

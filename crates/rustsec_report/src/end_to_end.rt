@@ -1,9 +1,12 @@
 //! Reports from texts alone: advisory files and a lockfile in, a report out.
 
-ghost use Rattle.std.specs.Prelude.{IfErr, IfOk};
+ghost use Rattle.std.specs.Prelude.{◌++◌, ◌∷◌, [], IfErr, IfOk};
 ghost use Rattle.toml.specs.View.{table_view};
 ghost use Rattle.rustsec_lock.specs.Lockfile.{lockfile_of, packages_of};
+ghost use Rattle.rustsec_folders.specs.declared.source_file.SourceFile.{SourceFile};
 ghost use Rattle.rustsec_report.specs.EndToEnd.{IsReportOf, IsReportOfText, IsReportRefusal};
+ghost use Rattle.rustsec_report.specs.ReportLaws.{AddsItsOwn};
+ghost use Rattle.rustsec_report.specs.declared.report.Report as given;
 
 use crate::report::Report;
 use crate::settings::Settings;
@@ -50,6 +53,10 @@ impl Report {
         settings: &Settings,
     ) -> Result<Report>
         ensures ok { IfOk result (IsReportOfText files.now lockfile.now settings.now) }
+
+        // One more file adds the pairs of its advisory and no other.
+        ensures further { IfOk result (λ r. (file : SourceFile) (more : given.Report)
+            → IsReportOfText (files.now ++ file ∷ []) lockfile.now settings.now more → AddsItsOwn files.now file lockfile.now settings.now r more) }
         ensures err { IfErr result (IsReportRefusal files.now (lockfile_of lockfile.now)) }
     {
         let database = Database::load(alloc, files)?;

@@ -1,14 +1,19 @@
 //! Generates a report from a database and a lockfile.
 
-ghost use Rattle.std.specs.Prelude.{◌≡◌, IfErr, IfOk, List, Some};
+ghost use Rattle.std.specs.Prelude.{◌≡◌, ◌++◌, IfErr, IfOk, List, Some};
+ghost use Rattle.std.specs.List.{filter};
 ghost use Rattle.toml.specs.Data.{Members};
 ghost use Rattle.rustsec_folders.specs.declared.source_file.SourceFile.{SourceFile};
 ghost use Rattle.rustsec_lock.specs.Lockfile.{packages_of};
+ghost use Rattle.rustsec_texts.specs.Ids.{IdValue};
+ghost use Rattle.rustsec_advisory.specs.declared.advisory.Advisory as given;
 ghost use Rattle.rustsec_database.specs.Loaded.{AreLoaded};
+ghost use Rattle.rustsec_query.specs.Pairs.{is_audited};
 ghost use Rattle.rustsec_versions.specs.Failure.{IsMemory};
 ghost use Rattle.rustsec_report.specs.EndToEnd.{IsReportOf};
 ghost use Rattle.rustsec_report.specs.Held.{ListsWhatIsInForce};
 ghost use Rattle.rustsec_report.specs.Report.{info_of, report_of, vulnerabilities, warnings};
+ghost use Rattle.rustsec_report.specs.ReportLaws.{AddTheirOwn, FindTheSame, LacksOnly, ignoring};
 
 use crate::info::{LockfileInfo, VulnerabilityInfo};
 use crate::report::Report;
@@ -58,12 +63,9 @@ fn find_vulnerabilities(
 
 impl Report {
     /// Returns the report of a lockfile by a database. The settings select pairs of a package and an advisory, and
-    /// ignored
-    /// advisories are left out. A pair is a warning if its advisory is informational, and a vulnerability if not.
-    /// Each list
-    /// goes by package in the lockfile's order, then by advisory in the database's order; a package that occurs twice
-    /// gives
-    /// its pairs twice.
+    /// ignored advisories are left out. A pair is a warning if its advisory is informational, and a vulnerability if
+    /// not. Each list goes by package in the lockfile's order, then by advisory in the database's order; a package that
+    /// occurs twice gives its pairs twice.
     ///
     /// # Errors
     ///
@@ -83,6 +85,17 @@ impl Report {
         // It is the report of any files that give this database and any table that gives these packages.
         ensures chain { IfOk result (λ r. (files : List SourceFile) (table : Members) → AreLoaded files database.now
             → packages_of table ≡ Some lockfile.now.packages → IsReportOf files table settings.now r) }
+
+        // One more ignored ID takes away its own pairs and no other.
+        ensures ignored { IfOk result (λ r. (id : IdValue)
+            → LacksOnly id r (report_of database.now lockfile.now.packages (ignoring id settings.now))) }
+
+        // Further advisories add their own pairs and no other, in each package's after those that are there.
+        ensures further { IfOk result (λ r. (others : List given.Advisory)
+            → AddTheirOwn database.now others lockfile.now.packages settings.now r (report_of (database.now ++ others) lockfile.now.packages settings.now)) }
+
+        // Packages of other sources change nothing.
+        ensures elsewhere { IfOk result (λ r. FindTheSame r (report_of database.now (filter is_audited lockfile.now.packages) settings.now)) }
         ensures err { IfErr result IsMemory }
     {
         let vulnerabilities = find_vulnerabilities(alloc, database, lockfile, settings)?;

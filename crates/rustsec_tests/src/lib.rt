@@ -32,3 +32,4 @@ mod refused_requirements;
 mod sampled_commands;
 #[cfg(test)]
 mod scores;
+mod values;

@@ -206,9 +206,112 @@ const NO_COMMANDS: &[NoteRow<'static>] = &[
     (&["audit", "x"], "", 2, PAGE),
 ];
 
+/// The same, with what is wrong with them.
+const MISTYPED: &[NoteRow<'static>] = &[
+    (&[], "", 2, &["rustsec_audit: no command is given\n\n"]),
+    (&["fix"], "", 2, &["unknown command `fix`\n\n"]),
+    (
+        &["audti", "x", "y"],
+        "",
+        2,
+        &["unknown command `audti`; did you mean `audit`?\n\n"],
+    ),
+    (
+        &["lnt", "x"],
+        "",
+        2,
+        &["unknown command `lnt`; did you mean `lint`?\n\n"],
+    ),
+    (
+        &["range"],
+        "",
+        2,
+        &["unknown command `range`; did you mean `ranges`?\n\n"],
+    ),
+    (&["a\nb"], "", 2, &["unknown command `a\\u{a}b`\n\n"]),
+    (
+        &["audit", "x"],
+        "",
+        2,
+        &["other words are expected after `audit`\n\n"],
+    ),
+    (
+        &["audit", "x", "y", "--deny"],
+        "",
+        2,
+        &["`--deny-warnings`, found `--deny`\n\n"],
+    ),
+];
+
 #[test]
 fn usage_page(rt: HostRuntime) -> Result<(), Fail> {
-    expect_notes(&rt, NO_COMMANDS)
+    expect_notes(&rt, NO_COMMANDS)?;
+    expect_notes(&rt, MISTYPED)
+}
+
+/// A note on a root without advisories and a lockfile without packages.
+const NOTHING: &[&str] = &[
+    "rustsec_audit: warning: there is no advisory under looked-at-nothing\n",
+    "rustsec_audit: warning: there is no package in looked-at-nothing/Cargo.lock\nrustsec_audit: 0 advisories, 0 packages\n",
+];
+
+/// A note on packages of four sources, and on an ignored ID that no advisory has.
+const FOUR_SOURCES: &[&str] = &[
+    "rustsec_audit: 1 package is without a source, and not audited: base 1.0.0\n",
+    "rustsec_audit: 1 package is not from the default registry, and not audited: base 1.0.0\n",
+    "rustsec_audit: 1 package is from the default registry's sparse index, which advisories without a source do not match: base 1.0.0\n",
+];
+
+/// Audits and reports, and what they looked at.
+const LOOKED_AT: &[NoteRow<'static>] = &[
+    (
+        &["audit", "looked-at-nothing", "looked-at-nothing/Cargo.lock"],
+        "",
+        0,
+        NOTHING,
+    ),
+    (
+        &[
+            "report",
+            "looked-at-nothing",
+            "looked-at-nothing/Cargo.lock",
+        ],
+        "",
+        0,
+        NOTHING,
+    ),
+    (
+        &["report", "looked-at", "looked-at/Cargo.lock"],
+        "",
+        1,
+        FOUR_SOURCES,
+    ),
+    (
+        &[
+            "audit",
+            "looked-at",
+            "looked-at/Cargo.lock",
+            "--ignore",
+            "RUSTSEC-2019-0001",
+            "--ignore",
+            "RUSTSEC-2001-0001",
+        ],
+        "",
+        0,
+        &[
+            "rustsec_audit: warning: no advisory has the ignored ID RUSTSEC-2019-0001\nrustsec_audit: 3 advisories, 4 packages\n",
+        ],
+    ),
+];
+
+#[test]
+fn what_was_looked_at(rt: HostRuntime) -> Result<(), Fail> {
+    make_root(&rt, "looked-at-nothing", &[], "")?;
+    make_root(&rt, "looked-at", ADVISORIES, FOUR_PACKAGES)?;
+    expect_notes(&rt, LOOKED_AT)?;
+    fs::remove_dir_all(&rt, "looked-at-nothing")?;
+    fs::remove_dir_all(&rt, "looked-at")?;
+    Ok(())
 }
 
 /// The note about the vulnerability and the package that nobody maintains.

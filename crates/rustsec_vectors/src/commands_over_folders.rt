@@ -120,3 +120,74 @@ fn an_error_at_each_asking(rt: HostRuntime) -> Result<(), Fail> {
     }
     Ok(())
 }
+
+/// Other contents of the same paths: one advisory is not listed and no longer affects 1.0.0, and the lockfile holds the
+/// package twice.
+const LATER: Paths<'_> = &[
+    ("db/crates", Holds::Entries(&[("base", true)])),
+    (
+        "db/crates/base",
+        Holds::Entries(&[("RUSTSEC-2001-0003.md", false)]),
+    ),
+    (
+        "db/crates/base/RUSTSEC-2001-0001.md",
+        Holds::Text(
+            "```toml\n[advisory]\nid = \"RUSTSEC-2001-0001\"\npackage = \"base\"\ndate = \"2001-02-03\"\n\n[versions]\npatched = [\">= 1.0.0\"]\n```\n\n# T\n\nD\n",
+        ),
+    ),
+    (
+        "db/crates/base/RUSTSEC-2001-0003.md",
+        Holds::Text(
+            "```toml\n[advisory]\nid = \"RUSTSEC-2001-0003\"\npackage = \"base\"\ndate = \"2001-02-03\"\ninformational = \"unsound\"\n\n[versions]\npatched = [\">= 2.0.0\"]\n```\n\n# T\n\nD\n",
+        ),
+    ),
+    (
+        "lock",
+        Holds::Text(
+            "[[package]]\nname = \"base\"\nversion = \"1.0.0\"\nsource = \"registry+https://github.com/rust-lang/crates.io-index\"\n\n[[package]]\nname = \"base\"\nversion = \"1.5.0\"\nsource = \"registry+https://github.com/rust-lang/crates.io-index\"\n",
+        ),
+    ),
+];
+
+/// What `audit` writes of the earlier advisories and the later lockfile.
+const TWICE: &str =
+    "vulnerability RUSTSEC-2001-0001 base 1.0.0\nvulnerability RUSTSEC-2001-0001 base 1.5.0\nwarning unmaintained RUSTSEC-2001-0003 base 1.0.0\nwarning unmaintained RUSTSEC-2001-0003 base 1.5.0\n2 vulnerabilities, 2 warnings\n";
+
+/// What `audit` writes where the second advisory is the later one.
+const UNSOUND: &str =
+    "vulnerability RUSTSEC-2001-0001 base 1.0.0\nvulnerability RUSTSEC-2001-0001 base 1.5.0\nwarning unsound RUSTSEC-2001-0003 base 1.0.0\nwarning unsound RUSTSEC-2001-0003 base 1.5.0\n2 vulnerabilities, 2 warnings\n";
+
+/// What `audit` writes of the later advisories.
+const WARNED: &str =
+    "warning unsound RUSTSEC-2001-0003 base 1.0.0\nwarning unsound RUSTSEC-2001-0003 base 1.5.0\n0 vulnerabilities, 2 warnings\n";
+
+// Each path is asked once, and the output is that of the answers that were given.
+#[test]
+fn folders_that_change(rt: HostRuntime) -> Result<(), Fail> {
+    for (turns_at, status, text) in [
+        (1, 0, WARNED),
+        (2, 0, WARNED),
+        (3, 0, WARNED),
+        (4, 0, WARNED),
+        (5, 1, UNSOUND),
+        (6, 1, TWICE),
+        (7, 1, BOTH),
+    ] {
+        let mut folders = MemoryFolders::turning(FILES, LATER, turns_at);
+        let mut input: &[u8] = b"";
+        let mut written = Vec::new(rt.alloc());
+        let mut notes = io::sink();
+        let words = &["audit", "db", "lock"];
+        let found = run_over(
+            &mut folders,
+            rt.alloc(),
+            words,
+            &mut input,
+            &mut written,
+            &mut notes,
+        )?;
+        assert!(rt; found == status, "{turns_at}");
+        assert!(rt; written.as_slice() == text.as_bytes(), "{turns_at}");
+    }
+    Ok(())
+}

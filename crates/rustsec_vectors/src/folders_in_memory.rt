@@ -28,6 +28,8 @@ pub struct Failing {
 #[derive(Drop)]
 pub struct MemoryFolders<'a> {
     paths: Paths<'a>,
+    later: Paths<'a>,
+    turns_at: u64,
     calls: u64,
     failing: Failing,
 }
@@ -37,9 +39,32 @@ impl<'a> MemoryFolders<'a> {
     pub fn new(paths: Paths<'a>, failing: Failing) -> MemoryFolders<'a> {
         MemoryFolders {
             paths,
+            later: paths,
+            turns_at: 0,
             calls: 0,
             failing,
         }
+    }
+
+    /// Returns folders with these contents, and from a call on with others. No call fails.
+    pub fn turning(paths: Paths<'a>, later: Paths<'a>, turns_at: u64) -> MemoryFolders<'a> {
+        MemoryFolders {
+            paths,
+            later,
+            turns_at,
+            calls: 0,
+            failing: Failing {
+                at: 0,
+                kind: ErrorKind::Io,
+            },
+        }
+    }
+
+    /// Returns the contents of a path at the call that is made now.
+    fn held_now(&self, path: &str) -> Option<&'a Holds<'a>> {
+        let has_turned = self.turns_at != 0 && self.calls >= self.turns_at;
+        let paths = if has_turned { self.later } else { self.paths };
+        held_at(paths, path)
     }
 
     /// Returns whether the call that is made now fails.
@@ -93,7 +118,7 @@ impl<'a> Folders for MemoryFolders<'a> {
         if self.fails_now() {
             return Err(failure(alloc, self.failing.kind));
         }
-        match held_at(self.paths, path) {
+        match self.held_now(path) {
             Some(Holds::Entries(rows)) => entries(alloc, rows),
             _ => Err(failure(alloc, ErrorKind::Io)),
         }
@@ -103,7 +128,7 @@ impl<'a> Folders for MemoryFolders<'a> {
         if self.fails_now() {
             return Err(failure(alloc, self.failing.kind));
         }
-        match held_at(self.paths, path) {
+        match self.held_now(path) {
             Some(Holds::Text(text)) => Ok(Text::from_str(alloc, text)?),
             _ => Err(failure(alloc, ErrorKind::Io)),
         }

@@ -1,6 +1,6 @@
 -- What a contract sees of an error, and how contracts describe refusals. It carries meaning: public contracts cite
 -- it.
-use Rattle.std.specs.Prelude.{◌≡◌, ◌⊎◌, ◌++◌, ℕ, List, [], Option, Some, None, codes}
+use Rattle.std.specs.Prelude.{◌≡◌, ◌⊎◌, ◌++◌, ◌==◌, ℕ, List, [], Option, Some, None, codes, if◌then◌else◌, length}
 use Rattle.rustsec_versions.specs.declared.error.ErrorKind.{ErrorKind}
 use Rattle.rustsec_versions.specs.declared.error.ErrorKind.TheVariants as kind
 
@@ -43,6 +43,15 @@ kind_text kind.Repo = codes "git operation failed"
 kind_text kind.Version = codes "bad version"
 kind_text kind.OutOfMemory = codes "out of memory"
 
--- how an error prints: its kind, a colon, its message
+-- a text after a colon; nothing if the text is empty
+abbrev pub after_colon : List ℕ → List ℕ
+after_colon text = if length text == 0 then [] else codes ": " ++ text
+
+-- a cause after a colon; nothing if there is none
+abbrev pub cause_after_colon : Option (List ℕ) → List ℕ
+cause_after_colon None = []
+cause_after_colon (Some text) = codes ": " ++ text
+
+-- how an error prints: its kind, its message and its cause
 abbrev pub failure_text : Failure → List ℕ
-failure_text e = kind_text e.kind ++ (codes ": " ++ e.message)
+failure_text e = kind_text e.kind ++ (after_colon e.message ++ cause_after_colon e.cause)

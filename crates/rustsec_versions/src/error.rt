@@ -193,9 +193,19 @@ impl fmt::Display for Error {
 
     ghost output = { λ e. Some (failure_text e) };
 
+    /// Writes the kind, the message if it is not empty, and the cause if any, with a colon between them.
     fn fmt<W: fmt::Write>(&self, f: &mut fmt::Formatter<W>) -> fmt::Result {
         f.write_str(self.kind.text())?;
-        f.write_str(": ")?;
-        f.write_str(self.message())
+        if !self.message().is_empty() {
+            f.write_str(": ")?;
+            f.write_str(self.message())?;
+        }
+        if let Some(cause) = self.cause() {
+            f.write_str(": ")?;
+            f.write_str(cause)?;
+        }
+        Ok(())
     }
 }
+
+impl std::error::Error for Error {}

@@ -5,7 +5,7 @@ use Rattle.rustsec_commands.proofs.report.audit_with.Goals as goal
 pub returns-in-Ok-clause-ok : goal.returns-in-Ok-clause-ok
 returns-in-Ok-clause-ok g c =
     let is = rw c.in_ok-settings.ensures at c.in-Ok.ensures.ok in
-    IfOk-weaker c.advised_output.result _ _ (λ o h. reported c.in-Ok.report is h) c.advised_output.ensures
+    IfOk-weaker c.advised_output.result _ _ (λ o h. reported c.in-Ok.noted is h) c.advised_output.ensures
 
 pub returns-clause-ok : goal.returns-clause-ok
 returns-clause-ok g c =

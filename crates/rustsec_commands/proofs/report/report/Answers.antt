@@ -5,7 +5,7 @@ use Rattle.rustsec_commands.proofs.report.report.Goals as goal
 pub returns-in-Ok-clause-ok : goal.returns-in-Ok-clause-ok
 returns-in-Ok-clause-ok g c =
     let is = rw (c.in_ok-settings.ensures, c.new.ensures) at c.in-Ok.ensures.ok in
-    IfOk-weaker c.report_output.result _ _ (λ o h. reported c.in-Ok.report is h) c.report_output.ensures
+    IfOk-weaker c.noted_output.result _ _ (λ o h. reported c.in-Ok.noted is h) c.noted_output.ensures
 
 pub returns-clause-ok : goal.returns-clause-ok
 returns-clause-ok g c =

@@ -1,0 +1,165 @@
+//! Says what a report looked at, and warns of what makes it say less than it seems to.
+
+use crate::shown::push_shown;
+use rustsec_database::Database;
+use rustsec_lock::package::Package;
+use rustsec_lock::{Lockfile, SourceKind};
+use rustsec_texts::Id;
+use std::alloc::{AllocError, Global};
+use std::fmt::Write as _;
+
+/// The number of packages that a line names. Further ones are counted.
+const NAMED: usize = 10;
+
+/// The paths of a report: the root of its database and its lockfile.
+#[derive(Clone, Copy)]
+pub struct Paths<'a> {
+    /// The root of the database.
+    pub root: &'a str,
+    /// The lockfile.
+    pub lock: &'a str,
+}
+
+/// Why advisories without a source do not match a package.
+#[derive(Clone, Copy, PartialEq, Eq)]
+enum Unmatched {
+    /// The package has no source.
+    WithoutSource,
+    /// The source is another than the default registry.
+    FromElsewhere,
+    /// The source is the sparse index of the default registry. Advisories without a source are for its index in git.
+    FromSparseIndex,
+}
+
+/// Returns why advisories without a source do not match a package, or `None` if they may.
+fn why_unmatched(package: &Package) -> Option<Unmatched> {
+    let Some(source) = &package.source else {
+        return Some(Unmatched::WithoutSource);
+    };
+    if !source.is_default_registry() {
+        return Some(Unmatched::FromElsewhere);
+    }
+    match source.kind() {
+        SourceKind::SparseRegistry => Some(Unmatched::FromSparseIndex),
+        _ => None,
+    }
+}
+
+/// Returns the words of a line for the packages of a reason.
+fn reason(why: Unmatched) -> &'static str {
+    match why {
+        Unmatched::WithoutSource => " without a source, and not audited",
+        Unmatched::FromElsewhere => " not from the default registry, and not audited",
+        Unmatched::FromSparseIndex => {
+            " from the default registry's sparse index, which advisories without a source do not match"
+        }
+    }
+}
+
+/// Appends a warning that names a path or an ID, on one line.
+fn add_warning(note: &mut String, what: &str, name: &str) -> Result<(), AllocError> {
+    note.push_str("rustsec_audit: warning: ")?;
+    note.push_str(what)?;
+    push_shown(note, name)?;
+    note.push_str("\n")
+}
+
+/// Appends a number with the word for one or for several.
+fn add_number(
+    note: &mut String,
+    number: usize,
+    one: &str,
+    several: &str,
+) -> Result<(), AllocError> {
+    let word = if number == 1 { one } else { several };
+    write!(note, "{number} {word}")?;
+    Ok(())
+}
+
+/// Appends the names and versions of the first packages of a reason.
+fn add_packages(note: &mut String, packages: &[Package], why: Unmatched) -> Result<(), AllocError> {
+    let mut named: usize = 0;
+    for package in packages {
+        if named < NAMED && why_unmatched(package) == Some(why) {
+            note.push_str(if named == 0 { ": " } else { ", " })?;
+            push_shown(note, package.name.as_str())?;
+            let version = &package.version;
+            write!(note, " {version}")?;
+            named += 1;
+        }
+    }
+    Ok(())
+}
+
+/// Appends a line that counts the packages of a reason, and names the first ones.
+fn add_unmatched(
+    note: &mut String,
+    packages: &[Package],
+    why: Unmatched,
+) -> Result<(), AllocError> {
+    let number = packages
+        .iter()
+        .filter(|p| why_unmatched(p) == Some(why))
+        .count();
+    if number == 0 {
+        return Ok(());
+    }
+    note.push_str("rustsec_audit: ")?;
+    add_number(note, number, "package is", "packages are")?;
+    note.push_str(reason(why))?;
+    add_packages(note, packages, why)?;
+    if number > NAMED {
+        note.push_str(", ...")?;
+    }
+    note.push_str("\n")
+}
+
+/// Appends a warning for each ignored ID that no advisory has.
+fn add_ignored(note: &mut String, database: &Database, ignored: &[Id]) -> Result<(), AllocError> {
+    for id in ignored {
+        if database.get(id).is_none() {
+            add_warning(note, "no advisory has the ignored ID ", id.as_str())?;
+        }
+    }
+    Ok(())
+}
+
+/// Appends the line with the numbers of advisories and packages, after a warning for each that is zero.
+fn add_numbers(
+    note: &mut String,
+    paths: Paths<'_>,
+    advisories: usize,
+    packages: usize,
+) -> Result<(), AllocError> {
+    if advisories == 0 {
+        add_warning(note, "there is no advisory under ", paths.root)?;
+    }
+    if packages == 0 {
+        add_warning(note, "there is no package in ", paths.lock)?;
+    }
+    note.push_str("rustsec_audit: ")?;
+    add_number(note, advisories, "advisory", "advisories")?;
+    note.push_str(", ")?;
+    add_number(note, packages, "package", "packages")?;
+    note.push_str("\n")
+}
+
+/// Returns the lines that say what a report looked at: the packages that advisories without a source do not match, the
+/// ignored IDs that no advisory has, and the numbers of advisories and packages.
+pub fn overview(
+    alloc: Global,
+    paths: Paths<'_>,
+    database: &Database,
+    lockfile: &Lockfile,
+    ignored: &[Id],
+) -> Result<String, AllocError> {
+    let mut note = String::new(alloc);
+    let packages = lockfile.packages.as_slice();
+    add_unmatched(&mut note, packages, Unmatched::WithoutSource)?;
+    add_unmatched(&mut note, packages, Unmatched::FromElsewhere)?;
+    add_unmatched(&mut note, packages, Unmatched::FromSparseIndex)?;
+    add_ignored(&mut note, database, ignored)?;
+    let advisories = database.iter().count();
+    add_numbers(&mut note, paths, advisories, packages.len())?;
+    Ok(note)
+}
