@@ -54,9 +54,13 @@ titled front markdown = behind heading markdown >>= cut_at line_feed >>= λ c. S
   description = trim c.1;
 })
 
+-- the message for a text with another beginning
+abbrev pub start_message : List ℕ → List ℕ
+start_message beginning = codes "not the start of an advisory: found `" ++ (beginning ++ codes "`, expected a first line of three backticks and `toml`")
+
 -- the message for a text with another beginning shows at most 20 bytes of it
 abbrev pub ShowsBeginning : List ℕ → Failure → Type 0
-ShowsBeginning text e = (b : List ℕ) × IsBeginning 20 text b × (e.message ≡ codes "not the start of an advisory: " ++ b)
+ShowsBeginning text e = (b : List ℕ) × IsBeginning 20 text b × (e.message ≡ start_message b)
 
 -- the parts of a text, if it has them
 abbrev pub parts_of : List ℕ → Option FileParts

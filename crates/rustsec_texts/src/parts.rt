@@ -103,7 +103,9 @@ fn wrong_start(alloc: Global, text: &str) -> Error
     ensures { IsRefusal ErrorKind.Parse (ShowsBeginning text.now result) result }
 {
     let beginning = beginning_of(text, SHOWN);
-    match format!(in alloc; "not the start of an advisory: {beginning}") {
+    match format!(in alloc;
+        "not the start of an advisory: found `{beginning}`, expected a first line of three backticks and `toml`"
+    ) {
         Ok(message) => Error::new(alloc, ErrorKind::Parse, &message),
         Err(refused) => Error::from(refused),
     }
