@@ -1,11 +1,15 @@
 //! Says what a report looked at, and warns of what makes it say less than it seems to.
 
+ghost use Rattle.rustsec_folders.specs.Allowed.{AllowSame};
+
 use crate::shown::push_shown;
 use rustsec_database::Database;
+use rustsec_folders::Folders;
 use rustsec_lock::package::Package;
 use rustsec_lock::{Lockfile, SourceKind};
 use rustsec_texts::Id;
-use std::alloc::{AllocError, Global};
+use rustsec_versions::Result;
+use std::alloc::Global;
 use std::fmt::Write as _;
 
 /// The number of packages that a line names. Further ones are counted.
@@ -18,6 +22,19 @@ pub struct Paths<'a> {
     pub root: &'a str,
     /// The lockfile.
     pub lock: &'a str,
+}
+
+/// What a report looked at.
+#[derive(Clone, Copy)]
+pub struct LookedAt<'a> {
+    /// Where the database and the lockfile are.
+    pub paths: Paths<'a>,
+    /// The database.
+    pub database: &'a Database,
+    /// The lockfile.
+    pub lockfile: &'a Lockfile,
+    /// The IDs that are ignored.
+    pub ignored: &'a [Id],
 }
 
 /// Why advisories without a source do not match a package.
@@ -57,27 +74,23 @@ fn reason(why: Unmatched) -> &'static str {
 }
 
 /// Appends a warning that names a path or an ID, on one line.
-fn add_warning(note: &mut String, what: &str, name: &str) -> Result<(), AllocError> {
+fn add_warning(note: &mut String, what: &str, name: &str) -> Result<()> {
     note.push_str("rustsec_audit: warning: ")?;
     note.push_str(what)?;
     push_shown(note, name)?;
-    note.push_str("\n")
+    note.push_str("\n")?;
+    Ok(())
 }
 
 /// Appends a number with the word for one or for several.
-fn add_number(
-    note: &mut String,
-    number: usize,
-    one: &str,
-    several: &str,
-) -> Result<(), AllocError> {
+fn add_number(note: &mut String, number: usize, one: &str, several: &str) -> Result<()> {
     let word = if number == 1 { one } else { several };
     write!(note, "{number} {word}")?;
     Ok(())
 }
 
 /// Appends the names and versions of the first packages of a reason.
-fn add_packages(note: &mut String, packages: &[Package], why: Unmatched) -> Result<(), AllocError> {
+fn add_packages(note: &mut String, packages: &[Package], why: Unmatched) -> Result<()> {
     let mut named: usize = 0;
     for package in packages {
         if named < NAMED && why_unmatched(package) == Some(why) {
@@ -92,11 +105,7 @@ fn add_packages(note: &mut String, packages: &[Package], why: Unmatched) -> Resu
 }
 
 /// Appends a line that counts the packages of a reason, and names the first ones.
-fn add_unmatched(
-    note: &mut String,
-    packages: &[Package],
-    why: Unmatched,
-) -> Result<(), AllocError> {
+fn add_unmatched(note: &mut String, packages: &[Package], why: Unmatched) -> Result<()> {
     let number = packages
         .iter()
         .filter(|p| why_unmatched(p) == Some(why))
@@ -111,11 +120,12 @@ fn add_unmatched(
     if number > NAMED {
         note.push_str(", ...")?;
     }
-    note.push_str("\n")
+    note.push_str("\n")?;
+    Ok(())
 }
 
 /// Appends a warning for each ignored ID that no advisory has.
-fn add_ignored(note: &mut String, database: &Database, ignored: &[Id]) -> Result<(), AllocError> {
+fn add_ignored(note: &mut String, database: &Database, ignored: &[Id]) -> Result<()> {
     for id in ignored {
         if database.get(id).is_none() {
             add_warning(note, "no advisory has the ignored ID ", id.as_str())?;
@@ -130,7 +140,7 @@ fn add_numbers(
     paths: Paths<'_>,
     advisories: usize,
     packages: usize,
-) -> Result<(), AllocError> {
+) -> Result<()> {
     if advisories == 0 {
         add_warning(note, "there is no advisory under ", paths.root)?;
     }
@@ -141,25 +151,45 @@ fn add_numbers(
     add_number(note, advisories, "advisory", "advisories")?;
     note.push_str(", ")?;
     add_number(note, packages, "package", "packages")?;
-    note.push_str("\n")
+    note.push_str("\n")?;
+    Ok(())
 }
 
-/// Returns the lines that say what a report looked at: the packages that advisories without a source do not match, the
-/// ignored IDs that no advisory has, and the numbers of advisories and packages.
-pub fn overview(
+/// Appends a warning if the folder `rust` of a root cannot be listed. Its advisories are left out then.
+fn add_unlisted<F: Folders>(
     alloc: Global,
-    paths: Paths<'_>,
-    database: &Database,
-    lockfile: &Lockfile,
-    ignored: &[Id],
-) -> Result<String, AllocError> {
+    folders: &mut F,
+    note: &mut String,
+    root: &str,
+) -> Result<()>
+    ensures same { AllowSame (F.allowed folders.old) (F.allowed folders.new) }
+{
+    let path = format!(in alloc; "{root}/rust")?;
+    if let Err(error) = folders.list(alloc, &path) {
+        let why = error.to_string(alloc)?;
+        add_warning(note, "", &why)?;
+    }
+    Ok(())
+}
+
+/// Returns the lines that say what a report looked at: the folder `rust` if it cannot be listed, the packages that
+/// advisories without a source do not match, the ignored IDs that no advisory has, and the numbers of advisories and
+/// packages.
+pub fn overview<F: Folders>(
+    alloc: Global,
+    folders: &mut F,
+    looked_at: LookedAt<'_>,
+) -> Result<String>
+    ensures same { AllowSame (F.allowed folders.old) (F.allowed folders.new) }
+{
     let mut note = String::new(alloc);
-    let packages = lockfile.packages.as_slice();
+    let packages = looked_at.lockfile.packages.as_slice();
+    add_unlisted(alloc, folders, &mut note, looked_at.paths.root)?;
     add_unmatched(&mut note, packages, Unmatched::WithoutSource)?;
     add_unmatched(&mut note, packages, Unmatched::FromElsewhere)?;
     add_unmatched(&mut note, packages, Unmatched::FromSparseIndex)?;
-    add_ignored(&mut note, database, ignored)?;
-    let advisories = database.iter().count();
-    add_numbers(&mut note, paths, advisories, packages.len())?;
+    add_ignored(&mut note, looked_at.database, looked_at.ignored)?;
+    let advisories = looked_at.database.iter().count();
+    add_numbers(&mut note, looked_at.paths, advisories, packages.len())?;
     Ok(note)
 }

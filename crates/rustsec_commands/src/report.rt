@@ -13,7 +13,7 @@ ghost use Rattle.rustsec_commands.specs.Output.{tree_line};
 use crate::advice::advice;
 use crate::audit::audit_output;
 use crate::output::{self, Output, tree_line};
-use crate::overview::{Paths, overview};
+use crate::overview::{LookedAt, Paths, overview};
 use crate::refusal::refusal;
 use crate::{misuse, options};
 use rustsec_database::Database;
@@ -90,14 +90,13 @@ fn report_of<F: Folders>(
     let database = Database::open_with(alloc, folders, paths.root)?;
     let lockfile = Lockfile::load_with(alloc, folders, paths.lock)?;
     let report = Report::generate(alloc, &database, &lockfile, settings)?;
-    let note = overview(
-        alloc,
+    let looked_at = LookedAt {
         paths,
-        &database,
-        &lockfile,
-        settings.ignore.as_slice(),
-    )
-    .ok();
+        database: &database,
+        lockfile: &lockfile,
+        ignored: settings.ignore.as_slice(),
+    };
+    let note = overview(alloc, folders, looked_at).ok();
     Ok(Noted { report, note })
 }
 

@@ -32,4 +32,5 @@ mod refused_requirements;
 mod sampled_commands;
 #[cfg(test)]
 mod scores;
+mod swapped_files;
 mod values;

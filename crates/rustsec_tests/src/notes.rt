@@ -255,8 +255,9 @@ const NOTHING: &[&str] = &[
     "rustsec_audit: warning: there is no package in looked-at-nothing/Cargo.lock\nrustsec_audit: 0 advisories, 0 packages\n",
 ];
 
-/// A note on packages of four sources, and on an ignored ID that no advisory has.
+/// A note on a root without the folder `rust`, and on packages of four sources.
 const FOUR_SOURCES: &[&str] = &[
+    "rustsec_audit: warning: I/O operation failed: couldn't open looked-at/rust: ",
     "rustsec_audit: 1 package is without a source, and not audited: base 1.0.0\n",
     "rustsec_audit: 1 package is not from the default registry, and not audited: base 1.0.0\n",
     "rustsec_audit: 1 package is from the default registry's sparse index, which advisories without a source do not match: base 1.0.0\n",
