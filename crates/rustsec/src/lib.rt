@@ -41,7 +41,8 @@ pub mod osv {
 /// Reports of what an audit found.
 pub mod report {
     pub use rustsec_report::{
-        LockfileInfo, Report, Settings, VulnerabilityInfo, WarningInfo, find_warnings,
+        LockfileInfo, Report, Settings, VulnerabilityInfo, WarningInfo, find_vulnerabilities,
+        find_warnings,
     };
 }
 

@@ -59,8 +59,8 @@ impl Report {
             → IsReportOfText (files.now ++ file ∷ []) lockfile.now settings.now more → AddsItsOwn files.now file lockfile.now settings.now r more) }
         ensures err { IfErr result (IsReportRefusal files.now (lockfile_of lockfile.now)) }
     {
-        let database = Database::load(alloc, files)?;
+        let advisories = Database::load(alloc, files)?;
         let lockfile = Lockfile::from_str(alloc, lockfile)?;
-        Report::generate(alloc, &database, &lockfile, settings)
+        Report::generate(alloc, &advisories, &lockfile, settings)
     }
 }

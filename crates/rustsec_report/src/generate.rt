@@ -45,8 +45,13 @@ pub fn find_warnings(
     warnings_of(alloc, Items::from(found), settings)
 }
 
-/// Returns the vulnerabilities of a lockfile's packages that settings ask for, without those of ignored advisories.
-fn find_vulnerabilities(
+/// Returns the vulnerabilities of a lockfile's packages that settings ask for, without those of ignored advisories: by
+/// package in the lockfile's order, then by advisory in the database's order.
+///
+/// # Errors
+///
+/// `OutOfMemory` alone.
+pub fn find_vulnerabilities(
     alloc: Global,
     database: &Database,
     lockfile: &Lockfile,

@@ -17,7 +17,7 @@ mod warnings;
 
 pub use crate::binary_format::BinaryFormat;
 pub use crate::filter::filter_report_by_binary_type;
-pub use crate::generate::find_warnings;
+pub use crate::generate::{find_vulnerabilities, find_warnings};
 pub use crate::info::{LockfileInfo, VulnerabilityInfo};
 pub use crate::report::Report;
 pub use crate::settings::Settings;

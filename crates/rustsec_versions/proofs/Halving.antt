@@ -1,13 +1,19 @@
 -- A binary search: what it finds among gaps that follow one another, and how many comparisons it makes.
-use Rattle.std.proofs.Common.{◌≡◌, ◌+◌, ◌<◌, ◌≤◌, ◌^◌, ◌&&◌, ℕ, zero, suc, Bool, true, false, List, length, get_or, refl, sym, arith, inl, inr, ◌∙◌, ◌-◌, ◌⊎◌}
-use Rattle.std.specs.List.{list_any}
+use Rattle.std.proofs.Common.{◌≡◌, ◌+◌, ◌<◌, ◌≤◌, ◌^◌, ◌&&◌, ℕ, zero, suc, Bool, true, false, List, [], ◌∷◌, Option, None, Some, length, map, get_or, refl, subst, sym, arith, inl, inr, ◌∙◌, ◌-◌, ◌⊎◌}
+use Rattle.std.specs.List.{AllAdjacentBelow, list_any}
+use Rattle.std.specs.Prelude.{is_some}
 use Rattle.std.proofs.Math.Nat.{pow-suc, pow-zero}
 use Rattle.std.proofs.lemmas.Bool.{cases_Bool}
-use Rattle.std.proofs.lemmas.List.{get_or_default}
+use Rattle.std.proofs.lemmas.Nat.{pow_pos}
+use Rattle.std.proofs.lemmas.List.{get_or-map, get_or_default}
+use Rattle.std.proofs.Math.ListN.{length-map}
 use Rattle.std.proofs.lemmas.List.Folds.{list_any_at, list_any_none}
 use Rattle.semver.specs.Parse.{Parts}
-use Rattle.rustsec_versions.specs.Between.{AreInTurn}
-use Rattle.rustsec_versions.specs.Interval.{Interval, holds, is_after, is_before}
+use Rattle.rustsec_versions.specs.AcceptedRanges.{HasBinaryDigits}
+use Rattle.rustsec_versions.specs.Between.{AreInTurn, EachLaterBegins}
+use Rattle.rustsec_versions.specs.Gaps.{cut}
+use Rattle.rustsec_versions.specs.Interval.{Endpoint, Interval, exclusive, holds, inclusive, is_after, is_before, unbounded}
+use Rattle.rustsec_versions.specs.Ranges.{Range, has_bound, is_followed, lower_cut}
 
 -- ---- gaps in turn
 
@@ -95,6 +101,49 @@ in-last gs v m e t l before after = elim (cases_Bool (is_before (get_or gs m e).
       ]) ∙ sym over
 ]
 
+-- ---- which gaps have a start
+
+followed-begins : (fixed : Option Parts) (e : Endpoint) → is_followed fixed (lower_cut e) ≡ true → has_bound e ≡ true
+followed-begins None unbounded h = cc h
+followed-begins None (exclusive v) h = refl
+followed-begins None (inclusive v) h = refl
+followed-begins (Some fixed) unbounded h = cc h
+followed-begins (Some fixed) (exclusive v) h = refl
+followed-begins (Some fixed) (inclusive v) h = refl
+
+-- a gap whose range follows another has a start
+pub later-begin : (gs : List Interval) → AllAdjacentBelow (λ r s. is_followed r.fixed s.introduced ≡ true) (map cut gs) (length (map cut gs)) → EachLaterBegins gs
+later-begin gs followed k d l =
+    let all : length (map cut gs) ≡ length gs = length-map gs cut in
+    let next : get_or (map cut gs) (k + 1) (cut d) ≡ cut (get_or gs (k + 1) d) = get_or-map cut gs (k + 1) d (cut d) l in
+    followed-begins (get_or (map cut gs) k (cut d)).fixed (get_or gs (k + 1) d).start
+    (subst (λ (s : Range). is_followed (get_or (map cut gs) k (cut d)).fixed s.introduced ≡ true) next (followed k (cut d) (rw all l)))
+
+-- the gap at a place above 0 has a start
+pub begins-at : (gs : List Interval) (m : ℕ) (d : Interval) → EachLaterBegins gs → 0 < m → m < length gs → has_bound (get_or gs m d).start ≡ true
+begins-at gs m d starts low high =
+    let e : m ≡ (m - 1) + 1 = omega (arith, low) in
+    subst (λ (k : ℕ). has_bound (get_or gs k d).start ≡ true) (sym e) (starts (m - 1) d (omega (arith, low, high)))
+
+-- and so has each gap, if the first one has
+pub begins-if_first : (gs : List Interval) (m : ℕ) (d : Interval) → EachLaterBegins gs → m < length gs
+    → (m ≡ 0 → has_bound (get_or gs 0 d).start ≡ true) → has_bound (get_or gs m d).start ≡ true
+begins-if_first gs zero d starts high first = first refl
+begins-if_first gs (suc m) d starts high first = begins-at gs (suc m) d starts (omega arith) high
+
+cut-begins : (e : Endpoint) → is_some (lower_cut e) ≡ true → has_bound e ≡ true
+cut-begins unbounded h = cc h
+cut-begins (exclusive v) h = refl
+cut-begins (inclusive v) h = refl
+
+-- if the first range has an introduction, the first gap has a start
+pub first-begins : (gs : List Interval) (r : Range) (rest : List Range) → r ∷ rest ≡ map cut gs → is_some r.introduced ≡ true → (e : Interval)
+    → has_bound (get_or gs 0 e).start ≡ true
+first-begins [] r rest same h e = cc same
+first-begins (g ∷ gs) r rest same h e =
+    let is : r ≡ cut g = cc same in
+    cut-begins g.start (rw is at h)
+
 -- ---- how many comparisons it makes
 
 -- of a search among `n` gaps that had made `old` comparisons at its start and has made `now`, with `left`
@@ -119,3 +168,51 @@ within-half n old left now less new p h s w = record {
 
 pub within-end : (n old left now d : ℕ) → WithinDigits n old left now → n < 2 ^ d → now ≤ old + d
 within-end n old left now d w l = let (k, small, few) = w.digits d l in omega arith
+
+-- of a search that had made `old` comparisons at its start and has made `now`: with the halvings of `room` down to 1
+-- still to come, it makes at least as many as `n` has, unless the count has reached its greatest number
+pub record AtLeastHalvings (n old room now : ℕ) : Type 0 where
+  pub halvings : (d : ℕ) → 2 ^ d ≤ n → now < 2 ^ 64 - 1 → (k : ℕ) × (0 < k → 2 ^ k ≤ room) × (old + d ≤ now + k)
+
+pub at_least-start : (n old : ℕ) → AtLeastHalvings n old n old
+at_least-start n old = record { halvings = λ d h below. (d, (λ p. h), omega arith) }
+
+unhalved : (room less now new k all : ℕ) → room ≤ less + less + 1 → now ≤ new → (2 ≤ room → now < new) → (0 < k → 2 ^ k ≤ room)
+    → all ≤ now + k → (j : ℕ) × (0 < j → 2 ^ j ≤ less) × (all ≤ new + j)
+unhalved room less now new zero all h rises counts l few = (0, (λ p. absurd (omega arith)), omega arith)
+unhalved room less now new (suc k) all h rises counts l few =
+    let big : 2 ^ suc k ≤ room = l (omega arith) in
+    let positive : 0 < 2 ^ k = pow_pos k in
+    let once : now < new = counts (omega (arith, pow-suc 2 k)) in
+    (k, (λ p. omega (arith, pow-suc 2 k)), omega arith)
+
+-- a turn that counts, if there is room for one, leaves half of the room
+pub at_least-half : (n old room now less new : ℕ) → room ≤ less + less + 1 → now ≤ new → (2 ≤ room → now < 2 ^ 64 - 1 → now < new)
+    → AtLeastHalvings n old room now → AtLeastHalvings n old less new
+at_least-half n old room now less new h rises counts w = record {
+  halvings = λ d l below.
+      let still : now < 2 ^ 64 - 1 = omega (arith, below, rises) in
+      let (k, large, few) = w.halvings d l still in
+      unhalved room less now new k (old + d) h rises (λ r. counts r still) large few;
+}
+
+none-left : (room k : ℕ) → room ≤ 1 → (0 < k → 2 ^ k ≤ room) → k ≡ 0
+none-left room zero h l = refl
+none-left room (suc k) h l =
+    let big : 2 ^ suc k ≤ room = l (omega arith) in
+    let positive : 0 < 2 ^ k = pow_pos k in
+    absurd (omega (arith, pow-suc 2 k))
+
+pub at_least-end : (n old room now d : ℕ) → room ≤ 1 → AtLeastHalvings n old room now → 2 ^ d ≤ n → now < 2 ^ 64 - 1 → old + d ≤ now
+at_least-end n old room now d h w l below =
+    let (k, large, few) = w.halvings d l below in
+    let none : k ≡ 0 = none-left room k h large in
+    omega (arith, none, few)
+
+-- a number with a digit more than `d` is at least `2 ^ d`
+pub digits-least : (n d : ℕ) → HasBinaryDigits n (suc d) → 2 ^ d ≤ n
+digits-least n d h = elim (three n (2 ^ d)) [
+  | inl low ↦ absurd (omega (arith, h.fewest d low))
+  | inr (inl same) ↦ omega (arith, same)
+  | inr (inr high) ↦ omega (arith, high)
+]

@@ -8,6 +8,7 @@ use Rattle.rustsec_versions.specs.Gaps.{HasValidBounds, cut}
 use Rattle.rustsec_versions.specs.Interval.{Endpoint, Interval, exclusive, holds, inclusive, is_after, is_before, unbounded}
 use Rattle.rustsec_versions.specs.Lists.{Lists, affected}
 use Rattle.rustsec_versions.specs.AcceptedRanges.{AreRangesOf}
+use Rattle.rustsec_versions.specs.Ranges.{has_bound}
 
 -- the bound on the other side of the same cut: exclusive becomes inclusive, and inclusive exclusive
 abbrev pub turned : Endpoint → Endpoint
@@ -35,6 +36,10 @@ gaps_between from (i ∷ is) = gap_to from i.start (gaps_after i.end (gaps_betwe
 -- a version after the start of a gap is after the start and the end of the gap before it
 pub record AreInTurn (gs : List Interval) : Type 0 where
   pub turn : (v : Parts) → AllAdjacentBelow (λ g h. is_after h.start v ≡ true → (is_after g.start v ≡ true) × (is_before g.end v ≡ false)) gs (length gs)
+
+-- each gap but the first has a start
+abbrev pub EachLaterBegins : List Interval → Type 0
+EachLaterBegins gs = AllAdjacentBelow (λ g h. has_bound h.start ≡ true) gs (length gs)
 
 -- the gaps that accepted lists keep: they hold the versions that the lists leave affected, valid or not, and the
 -- successors of their bounds give the ranges

@@ -22,6 +22,48 @@ impl Model for Steps {
     ghost view = { λ s. s.count };
 }
 
+/// A version that is looked for. Other modules can compare it only through `Steps::cmp`.
+#[derive(Drop)]
+pub(crate) struct Sought<'a> {
+    version: &'a Version,
+}
+
+impl<'a> Model for Sought<'a> {
+    ghost use Rattle.semver.specs.Identifiers.{parts_of};
+    ghost use Rattle.semver.specs.Parse.{Parts};
+
+    ghost Value = { Parts };
+
+    ghost view = { λ s. parts_of s.version.now };
+}
+
+impl<'a> Sought<'a> {
+    /// Returns a version as one that is looked for.
+    pub(crate) fn new(version: &'a Version) -> Sought<'a>
+        ensures { result ≡ parts_of version.now }
+    {
+        Sought { version }
+    }
+
+    /// Compares a bound with this version, and counts one comparison.
+    pub(crate) fn after(&self, bound: &Version, steps: &mut Steps) -> Ordering
+        ensures order { result ≡ precedence (parts_of bound.now) self.now }
+        ensures counted { steps.new ≡ min (steps.old + 1) (2 ^ 64 - 1) }
+        ensures rises { steps.old ≤ steps.new }
+    {
+        steps.cmp(bound, self.version)
+    }
+
+    /// Compares this version with a bound, and counts one comparison.
+    pub(crate) fn before(&self, bound: &Version, steps: &mut Steps) -> Ordering
+        ensures order { result ≡ precedence self.now (parts_of bound.now) }
+        ensures counted { steps.new ≡ min (steps.old + 1) (2 ^ 64 - 1) }
+        ensures rises { steps.old ≤ steps.new }
+    {
+        steps.cmp(self.version, bound)
+    }
+}
+
 impl Steps {
     /// Returns a count of zero.
     pub fn new() -> Steps

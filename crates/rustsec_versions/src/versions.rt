@@ -1,6 +1,6 @@
 //! The lists of requirements of an advisory, and which versions they leave affected.
 
-ghost use Rattle.std.specs.Prelude.{◌≡◌, ◌+◌, ◌-◌, ◌^◌, ◌≤◌, ℕ, IfErr, IfOk, List, OnOk, false, length, map, true};
+ghost use Rattle.std.specs.Prelude.{◌≡◌, ◌<◌, ◌+◌, ◌-◌, ◌^◌, ◌≤◌, ◌∷◌, ℕ, IfErr, IfOk, List, OnOk, false, is_some, length, map, true};
 ghost use Rattle.std.specs.Cmp.{partial_equiv_from_equiv};
 ghost use Rattle.semver.specs.Identifiers.{parts_of};
 ghost use Rattle.rustsec_versions.specs.Between.{AreGapsOf};
@@ -21,7 +21,7 @@ use crate::overlaps::overlap_refused;
 use crate::ranges::{OsvRange, ranges_of};
 use crate::requirements::Requirements;
 use crate::search::in_gaps;
-use crate::steps::Steps;
+use crate::steps::{Sought, Steps};
 use rustsec_values::{ExactClone, ExactEq};
 use semver::{Version, VersionReq};
 use std::alloc::{AllocError, Global};
@@ -139,17 +139,28 @@ impl Versions {
     }
 
     /// Returns whether a version is affected, by a binary search in the affected intervals. It counts the comparisons
-    /// of versions: at most one more than the number of ranges has binary digits.
+    /// of versions: at most one more than the number of ranges has binary digits, and at least one less.
     pub fn is_vulnerable_counted(&self, version: &Version, steps: &mut Steps) -> bool
         ensures answer { result ≡ affected self.now (parts_of version.now) }
         ensures build { (b : List ℕ) → affected self.now (with_build b (parts_of version.now)) ≡ result }
         ensures accepted { accepted self.now ≡ true }
         ensures count { (rs : List Range) (digits : ℕ) → AreMergedRanges self.now rs → HasBinaryDigits (length rs) digits
             → steps.new ≤ steps.old + digits + 1 }
+
+        // It counts at least one less than the number of ranges has digits, unless the count has reached its greatest
+        // number.
+        ensures least { (rs : List Range) (digits : ℕ) → AreMergedRanges self.now rs → HasBinaryDigits (length rs) digits
+            → steps.new < 2 ^ 64 - 1 → steps.old + digits ≤ steps.new + 1 }
+
+        // Where the first range has an introduction, it counts at least one less than one more than that number has,
+        // so at least one.
+        ensures begins { (r : Range) (rs : List Range) (digits : ℕ) → AreMergedRanges self.now (r ∷ rs)
+            → is_some r.introduced ≡ true → HasBinaryDigits (length (r ∷ rs) + 1) digits
+            → steps.new < 2 ^ 64 - 1 → steps.old + digits ≤ steps.new + 1 }
         ensures rises { steps.old ≤ steps.new }
         ensures stays { steps.old ≡ 2 ^ 64 - 1 → steps.new ≡ 2 ^ 64 - 1 }
     {
-        in_gaps(&self.gaps, version, steps)
+        in_gaps(&self.gaps, &Sought::new(version), steps)
     }
 
     /// Returns the ranges that the requirements leave.
