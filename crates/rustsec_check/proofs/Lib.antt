@@ -1,0 +1,7 @@
+pub mod AsReport
+pub mod Fixes
+pub mod Known
+pub mod MoreFindings
+pub mod OneAnswer
+pub mod Packages
+pub mod Sweep

@@ -1,0 +1,197 @@
+//! How a finding can be mended: the version to update to.
+
+ghost use Rattle.std.specs.Prelude.{◌≡◌, IfErr, IfOk, map, option_map};
+ghost use Rattle.semver.specs.Identifiers.{parts_of};
+ghost use Rattle.rustsec_versions.specs.Failure.{IsMemory};
+ghost use Rattle.rustsec_versions.specs.Precedence.{IsVersion};
+ghost use Rattle.rustsec_report.specs.Report.{is_among};
+ghost use Rattle.rustsec_check.specs.LeastFree.{IsLeastFree};
+ghost use Rattle.rustsec_check.specs.Updates.{IsUpdateBy, about, affects, counting, in_force, lists_with, movers};
+
+use crate::compatible::is_compatible_with;
+use crate::update::least_free;
+use rustsec_advisory::Advisory;
+use rustsec_database::Database;
+use rustsec_lock::package::Package;
+use rustsec_query::Query;
+use rustsec_texts::Id;
+use rustsec_values::ExactClone;
+use rustsec_versions::{Result, Versions};
+use semver::Version;
+use std::alloc::{AllocError, Global};
+use std::marker::Model;
+
+/// How a finding can be mended.
+#[derive(Drop)]
+pub struct Update<'a> {
+    /// The least version, not below the locked one, that neither the finding's advisory nor another one that counts
+    /// leaves affected, or `None` if each such version is affected. All vulnerabilities of the package count, of any
+    /// platform and severity, ignored ones too.
+    pub least_free: Option<Version>,
+    /// Whether the interval of the requirement `^LOCKED` holds that version, so that an update within it is enough.
+    pub is_compatible: bool,
+    /// The IDs of the ignored advisories that move this answer: those that leave the answer without the ignored ones
+    /// affected.
+    pub moved_by: Vec<&'a Id>,
+}
+
+impl<'a> Model for Update<'a> {
+    ghost use Rattle.std.specs.Prelude.{map, option_map};
+    ghost use Rattle.semver.specs.Identifiers.{parts_of};
+    ghost use Rattle.rustsec_check.specs.Updates.{UpdateValue};
+
+    ghost Value = { UpdateValue };
+
+    ghost view = { λ u. record {
+      least_free = option_map parts_of u.least_free;
+      is_compatible = u.is_compatible;
+      moved_by = map (λ i. i.now) u.moved_by.items;
+    } };
+}
+
+/// Returns the query for all advisories that count as vulnerabilities of a package.
+fn query_about(alloc: Global, package: &Package) -> Result<Query>
+    ensures ok { IfOk result (λ q. q ≡ about «package».now) }
+    ensures err { IfErr result IsMemory }
+{
+    let name = Clone::clone(&package.name)?;
+    let query = Query::crate_scope(alloc).package_name(name);
+    match package.source.clone()? {
+        Some(source) => Ok(query.package_source(source)),
+        None => Ok(query),
+    }
+}
+
+/// Returns the advisories that count as vulnerabilities of a package, in the database's order.
+fn counting<'a>(
+    alloc: Global,
+    database: &'a Database,
+    package: &Package,
+) -> Result<Vec<&'a Advisory>>
+    ensures ok { IfOk result (λ v. map (λ a. a.now) v.items ≡ counting database.now «package».now) }
+    ensures err { IfErr result IsMemory }
+{
+    let query = query_about(alloc, package)?;
+    database.query(alloc, &query)
+}
+
+/// Returns whether the ID of an advisory is one of these.
+fn is_among(ids: &[Id], advisory: &Advisory) -> bool
+    ensures { result ≡ is_among ids.now advisory.now.metadata.id }
+{
+    ids.contains(&advisory.metadata.id)
+}
+
+/// Returns the advisories that are not ignored, in order.
+fn in_force<'a>(
+    alloc: Global,
+    ids: &[Id],
+    advisories: &[&'a Advisory],
+) -> std::result::Result<Vec<&'a Advisory>, AllocError>
+    ensures { IfOk result (λ v. map (λ a. a.now) v.items ≡ in_force ids.now (map (λ a. a.now) advisories.now)) }
+{
+    let mut kept = Vec::new(alloc);
+    for advisory in advisories {
+        if !is_among(ids, advisory) {
+            kept.push(*advisory)?;
+        }
+    }
+    Ok(kept)
+}
+
+/// Returns whether an advisory leaves a version affected; `false` without a version.
+fn affects(version: &Option<Version>, advisory: &Advisory) -> bool
+    ensures { result ≡ affects (option_map parts_of version.now) advisory.now }
+{
+    match version {
+        Some(version) => advisory.versions.is_vulnerable(version),
+        None => false,
+    }
+}
+
+/// Returns the IDs of the ignored advisories that leave the answer without the ignored ones affected, in order.
+fn movers<'a>(
+    alloc: Global,
+    ids: &[Id],
+    rest: &Option<Version>,
+    advisories: &[&'a Advisory],
+) -> std::result::Result<Vec<&'a Id>, AllocError>
+    ensures { IfOk result (λ v. map (λ i. i.now) v.items ≡ movers ids.now (option_map parts_of rest.now) (map (λ a. a.now) advisories.now)) }
+{
+    let mut moving = Vec::new(alloc);
+    for advisory in advisories {
+        if is_among(ids, advisory) && affects(rest, advisory) {
+            moving.push(&advisory.metadata.id)?;
+        }
+    }
+    Ok(moving)
+}
+
+/// Returns the requirements of an advisory and of others.
+fn lists_with<'a>(
+    alloc: Global,
+    advisory: &'a Advisory,
+    others: &[&'a Advisory],
+) -> std::result::Result<Vec<&'a Versions>, AllocError>
+    ensures { IfOk result (λ v. map (λ l. l.now) v.items ≡ lists_with advisory.now (map (λ a. a.now) others.now)) }
+{
+    let mut lists = Vec::new(alloc);
+    lists.push(&advisory.versions)?;
+    for other in others {
+        lists.push(&other.versions)?;
+    }
+    Ok(lists)
+}
+
+/// Returns the least free version of an advisory and of others.
+fn least_with(
+    alloc: Global,
+    version: &Version,
+    advisory: &Advisory,
+    others: &[&Advisory],
+) -> Result<Option<Version>>
+    ensures ok { IsVersion (parts_of version.now) → IfOk result (λ found.
+        IsLeastFree (lists_with advisory.now (map (λ a. a.now) others.now)) (parts_of version.now) (option_map parts_of found)) }
+    ensures err { IfErr result IsMemory }
+{
+    let lists = lists_with(alloc, advisory, others)?;
+    least_free(alloc, lists.as_slice(), version)
+}
+
+/// Returns how the finding of an advisory about a package can be mended, by the advisories that count.
+fn update_by<'a>(
+    alloc: Global,
+    ids: &[Id],
+    others: &[&'a Advisory],
+    package: &Package,
+    advisory: &'a Advisory,
+) -> Result<Update<'a>>
+    ensures ok { IsVersion «package».now.version → IfOk result (IsUpdateBy ids.now (map (λ a. a.now) others.now) «package».now advisory.now) }
+    ensures err { IfErr result IsMemory }
+{
+    let least = least_with(alloc, &package.version, advisory, others)?;
+    let kept = in_force(alloc, ids, others)?;
+    let rest = least_with(alloc, &package.version, advisory, kept.as_slice())?;
+    let moved_by = movers(alloc, ids, &rest, others)?;
+    let is_compatible = is_compatible_with(alloc, &package.version, &least)?;
+    Ok(Update {
+        least_free: least,
+        is_compatible,
+        moved_by,
+    })
+}
+
+/// Returns how the finding of an advisory about a package can be mended.
+pub(crate) fn update_of<'a>(
+    alloc: Global,
+    database: &'a Database,
+    ids: &[Id],
+    package: &Package,
+    advisory: &'a Advisory,
+) -> Result<Update<'a>>
+    ensures ok { IsVersion «package».now.version → IfOk result (IsUpdateBy ids.now (counting database.now «package».now) «package».now advisory.now) }
+    ensures err { IfErr result IsMemory }
+{
+    let others = counting(alloc, database, package)?;
+    update_by(alloc, ids, others.as_slice(), package, advisory)
+}

@@ -1,0 +1,221 @@
+//! The pairs of a package and an advisory that a check finds.
+
+ghost use Rattle.std.specs.Prelude.{◌≡◌, ◌++◌, IfErr, IfOk, OnOk, filter_map, length, map, option_and_then};
+ghost use Rattle.std.specs.List.{filter};
+ghost use Rattle.rustsec_versions.specs.Failure.{IsMemory};
+ghost use Rattle.rustsec_query.specs.Pairs.{finds, is_audited};
+ghost use Rattle.rustsec_report.specs.Report.{is_wanted, wanted_kind};
+ghost use Rattle.rustsec_check.specs.Pairs.{as_vulnerable, as_wanted, counted, found, is_ignored, vulnerable_at, wanted_at};
+
+use rustsec_advisory::Advisory;
+use rustsec_database::Database;
+use rustsec_lock::Lockfile;
+use rustsec_lock::package::Package;
+use rustsec_query::Query;
+use rustsec_report::Settings;
+use rustsec_texts::{Id, Informational, WarningKind};
+use rustsec_versions::Result;
+use std::alloc::{AllocError, Global};
+use std::marker::Model;
+
+/// A package at its place in the lockfile.
+#[derive(Drop)]
+pub(crate) struct Placed<'a> {
+    place: usize,
+    package: &'a Package,
+}
+
+impl<'a> Model for Placed<'a> {
+    ghost use Rattle.std.specs.Prelude.{ℕ};
+    ghost use Rattle.rustsec_lock.specs.Package.{PackageValue};
+
+    ghost Value = { ℕ × PackageValue };
+
+    ghost view = { λ p. (p.place, p.«package».now) };
+}
+
+/// A package at its place, an advisory that affects it, and the kind of the warning, or `None` for a vulnerability.
+#[derive(Drop)]
+pub(crate) struct Found<'a> {
+    pub(crate) kind: Option<WarningKind>,
+    pub(crate) advisory: &'a Advisory,
+    pub(crate) package: &'a Package,
+    pub(crate) place: usize,
+}
+
+impl<'a> Model for Found<'a> {
+    ghost use Rattle.rustsec_check.specs.Values.{Found};
+
+    ghost Value = { Found };
+
+    ghost view = { λ f. record { kind = f.kind; advisory = f.advisory.now; «package» = f.«package».now; place = f.place } };
+}
+
+impl<'a> Placed<'a> {
+    /// Returns a pair of this package.
+    fn found(&self, kind: Option<WarningKind>, advisory: &'a Advisory) -> Found<'a>
+        ensures { result ≡ record { kind = kind; advisory = advisory.now; «package» = self.now.1; place = self.now.0 } }
+    {
+        Found {
+            kind,
+            advisory,
+            package: self.package,
+            place: self.place,
+        }
+    }
+}
+
+/// Returns whether a package is audited: whether its source is one of the two default registries.
+fn is_audited(package: &Package) -> bool
+    ensures { result ≡ is_audited «package».now }
+{
+    match &package.source {
+        Some(source) => source.is_default_registry(),
+        None => false,
+    }
+}
+
+/// Returns the advisories that a query finds for a package, in the database's order.
+fn advisories_for<'a>(
+    alloc: Global,
+    database: &'a Database,
+    query: Query,
+    package: &Package,
+) -> Result<Vec<&'a Advisory>>
+    ensures ok { IfOk result (λ v. map (λ a. a.now) v.items ≡ filter (finds query «package».now) database.now) }
+    ensures err { IfErr result IsMemory }
+{
+    if !is_audited(package) {
+        return Ok(Vec::new(alloc));
+    }
+    let query = query.package(alloc, package)?;
+    database.query(alloc, &query)
+}
+
+/// Appends vulnerabilities of a package, one for each advisory.
+fn push_vulnerable<'a>(
+    advisories: &[&'a Advisory],
+    placed: &Placed<'a>,
+    found: &mut Vec<Found<'a>>,
+) -> std::result::Result<(), AllocError>
+    ensures { OnOk result (found.new.items ≡ found.old.items ++ map (as_vulnerable placed.now) (map (λ a. a.now) advisories.now)) }
+{
+    for advisory in advisories {
+        let pair = placed.found(None, advisory);
+        found.push(pair).map_err(|_| AllocError)?;
+    }
+    Ok(())
+}
+
+/// Appends the vulnerabilities of a package.
+#[tactic(auto, unfolding(crate::specs::Pairs::vulnerable_at))]
+fn add_vulnerable<'a>(
+    alloc: Global,
+    database: &'a Database,
+    settings: &Settings,
+    placed: &Placed<'a>,
+    found: &mut Vec<Found<'a>>,
+) -> Result<()>
+    ensures ok { OnOk result (found.new.items ≡ found.old.items ++ vulnerable_at database.now settings.now placed.now) }
+    ensures err { IfErr result IsMemory }
+{
+    let query = settings.query(alloc)?;
+    let advisories = advisories_for(alloc, database, query, placed.package)?;
+    push_vulnerable(&advisories, placed, found)?;
+    Ok(())
+}
+
+/// Returns whether settings ask for warnings of an informational kind.
+fn is_wanted(settings: &Settings, kind: &Informational) -> bool
+    ensures { result ≡ is_wanted settings.now kind.now }
+{
+    settings.informational_warnings.as_slice().contains(kind)
+}
+
+/// Returns the kind of the warning that an advisory gives, if the settings ask for it.
+fn wanted_kind(settings: &Settings, kind: &Option<Informational>) -> Option<WarningKind>
+    ensures { result ≡ option_and_then (wanted_kind settings.now) kind.now }
+{
+    match kind {
+        Some(kind) if is_wanted(settings, kind) => kind.warning_kind(),
+        _ => None,
+    }
+}
+
+/// Returns the warning about a package that an advisory gives, if the settings ask for it.
+fn wanted<'a>(settings: &Settings, placed: &Placed<'a>, advisory: &'a Advisory) -> Option<Found<'a>>
+    ensures { result ≡ as_wanted settings.now placed.now advisory.now }
+{
+    match wanted_kind(settings, &advisory.metadata.informational) {
+        Some(kind) => Some(placed.found(Some(kind), advisory)),
+        None => None,
+    }
+}
+
+/// Appends warnings about a package, one for each advisory that gives one.
+fn push_wanted<'a>(
+    advisories: &[&'a Advisory],
+    settings: &Settings,
+    placed: &Placed<'a>,
+    found: &mut Vec<Found<'a>>,
+) -> std::result::Result<(), AllocError>
+    ensures { OnOk result (found.new.items ≡ found.old.items ++ filter_map (as_wanted settings.now placed.now) (map (λ a. a.now) advisories.now)) }
+{
+    for advisory in advisories {
+        if let Some(pair) = wanted(settings, placed, advisory) {
+            found.push(pair).map_err(|_| AllocError)?;
+        }
+    }
+    Ok(())
+}
+
+/// Appends the warnings about a package.
+#[tactic(auto, unfolding(crate::specs::Pairs::wanted_at))]
+fn add_wanted<'a>(
+    alloc: Global,
+    database: &'a Database,
+    settings: &Settings,
+    placed: &Placed<'a>,
+    found: &mut Vec<Found<'a>>,
+) -> Result<()>
+    ensures ok { OnOk result (found.new.items ≡ found.old.items ++ wanted_at database.now settings.now placed.now) }
+    ensures err { IfErr result IsMemory }
+{
+    let query = settings.query(alloc)?.informational(true);
+    let advisories = advisories_for(alloc, database, query, placed.package)?;
+    push_wanted(&advisories, settings, placed, found)?;
+    Ok(())
+}
+
+/// Returns the pairs of a lockfile's packages, package by package: of each the vulnerabilities, and then the warnings.
+pub(crate) fn all_found<'a>(
+    alloc: Global,
+    database: &'a Database,
+    lockfile: &'a Lockfile,
+    settings: &Settings,
+) -> Result<Vec<Found<'a>>>
+    ensures ok { IfOk result (λ v. v.items ≡ found database.now lockfile.now.packages settings.now) }
+    ensures err { IfErr result IsMemory }
+{
+    let mut found = Vec::new(alloc);
+    for (place, package) in lockfile.packages.as_slice().iter().enumerate() {
+        let placed = Placed { place, package };
+        add_vulnerable(alloc, database, settings, &placed, &mut found)?;
+        add_wanted(alloc, database, settings, &placed, &mut found)?;
+    }
+    Ok(found)
+}
+
+/// Returns whether the advisory of a pair is ignored.
+pub(crate) fn is_ignored(ids: &[Id], found: &Found<'_>) -> bool
+    ensures { result ≡ is_ignored ids.now found.now }
+{
+    ids.contains(&found.advisory.metadata.id)
+}
+
+/// Returns how many pairs have an advisory that is not ignored.
+pub(crate) fn count_of(ids: &[Id], found: &[Found<'_>]) -> usize
+    ensures { result ≡ length (counted ids.now found.now) }
+{
+    found.iter().filter(|pair| !is_ignored(ids, pair)).count()
+}

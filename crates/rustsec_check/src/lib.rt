@@ -1,0 +1,25 @@
+//! Checks of a lockfile: which advisories affect which of its packages, why a package is there, what fails, and the least
+//! version of a package that no advisory leaves affected.
+#![tactic(auto)]
+
+mod advice;
+#[cfg(test)]
+mod check_tests;
+mod checking;
+mod compatible;
+mod findings;
+mod found;
+mod outcome;
+mod ranges;
+mod subject;
+#[cfg(test)]
+mod tests;
+mod update;
+
+pub use crate::advice::Update;
+pub use crate::checking::check;
+pub use crate::compatible::is_compatible;
+pub use crate::findings::{Finding, IgnoredPair};
+pub use crate::outcome::Check;
+pub use crate::subject::Subject;
+pub use crate::update::least_free;

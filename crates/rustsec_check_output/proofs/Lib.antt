@@ -1,0 +1,5 @@
+pub mod Latest
+pub mod NoFloats
+pub mod Pieces
+pub mod Places
+pub mod ShownTexts

@@ -1,0 +1,4 @@
+pub mod CheckText
+pub mod CheckTree
+pub mod Latest
+pub mod Shown

@@ -1,0 +1,28 @@
+//! What is written of a check: its JSON tree, and its text for people.
+#![tactic(auto)]
+
+mod advisory_tree;
+mod block;
+mod blocks;
+mod database_tree;
+mod finding_tree;
+mod ignored_tree;
+mod lines;
+mod many;
+mod object;
+mod package_tree;
+mod rank;
+mod shown;
+#[cfg(test)]
+mod tests;
+mod text;
+mod tree;
+mod tree_lines;
+mod update_tree;
+mod written;
+
+pub use crate::many::{many_tree, refused_tree};
+pub use crate::text::check_text;
+pub use crate::tree::check_tree;
+pub use crate::tree_lines::{check_line, many_line, refused_line};
+pub use crate::written::Written;

@@ -1,0 +1,105 @@
+//! How severe a finding is, for the order in which findings are written.
+
+ghost use Rattle.std.specs.Prelude.{◌≡◌};
+ghost use Rattle.rustsec_check_output.specs.CheckText.{is_above, is_of, rank_of, rank_place, rank_with, rated, ranks};
+
+use crate::advisory_tree::severity_of;
+use rustsec_check::Finding;
+use rustsec_lock::Severity;
+use rustsec_texts::WarningKind;
+
+/// How severe a finding is.
+#[derive(Clone, Copy)]
+pub(crate) enum Rank {
+    /// A vulnerability that is rated critical.
+    Critical,
+    /// A vulnerability that is rated high.
+    High,
+    /// A vulnerability that is rated medium.
+    Medium,
+    /// A vulnerability that is rated low.
+    Low,
+    /// A vulnerability with the score 0.0.
+    Harmless,
+    /// A vulnerability without a rating.
+    Unrated,
+    /// A warning.
+    Warning,
+}
+
+impl Rank {
+    /// Returns all ranks, the most severe one first.
+    pub(crate) fn all() -> &'static [Rank]
+        ensures { result.now ≡ ranks }
+    {
+        &[
+            Rank::Critical,
+            Rank::High,
+            Rank::Medium,
+            Rank::Low,
+            Rank::Harmless,
+            Rank::Unrated,
+            Rank::Warning,
+        ]
+    }
+
+    /// Returns the place of the rank among all.
+    fn place(self) -> usize
+        ensures { result ≡ rank_place self }
+    {
+        match self {
+            Rank::Critical => 0,
+            Rank::High => 1,
+            Rank::Medium => 2,
+            Rank::Low => 3,
+            Rank::Harmless => 4,
+            Rank::Unrated => 5,
+            Rank::Warning => 6,
+        }
+    }
+}
+
+/// Returns the rank of a vulnerability with this rating, if any.
+fn rated(severity: Option<Severity>) -> Rank
+    ensures { result ≡ rated severity }
+{
+    match severity {
+        Some(Severity::Critical) => Rank::Critical,
+        Some(Severity::High) => Rank::High,
+        Some(Severity::Medium) => Rank::Medium,
+        Some(Severity::Low) => Rank::Low,
+        Some(Severity::None) => Rank::Harmless,
+        None => Rank::Unrated,
+    }
+}
+
+/// Returns the rank of a finding of this kind with this rating.
+fn rank_with(kind: Option<WarningKind>, severity: Option<Severity>) -> Rank
+    ensures { result ≡ rank_with kind severity }
+{
+    match kind {
+        Some(_) => Rank::Warning,
+        None => rated(severity),
+    }
+}
+
+/// Returns the rank of a finding.
+fn rank_of(finding: &Finding<'_>) -> Rank
+    ensures { result ≡ rank_of finding.now }
+{
+    rank_with(finding.kind, severity_of(&finding.advisory.metadata))
+}
+
+/// Returns whether a finding is of a rank.
+pub(crate) fn is_of(rank: Rank, finding: &Finding<'_>) -> bool
+    ensures { result ≡ is_of rank finding.now }
+{
+    rank_of(finding).place() == rank.place()
+}
+
+/// Returns whether a finding is of a rank that is more severe than this one.
+pub(crate) fn is_above(rank: Rank, finding: &Finding<'_>) -> bool
+    ensures { result ≡ is_above rank finding.now }
+{
+    rank_of(finding).place() < rank.place()
+}

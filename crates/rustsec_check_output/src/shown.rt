@@ -1,0 +1,61 @@
+//! Escapes texts of files, so that none of them adds a line.
+
+ghost use Rattle.std.specs.Prelude.{◌≡◌, ◌++◌, OnOk, string_bytes};
+ghost use Rattle.std.specs.Char.Escape.{escape_unicode};
+ghost use Rattle.std.specs.Str.{encode_utf8_all};
+ghost use Rattle.rustsec_check_output.specs.Shown.{is_hidden, shown, shown_char};
+
+use std::alloc::AllocError;
+
+/// Returns whether a character is a control character, or an invisible one that turns the direction of
+/// others, joins them or ends their line.
+fn is_hidden(c: char) -> bool
+    ensures { result ≡ is_hidden c }
+{
+    c.is_control()
+        || matches!(
+            c,
+            '\u{AD}'
+                | '\u{61C}'
+                | '\u{180E}'
+                | '\u{200B}'..='\u{200F}'
+                | '\u{2028}'..='\u{202E}'
+                | '\u{2060}'..='\u{206F}'
+                | '\u{FEFF}'
+                | '\u{FFF9}'..='\u{FFFB}'
+                | '\u{E0000}'..='\u{E007F}'
+        )
+}
+
+/// Appends the Unicode escape of a character.
+fn push_escaped(text: &mut String, c: char) -> Result<(), AllocError>
+    ensures { OnOk result (string_bytes text.new ≡ string_bytes text.old ++ encode_utf8_all (escape_unicode c)) }
+{
+    for part in c.escape_unicode() {
+        text.push(part)?;
+    }
+    Ok(())
+}
+
+/// Appends a character as it is shown.
+#[tactic(auto, unfolding(crate::specs::Shown::shown_char))]
+fn push_char(text: &mut String, c: char) -> Result<(), AllocError>
+    ensures { OnOk result (string_bytes text.new ≡ string_bytes text.old ++ encode_utf8_all (shown_char c)) }
+{
+    if is_hidden(c) {
+        push_escaped(text, c)?;
+    } else {
+        text.push(c)?;
+    }
+    Ok(())
+}
+
+/// Appends a text on one line. Each hidden character is replaced by its Unicode escape.
+pub(crate) fn push_shown(note: &mut String, text: &str) -> Result<(), AllocError>
+    ensures { OnOk result (string_bytes note.new ≡ string_bytes note.old ++ shown text.now) }
+{
+    for c in text.chars() {
+        push_char(note, c)?;
+    }
+    Ok(())
+}

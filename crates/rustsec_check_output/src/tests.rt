@@ -1,0 +1,275 @@
+//! A check of three packages, written by hand.
+
+use crate::{Written, check_line, check_text, refused_line};
+use rustsec_advisory::Advisory;
+use rustsec_check::{Check, Finding, IgnoredPair, Update};
+use rustsec_database::Database;
+use rustsec_folders::SourceFile;
+use rustsec_lock::Lockfile;
+use rustsec_lock::package::Package;
+use rustsec_policy::{Ignored, Policy};
+use rustsec_texts::WarningKind;
+use rustsec_values::Text;
+use rustsec_versions::{Error, ErrorKind};
+use semver::Version;
+use std::alloc::Global;
+use std::process::Abort;
+use std::test::Fail;
+
+/// An advisory about a vulnerability. Its vector is the example of CVSS 3.1 with the score 9.8.
+const CRITICAL: &str = r#"```toml
+[advisory]
+id = "RUSTSEC-2023-9002"
+package = "quillpack"
+date = "2023-05-04"
+cvss = "CVSS:3.1/AV:N/AC:L/PR:N/UI:N/S:U/C:H/I:H/A:H"
+
+[versions]
+patched = [">=2.3.1"]
+```
+
+# Reads past the end
+
+It reads past the end.
+"#;
+
+/// An advisory about a package that nobody maintains.
+const UNMAINTAINED: &str = r#"```toml
+[advisory]
+id = "RUSTSEC-2024-9001"
+package = "http"
+date = "2024-01-02"
+informational = "unmaintained"
+
+[versions]
+patched = []
+```
+
+# Nobody maintains it
+
+Nobody does.
+"#;
+
+/// A lockfile with a local package and two published ones.
+const LOCKFILE: &str = r#"
+[[package]]
+name = "app"
+version = "0.1.0"
+dependencies = ["http"]
+
+[[package]]
+name = "http"
+version = "2.0.0"
+source = "registry+https://github.com/rust-lang/crates.io-index"
+dependencies = ["quillpack"]
+
+[[package]]
+name = "quillpack"
+version = "2.1.0"
+source = "registry+https://github.com/rust-lang/crates.io-index"
+"#;
+
+/// A policy that ignores the warning.
+const POLICY: &str = r#"
+[advisories]
+ignore = [{ id = "RUSTSEC-2024-9001", reason = "it is small", until = "2024-12-31" }]
+"#;
+
+/// What is written of the check for people.
+const TEXT: &str = "RUSTSEC-2023-9002 quillpack 2.1.0: Reads past the end
+  vulnerability, critical 9.8
+  app 0.1.0 → http 2.0.0 → quillpack 2.1.0
+  update to 2.3.1 (compatible): cargo update quillpack@2.1.0
+RUSTSEC-2024-9001 http 2.0.0: Nobody maintains it
+  unmaintained, old
+  no path from a root
+  no fixed version
+ignored RUSTSEC-2024-9001 http 2.0.0 until 2024-12-31: it is small
+note: one\\u{a}two
+1 vulnerability, 1 warning, 1 ignored; looked at 2 advisories and 3 packages
+";
+
+/// The JSON tree of the check, in pieces.
+const LINE: &[&str] = &[
+    r#"{"below-threshold":4,"database":{"advisory-count":2,"last-date":"2024-01-02"},"findings":["#,
+    r#"{"advisory":{"aliases":[],"cvss":null,"date":"2024-01-02","id":"RUSTSEC-2024-9001","score":null,"#,
+    r#""severity":null,"title":"Nobody maintains it","url":null},"denied":false,"dependents":[],"#,
+    r#""kind":"unmaintained","old":true,"package":{"name":"http","#,
+    r#""source":"registry+https://github.com/rust-lang/crates.io-index","version":"2.0.0"},"path":null,"#,
+    r#""update":{"command":["cargo","update","#,
+    r#""registry+https://github.com/rust-lang/crates.io-index#http@2.0.0"],"compatible":false,"ignored":[],"#,
+    r#""least-free":null},"versions":{"patched":[],"unaffected":[]}},"#,
+    r#"{"advisory":{"aliases":[],"cvss":"CVSS:3.1/AV:N/AC:L/PR:N/UI:N/S:U/C:H/I:H/A:H","#,
+    r#""date":"2023-05-04","id":"RUSTSEC-2023-9002","score":"9.8","severity":"critical","#,
+    r#""title":"Reads past the end","url":null},"denied":true,"#,
+    r#""dependents":[{"name":"http","version":"2.0.0"}],"kind":"vulnerability","old":false,"#,
+    r#""package":{"name":"quillpack","source":"registry+https://github.com/rust-lang/crates.io-index","#,
+    r#""version":"2.1.0"},"path":[{"name":"app","version":"0.1.0"},{"name":"http","version":"2.0.0"},"#,
+    r#"{"name":"quillpack","version":"2.1.0"}],"update":{"command":["cargo","update","#,
+    r#""registry+https://github.com/rust-lang/crates.io-index#quillpack@2.1.0"],"compatible":true,"#,
+    r#""ignored":[],"least-free":"2.3.1"},"versions":{"patched":[">=2.3.1"],"unaffected":[]}}],"#,
+    r#""ignored":[{"advisory":"RUSTSEC-2024-9001","kind":"unmaintained","package":{"name":"http","#,
+    r#""source":"registry+https://github.com/rust-lang/crates.io-index","version":"2.0.0"},"#,
+    r#""reason":"it is small","until":"2024-12-31"}],"lockfile":{"dependency-count":3},"#,
+    r#""notes":["one\ntwo"],"unknown-ignores":[],"unused-ignores":[]}"#,
+    "\n",
+];
+
+/// The line for a lockfile that was refused.
+const REFUSED: &str =
+    r#"{"lockfile":"a/Cargo.lock","message":"key `name` is missing","refused":"parse error"}
+"#;
+
+/// Returns a file.
+fn file(alloc: Global, path: &str, text: &str) -> Result<SourceFile, Fail> {
+    let path = Text::from_str(alloc, path)?;
+    let text = Text::from_str(alloc, text)?;
+    Ok(SourceFile { path, text })
+}
+
+/// Returns the database of both advisories.
+fn database(alloc: Global) -> Result<Database, Fail> {
+    let mut files = Vec::new(alloc);
+    files.push(file(alloc, "crates/quillpack/RUSTSEC-2023-9002.md", CRITICAL)?)?;
+    files.push(file(alloc, "crates/http/RUSTSEC-2024-9001.md", UNMAINTAINED)?)?;
+    let database = Database::load(alloc, files.as_slice())?;
+    Ok(database)
+}
+
+/// Returns the finding of the vulnerability.
+fn vulnerability<'a>(
+    alloc: Global,
+    advisory: &'a Advisory,
+    package: &'a Package,
+) -> Result<Finding<'a>, Fail> {
+    let least_free = Version::parse(alloc, "2.3.1")?;
+    let path = [0, 1, 2].to_vec(alloc)?;
+    let dependents = [1].to_vec(alloc)?;
+    Ok(Finding {
+        kind: None,
+        advisory,
+        package,
+        place: 2,
+        is_denied: true,
+        is_old: false,
+        path: Some(path),
+        dependents,
+        update: Update {
+            least_free: Some(least_free),
+            is_compatible: true,
+            moved_by: Vec::new(alloc),
+        },
+    })
+}
+
+/// Returns the finding of the warning.
+fn warning<'a>(alloc: Global, advisory: &'a Advisory, package: &'a Package) -> Finding<'a> {
+    Finding {
+        kind: Some(WarningKind::Unmaintained),
+        advisory,
+        package,
+        place: 1,
+        is_denied: false,
+        is_old: true,
+        path: None,
+        dependents: Vec::new(alloc),
+        update: Update {
+            least_free: None,
+            is_compatible: false,
+            moved_by: Vec::new(alloc),
+        },
+    }
+}
+
+/// Returns the check of both findings; the warning is ignored too.
+fn check<'a>(
+    alloc: Global,
+    advisories: &'a [Advisory],
+    packages: &'a [Package],
+) -> Result<Option<Check<'a>>, Fail> {
+    let ([critical, unmaintained], [_, http, quillpack]) = (advisories, packages) else {
+        return Ok(None);
+    };
+    let mut findings = Vec::new(alloc);
+    findings.push(warning(alloc, unmaintained, http))?;
+    findings.push(vulnerability(alloc, critical, quillpack)?)?;
+    let mut ignored = Vec::new(alloc);
+    ignored.push(IgnoredPair {
+        kind: Some(WarningKind::Unmaintained),
+        advisory: unmaintained,
+        package: http,
+    })?;
+    Ok(Some(Check {
+        findings,
+        ignored,
+        unused: Vec::new(alloc),
+        unknown: Vec::new(alloc),
+        below_threshold: 4,
+    }))
+}
+
+/// Returns whether the check is written as the rows above say.
+fn is_written(alloc: Global, written: &Written<'_, '_>) -> Result<bool, Fail> {
+    let line = check_line(alloc, written)?;
+    let text = check_text(alloc, written, false)?;
+    Ok(line.as_str() == LINE.concat(alloc)?.as_str() && text.as_str() == TEXT)
+}
+
+/// Returns whether the check of the database and the lockfile is written as the rows above say.
+fn is_written_of<'a>(
+    alloc: Global,
+    database: &'a Database,
+    lockfile: &'a Lockfile,
+    entries: &[Ignored],
+) -> Result<bool, Fail> {
+    let loaded = database.iter();
+    let advisories = loaded.as_slice();
+    let packages = lockfile.packages.as_slice();
+    let Some(check) = check(alloc, advisories, packages)? else {
+        return Ok(false);
+    };
+    let note = Text::from_str(alloc, "one\ntwo")?;
+    let notes = [note];
+    let written = Written {
+        database,
+        lockfile,
+        check: &check,
+        entries,
+        notes: &notes,
+    };
+    is_written(alloc, &written)
+}
+
+/// Returns whether the whole is written as the rows above say.
+fn is_whole(alloc: Global) -> Result<bool, Fail> {
+    let database = database(alloc)?;
+    let lockfile = Lockfile::from_str(alloc, LOCKFILE)?;
+    let policy = Policy::from_str(alloc, POLICY)?;
+    is_written_of(
+        alloc,
+        &database,
+        &lockfile,
+        policy.advisories.ignore.as_slice(),
+    )
+}
+
+/// Returns whether a refusal is written as the row above says.
+fn is_refused(alloc: Global) -> Result<bool, Fail> {
+    let error = Error::new(alloc, ErrorKind::Parse, "key `name` is missing");
+    let line = refused_line(alloc, "a/Cargo.lock", &error)?;
+    Ok(line.as_str() == REFUSED)
+}
+
+/// Asserts that everything is written as the rows above say.
+fn expect<R: Abort>(rt: &R, alloc: Global) -> Result<(), Fail> {
+    assert!(rt;
+        is_whole(alloc)? && is_refused(alloc)?,
+        "as written by hand"
+    );
+    Ok(())
+}
+
+#[test]
+fn a_check(rt: HostRuntime) -> Result<(), Fail> {
+    expect(&rt, rt.alloc())
+}

@@ -1,0 +1,38 @@
+//! A check with what it is written with.
+
+use rustsec_check::Check;
+use rustsec_database::Database;
+use rustsec_lock::Lockfile;
+use rustsec_policy::Ignored;
+use rustsec_values::Text;
+use std::marker::Model;
+
+/// A check, with what it is written with.
+#[derive(Drop)]
+pub struct Written<'a, 'b> {
+    /// The database that the check looked at.
+    pub database: &'a Database,
+    /// The lockfile that the check looked at. Places of packages are places in it.
+    pub lockfile: &'a Lockfile,
+    /// The check.
+    pub check: &'a Check<'b>,
+    /// The entries that ignore advisories. The first that has the ID of an ignored advisory gives the reason and the
+    /// last day.
+    pub entries: &'a [Ignored],
+    /// Notes for the reader, as they are.
+    pub notes: &'a [Text],
+}
+
+impl<'a, 'b> Model for Written<'a, 'b> {
+    ghost use Rattle.rustsec_check_output.specs.CheckTree.{WrittenValue};
+
+    ghost Value = { WrittenValue };
+
+    ghost view = { λ w. record {
+      advisories = w.database.now;
+      packages = w.lockfile.now.packages;
+      check = w.check.now;
+      entries = w.entries.now;
+      notes = w.notes.now;
+    } };
+}

@@ -1,0 +1,4 @@
+pub mod Complete
+pub mod Lists
+pub mod OneField
+pub mod Reported

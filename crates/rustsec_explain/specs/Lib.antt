@@ -1,0 +1,5 @@
+pub mod Explained
+pub mod Pair
+pub mod Reasons
+pub mod Reported
+pub mod Wording

@@ -1,0 +1,3 @@
+pub mod ExplainText
+pub mod ExplainTree
+pub mod Shown

@@ -1,0 +1,11 @@
+//! What the command `explain` writes: the pairs of an explanation as JSON, and as lines for people.
+#![tactic(auto)]
+
+mod shown;
+#[cfg(test)]
+mod tests;
+mod text;
+mod tree;
+
+pub use crate::text::explain_text;
+pub use crate::tree::{explain_tree, pair_tree, reason_name};

@@ -1,0 +1,53 @@
+//! What tests are made of: an advisory, packages and reasons.
+
+use rustsec_advisory::Advisory;
+use rustsec_explain::Reason;
+use rustsec_lock::SourceId;
+use rustsec_lock::package::{Name, Package};
+use rustsec_values::Items;
+use semver::Version;
+use std::alloc::Global;
+use std::test::Fail;
+
+/// The name, the version and the source of a package.
+pub(crate) type Locked = (&'static str, &'static str, Option<&'static str>);
+
+/// An advisory about `base` that is patched from 1.2.3 on and does not affect versions below 0.5.0.
+const ADVISORY: &str =
+    "```toml\n[advisory]\nid = \"RUSTSEC-2020-0001\"\npackage = \"base\"\ndate = \"2020-01-02\"\n[versions]\npatched = [\">= 1.2.3\"]\nunaffected = [\"< 0.5.0\"]\n```\n\n# A title\n\nA text.\n";
+
+/// Returns the advisory.
+pub(crate) fn advisory(alloc: Global) -> Result<Advisory, Fail> {
+    Ok(Advisory::from_str(alloc, ADVISORY)?)
+}
+
+/// Returns a source, if there is a text.
+fn source(alloc: Global, text: Option<&str>) -> Result<Option<SourceId>, Fail> {
+    match text {
+        Some(text) => Ok(Some(SourceId::from_url(alloc, text)?)),
+        None => Ok(None),
+    }
+}
+
+/// Returns the package of a row.
+pub(crate) fn package(alloc: Global, locked: Locked) -> Result<Package, Fail> {
+    let (name, version, from) = locked;
+    let source = source(alloc, from)?;
+    let version = Version::parse(alloc, version)?;
+    let name = Name::from_str(alloc, name)?;
+    Ok(Package {
+        name,
+        version,
+        source,
+        checksum: None,
+    })
+}
+
+/// Returns the reasons of a row.
+pub(crate) fn reasons(alloc: Global, listed: &[Reason]) -> Result<Items<Reason>, Fail> {
+    let mut reasons = Items::new(alloc);
+    for reason in listed {
+        reasons.push(*reason)?;
+    }
+    Ok(reasons)
+}

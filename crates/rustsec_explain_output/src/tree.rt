@@ -1,0 +1,245 @@
+//! Builds the JSON tree of an explanation.
+
+ghost use Rattle.std.specs.Prelude.{◌≡◌, [], ◌∷◌, IfErr, IfOk, OnOk, map, option_map, slice_get};
+ghost use Rattle.std.specs.Option.{option_copied};
+ghost use Rattle.serde_json.specs.Data.{string};
+ghost use Rattle.serde_json.specs.View.{members_view, view};
+ghost use Rattle.rustsec_json.specs.Trees.{list_tree, optional_tree};
+ghost use Rattle.rustsec_versions.specs.Failure.{IsMemory};
+ghost use Rattle.rustsec_versions.specs.RequirementText.{requirement_text};
+ghost use Rattle.rustsec_versions.specs.Views.{comparators_of};
+ghost use Rattle.rustsec_lock.specs.Source.{source_text};
+ghost use Rattle.rustsec_report.specs.Trees.{object_of, with_members};
+ghost use Rattle.rustsec_explain_output.specs.ExplainTree.{explain_tree, package_entries, package_tree, pair_entries, pair_tree, reason_name, reason_tree, requirement_entries, requirement_tree};
+
+use rustsec_advisory::Advisory;
+use rustsec_explain::{Explained, Reason};
+use rustsec_json::ToTree;
+use rustsec_lock::SourceId;
+use rustsec_lock::package::Package;
+use rustsec_versions::{Result, requirement_text};
+use semver::VersionReq;
+use serde_json::{Map, Value};
+use std::alloc::{AllocError, Global};
+
+/// The members of an object.
+type Members = Map<String, Value>;
+
+/// Returns the name of a reason in JSON: the words of its variant in lower case, joined by hyphens.
+pub fn reason_name(reason: &Reason) -> &'static str
+    ensures { result.now ≡ reason_name reason.now }
+{
+    match reason {
+        Reason::WithoutSource => "without-source",
+        Reason::NotAudited => "not-audited",
+        Reason::OtherCollection => "other-collection",
+        Reason::OtherPackage => "other-package",
+        Reason::HeldByPatched(_) => "held-by-patched",
+        Reason::HeldByUnaffected(_) => "held-by-unaffected",
+        Reason::OtherSource => "other-source",
+        Reason::BelowThreshold => "below-threshold",
+        Reason::OtherArchitecture => "other-architecture",
+        Reason::OtherSystem => "other-system",
+        Reason::Withdrawn => "withdrawn",
+        Reason::KindNotWanted => "kind-not-wanted",
+        Reason::KindWithoutWarnings => "kind-without-warnings",
+        Reason::Ignored => "ignored",
+    }
+}
+
+/// Sets a key to a tree.
+#[tactic(auto, unfolding(rustsec_report::specs::Trees::with_members))]
+fn put_tree(
+    alloc: Global,
+    members: &mut Members,
+    key: &str,
+    tree: Value,
+) -> std::result::Result<(), AllocError>
+    ensures { OnOk result (members_view members.new.entries
+        ≡ with_members (members_view members.old.entries) ((key.now, view tree) ∷ [])) }
+{
+    serde_json::put(members, alloc, key, tree)
+}
+
+/// Returns the requirement at a place of a list, if any.
+fn requirement_at(requirements: &[VersionReq], place: usize) -> Option<&VersionReq>
+    ensures { option_copied result ≡ slice_get requirements.now place }
+{
+    requirements.get(place)
+}
+
+/// Builds the tree of a requirement: its text, or null if it is missing.
+fn requirement_tree(
+    alloc: Global,
+    requirement: Option<&VersionReq>,
+) -> std::result::Result<Value, AllocError>
+    ensures { IfOk result (λ v. view v ≡ requirement_tree (option_map comparators_of (option_copied requirement.entry))) }
+{
+    let Some(requirement) = requirement else {
+        return Ok(Value::Null);
+    };
+    match requirement_text(alloc, requirement) {
+        Ok(text) => Ok(Value::from(text)),
+        Err(_) => Err(AllocError),
+    }
+}
+
+/// Builds the tree of the requirement at a place of a list.
+fn tree_at(
+    alloc: Global,
+    requirements: &[VersionReq],
+    place: usize,
+) -> std::result::Result<Value, AllocError>
+    ensures { IfOk result (λ v. view v ≡ requirement_tree (slice_get (map comparators_of requirements.now) place)) }
+{
+    requirement_tree(alloc, requirement_at(requirements, place))
+}
+
+/// Sets the key of the requirement that holds the version, for the two reasons that have one.
+#[tactic(auto, unfolding(rustsec_report::specs::Trees::with_members))]
+fn put_requirement(
+    alloc: Global,
+    members: &mut Members,
+    advisory: &Advisory,
+    reason: &Reason,
+) -> std::result::Result<(), AllocError>
+    ensures { OnOk result (members_view members.new.entries
+        ≡ with_members (members_view members.old.entries) (requirement_entries advisory.now reason.now)) }
+{
+    let versions = &advisory.versions;
+    let tree = match *reason {
+        Reason::HeldByPatched(place) => tree_at(alloc, versions.patched(), place)?,
+        Reason::HeldByUnaffected(place) => tree_at(alloc, versions.unaffected(), place)?,
+        _ => return Ok(()),
+    };
+    put_tree(alloc, members, "requirement", tree)
+}
+
+/// Builds the tree of a reason of a pair with an advisory.
+#[tactic(auto, unfolding(crate::specs::ExplainTree::reason_tree, rustsec_report::specs::Trees::with_members))]
+fn reason_tree(
+    alloc: Global,
+    advisory: &Advisory,
+    reason: &Reason,
+) -> std::result::Result<Value, AllocError>
+    ensures { IfOk result (λ v. view v ≡ reason_tree advisory.now reason.now) }
+{
+    let mut members = Members::new(alloc);
+    let name = Value::try_from_str(alloc, reason_name(reason))?;
+    put_tree(alloc, &mut members, "reason", name)?;
+    put_requirement(alloc, &mut members, advisory, reason)?;
+    Ok(Value::from(members))
+}
+
+/// Builds the tree of the reasons of a pair with an advisory.
+fn reasons_tree(
+    alloc: Global,
+    advisory: &Advisory,
+    reasons: &[Reason],
+) -> std::result::Result<Value, AllocError>
+    ensures { IfOk result (λ v. view v ≡ list_tree (reason_tree advisory.now) reasons.now) }
+{
+    let mut trees = Vec::new(alloc);
+    for reason in reasons {
+        trees.push(reason_tree(alloc, advisory, reason)?)?;
+    }
+    Ok(Value::from(trees))
+}
+
+/// Builds the tree of a source: its text, or null if it is missing.
+fn source_tree(alloc: Global, source: &Option<SourceId>) -> std::result::Result<Value, AllocError>
+    ensures { IfOk result (λ v. view v ≡ optional_tree (λ x. string (source_text x)) source.now) }
+{
+    match source {
+        Some(source) => source.to_tree(alloc),
+        None => Ok(Value::Null),
+    }
+}
+
+/// Sets the keys of a package.
+#[tactic(auto, unfolding(rustsec_report::specs::Trees::with_members))]
+fn put_package(
+    alloc: Global,
+    members: &mut Members,
+    package: &Package,
+) -> std::result::Result<(), AllocError>
+    ensures { OnOk result (members_view members.new.entries
+        ≡ with_members (members_view members.old.entries) (package_entries «package».now)) }
+{
+    let name = package.name.to_tree(alloc)?;
+    put_tree(alloc, members, "name", name)?;
+    let source = source_tree(alloc, &package.source)?;
+    put_tree(alloc, members, "source", source)?;
+    let version = package.version.to_string(alloc)?;
+    put_tree(alloc, members, "version", Value::from(version))
+}
+
+/// Builds the tree of a package.
+#[tactic(auto, unfolding(crate::specs::ExplainTree::package_tree))]
+fn package_tree(alloc: Global, package: &Package) -> std::result::Result<Value, AllocError>
+    ensures { IfOk result (λ v. view v ≡ package_tree «package».now) }
+{
+    let mut members = Members::new(alloc);
+    put_package(alloc, &mut members, package)?;
+    Ok(Value::from(members))
+}
+
+/// Sets the keys of a pair.
+#[tactic(auto, unfolding(rustsec_report::specs::Trees::with_members))]
+fn put_pair(
+    alloc: Global,
+    members: &mut Members,
+    pair: &Explained<'_>,
+) -> std::result::Result<(), AllocError>
+    ensures { OnOk result (members_view members.new.entries
+        ≡ with_members (members_view members.old.entries) (pair_entries pair.now)) }
+{
+    let advisory = pair.advisory;
+    let id = advisory.metadata.id.to_tree(alloc)?;
+    put_tree(alloc, members, "advisory", id)?;
+    let finding = Value::from(pair.reasons.is_empty());
+    put_tree(alloc, members, "finding", finding)?;
+    let package = package_tree(alloc, pair.package)?;
+    put_tree(alloc, members, "package", package)?;
+    let reasons = reasons_tree(alloc, advisory, pair.reasons.as_slice())?;
+    put_tree(alloc, members, "reasons", reasons)
+}
+
+/// Builds the JSON object of one pair, as `explain_tree` lists it.
+///
+/// # Errors
+///
+/// Out of memory.
+#[tactic(auto, unfolding(crate::specs::ExplainTree::pair_tree))]
+pub fn pair_tree(alloc: Global, pair: &Explained<'_>) -> std::result::Result<Value, AllocError>
+    ensures { IfOk result (λ v. view v ≡ pair_tree pair.now) }
+{
+    let mut members = Members::new(alloc);
+    put_pair(alloc, &mut members, pair)?;
+    Ok(Value::from(members))
+}
+
+/// Builds the tree of the pairs.
+fn list_tree(alloc: Global, pairs: &[Explained<'_>]) -> std::result::Result<Value, AllocError>
+    ensures { IfOk result (λ v. view v ≡ explain_tree pairs.now) }
+{
+    let mut trees = Vec::new(alloc);
+    for pair in pairs {
+        trees.push(pair_tree(alloc, pair)?)?;
+    }
+    Ok(Value::from(trees))
+}
+
+/// Builds the JSON list of an explanation: for each pair, in order, an object with the ID of its advisory, whether it
+/// is a finding, its package and its reasons. A pair is a finding if it has no reason. A reason is an object with its
+/// name; if a requirement holds the version, it has the requirement's text too.
+///
+/// # Errors
+///
+/// `OutOfMemory` alone.
+pub fn explain_tree(alloc: Global, pairs: &[Explained<'_>]) -> Result<Value>
+    ensures ok { IfOk result (λ v. view v ≡ explain_tree pairs.now) }
+    ensures err { IfErr result IsMemory }
+{
+    Ok(list_tree(alloc, pairs)?)
+}

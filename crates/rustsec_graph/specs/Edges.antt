@@ -1,0 +1,85 @@
+-- The edges between the packages of a lockfile: from each package to those that its dependency entries name.
+use Rattle.std.specs.Prelude.{◌-◌, ◌+◌, ◌++◌, ◌==◌, ◌&&◌, not, ℕ, Bool, List, [], ◌∷◌, Option, Some, None, codes, filter_map, length, map}
+use Rattle.std.specs.List.{filter, list_any}
+use Rattle.toml.specs.Data.{Data, Items, Members, as_array}
+use Rattle.rustsec_toml.specs.Fields.{list_of}
+use Rattle.rustsec_lock.specs.Package.{PackageValue}
+use Rattle.rustsec_graph.specs.declared.candidates.Candidate.{Candidate}
+use Rattle.rustsec_graph.specs.Candidates.{candidates}
+use Rattle.rustsec_graph.specs.Entries.{named_by, places, value_at}
+use Rattle.rustsec_graph.specs.Paths.{successors}
+
+-- the places that a list of entries names, in their order; a value that is not a list has no entries
+abbrev pub targets_of_array : List Candidate → Option Items → List ℕ
+targets_of_array cs None = []
+targets_of_array cs (Some ds) = filter_map (named_by cs) (list_of ds)
+
+-- likewise for a value that may be missing, which has no entries
+abbrev pub targets_of : List Candidate → Option Data → List ℕ
+targets_of cs None = []
+targets_of cs (Some d) = targets_of_array cs (as_array d)
+
+-- how many entries of a list name no place; a value that is not a list counts as one
+abbrev pub unresolved_of_array : List Candidate → Option Items → ℕ
+unresolved_of_array cs None = 1
+unresolved_of_array cs (Some ds) = length (list_of ds) - length (filter_map (named_by cs) (list_of ds))
+
+-- likewise for a value that may be missing, which has no entries
+abbrev pub unresolved_of : List Candidate → Option Data → ℕ
+unresolved_of cs None = 0
+unresolved_of cs (Some d) = unresolved_of_array cs (as_array d)
+
+-- the values with the entries of a package: a list at `dependencies`, and one entry at `replace`
+abbrev pub dependencies_at : Members → ℕ → Option Data
+dependencies_at = value_at (codes "dependencies")
+
+abbrev pub replace_at : Members → ℕ → Option Data
+replace_at = value_at (codes "replace")
+
+-- a list of the value, if any
+abbrev pub as_list : Option ℕ → List ℕ
+as_list None = []
+as_list (Some x) = x ∷ []
+
+-- one, if there is no value
+abbrev pub count_missing : Option ℕ → ℕ
+count_missing None = 1
+count_missing (Some x) = 0
+
+-- the place that the entry at `replace` names
+abbrev pub replaced : List Candidate → Option Data → List ℕ
+replaced cs None = []
+replaced cs (Some d) = as_list (named_by cs d)
+
+-- how many entries at `replace` name no place
+abbrev pub unreplaced : List Candidate → Option Data → ℕ
+unreplaced cs None = 0
+unreplaced cs (Some d) = count_missing (named_by cs d)
+
+-- the places that the entries of a package name: those at `dependencies`, then the one at `replace`
+abbrev pub targets_at : List Candidate → Members → ℕ → List ℕ
+targets_at cs ms place = targets_of cs (dependencies_at ms place) ++ replaced cs (replace_at ms place)
+
+-- how many entries of a package name no place
+abbrev pub unresolved_at : List Candidate → Members → ℕ → ℕ
+unresolved_at cs ms place = unresolved_of cs (dependencies_at ms place) + unreplaced cs (replace_at ms place)
+
+-- for each package the places that its entries name
+abbrev pub edges_of : Members → List PackageValue → List (List ℕ)
+edges_of ms packages = map (targets_at (candidates ms packages) ms) (places (length packages))
+
+-- for each package how many of its entries name no package
+abbrev pub unresolved : Members → List PackageValue → List ℕ
+unresolved ms packages = map (unresolved_at (candidates ms packages) ms) (places (length packages))
+
+-- whether a place is a successor of another one
+abbrev pub is_successor : List (List ℕ) → ℕ → ℕ → Bool
+is_successor edges place from = list_any (λ to. to == place) (successors edges from)
+
+-- the places with an edge to a place, in order
+abbrev pub dependents : List (List ℕ) → ℕ → List ℕ
+dependents edges place = filter (is_successor edges place) (places (length edges))
+
+-- whether another place has an edge to a place
+abbrev pub is_needed : List (List ℕ) → ℕ → Bool
+is_needed edges place = list_any (λ from. not (from == place) && is_successor edges place from) (places (length edges))

@@ -1,0 +1,105 @@
+//! The graph of a lockfile's dependencies.
+
+ghost use Rattle.std.specs.Prelude.{◌≡◌, IfErr, IfOk, option_map};
+ghost use Rattle.toml.specs.View.{table_view};
+ghost use Rattle.rustsec_versions.specs.Failure.{IsMemory};
+ghost use Rattle.rustsec_graph.specs.Edges.{dependents};
+ghost use Rattle.rustsec_graph.specs.Graph.{graph_of};
+ghost use Rattle.rustsec_graph.specs.Paths.{IsAnswer};
+
+use crate::candidates::{candidates, is_old};
+use crate::edges::{Resolved, dependents, resolve_all, roots_of};
+use crate::paths::first_path;
+use rustsec_lock::Lockfile;
+use rustsec_values::Items;
+use rustsec_versions::Result;
+use std::alloc::Global;
+use std::marker::Model;
+use toml::Table;
+
+/// The dependencies between the packages of a lockfile. A package is given by its place in the lockfile, from 0 on.
+#[derive(Debug, Drop)]
+pub struct Graph {
+    edges: Items<Items<usize>>,
+    roots: Items<usize>,
+    unresolved: Items<usize>,
+}
+
+impl Model for Graph {
+    ghost use Rattle.rustsec_graph.specs.Graph.{GraphValue, IsClosed};
+
+    ghost Value = { GraphValue };
+
+    ghost view = { λ g. record { edges = g.edges; roots = g.roots; unresolved = g.unresolved } };
+
+    ghost invariant = { λ g. IsClosed g.edges g.roots };
+}
+
+impl Graph {
+    /// Returns the graph of a lockfile, which was read from this table. An edge leads from each package to those that
+    /// its entries at `dependencies` and `replace` name. An entry that fits one package names it. One that fits several
+    /// of the same name and version names the only one without a source. Any other entry is unresolved. The roots are
+    /// the packages without a source and those on which no other package depends.
+    ///
+    /// # Errors
+    ///
+    /// `OutOfMemory` alone.
+    pub fn from_table(alloc: Global, table: &Table, lockfile: &Lockfile) -> Result<Graph>
+        ensures ok { IfOk result (λ g. g ≡ graph_of (table_view table.now) lockfile.now.packages) }
+        ensures err { IfErr result IsMemory }
+    {
+        let packages = lockfile.packages.as_slice();
+        let candidates = candidates(alloc, is_old(table), packages)?;
+        let Resolved { edges, unresolved } = resolve_all(alloc, table, &candidates)?;
+        let roots = roots_of(alloc, packages, edges.as_slice())?;
+        Ok(Graph {
+            edges,
+            roots: Items::from(roots),
+            unresolved,
+        })
+    }
+
+    /// Returns the first of the shortest paths from a root to a package, or `None` if no root reaches it. Paths of the
+    /// same length are compared place by place.
+    ///
+    /// # Errors
+    ///
+    /// `OutOfMemory` alone.
+    pub fn path_to(&self, alloc: Global, place: usize) -> Result<Option<Vec<usize>>>
+        ensures ok { IfOk result (λ path. IsAnswer self.now.edges self.now.roots place (option_map (λ v. v.items) path)) }
+        ensures err { IfErr result IsMemory }
+    {
+        if place >= self.edges.len() {
+            return Ok(None);
+        }
+        let path = first_path(alloc, self.edges.as_slice(), self.roots.as_slice(), place)?;
+        Ok(path)
+    }
+
+    /// Returns the packages that depend on a package themselves, in order.
+    ///
+    /// # Errors
+    ///
+    /// `OutOfMemory` alone.
+    pub fn dependents(&self, alloc: Global, place: usize) -> Result<Vec<usize>>
+        ensures ok { IfOk result (λ v. v.items ≡ dependents self.now.edges place) }
+        ensures err { IfErr result IsMemory }
+    {
+        let places = dependents(alloc, self.edges.as_slice(), place)?;
+        Ok(places)
+    }
+
+    /// Returns the roots, in order.
+    pub fn roots(&self) -> &[usize]
+        ensures { result.now ≡ self.now.roots }
+    {
+        self.roots.as_slice()
+    }
+
+    /// Returns how many entries of each package are unresolved.
+    pub fn unresolved(&self) -> &[usize]
+        ensures { result.now ≡ self.now.unresolved }
+    {
+        self.unresolved.as_slice()
+    }
+}

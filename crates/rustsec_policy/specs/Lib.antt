@@ -1,0 +1,5 @@
+pub mod Keys
+pub mod Nearest
+pub mod Notes
+pub mod Policies
+pub mod Words

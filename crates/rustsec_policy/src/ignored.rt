@@ -1,0 +1,182 @@
+//! The entries of `ignore`: advisories that do not count.
+
+ghost use Rattle.std.specs.Prelude.{◌≡◌, ◌++◌, ◌∷◌, [], IfErr, IfOk, None, OnOk, Some, codes, option_map};
+ghost use Rattle.std.specs.List.{filter_map};
+ghost use Rattle.toml.specs.View.{array_view, table_view, view};
+ghost use Rattle.rustsec_toml.specs.Fields.{list_of, required, text};
+ghost use Rattle.rustsec_values.specs.Reading.{read_all};
+ghost use Rattle.rustsec_versions.specs.Failure.{IsOfKind, IsRefusal};
+ghost use Rattle.rustsec_policy.specs.Policies.{counts_until, id_on, ids_on, ignored_in, ignored_of, known_id};
+
+use crate::keys::{IgnoredKeys, expect_keys};
+use rustsec_texts::{Date, Id};
+use rustsec_toml::Section;
+use rustsec_values::{Items, Text};
+use rustsec_versions::{Error, ErrorKind, Result, refused_text};
+use std::alloc::Global;
+use toml::value::Array;
+use toml::{Table, Value};
+
+/// An entry of `ignore`: an advisory that does not count. An ID alone is the form of cargo-audit, a table with `id` and
+/// `reason` that of cargo-deny; `until` is of this program alone.
+#[derive(Debug, Drop)]
+pub struct Ignored {
+    /// The ID of the advisory.
+    pub id: Id,
+    /// Why it does not count.
+    pub reason: Option<Text>,
+    /// The last day on which it does not count; `None` for ever.
+    pub until: Option<Date>,
+}
+
+/// Reads the ID of an advisory, whose beginning says who assigns it.
+fn known_id(alloc: Global, text: &str) -> Result<Id>
+    ensures ok { IfOk result (λ id. known_id text.now ≡ Some id) }
+    ensures err { IfErr result (IsRefusal ErrorKind.Parse (known_id text.now ≡ None)) }
+{
+    let id = Id::from_str(alloc, text)?;
+    if id.is_other() {
+        let expected = "`RUSTSEC-`, `CVE-`, `GHSA-` or `TALOS-` at its beginning";
+        return Err(refused_text(alloc, "unknown form of ID", text, expected));
+    }
+    Ok(id)
+}
+
+/// Reads the ID in an entry that is a table.
+fn id_in(alloc: Global, section: Section<'_>) -> Result<Id>
+    ensures ok { IfOk result (λ id. required (text known_id) (codes "id") (table_view section.entry.table.now) ≡ Some id) }
+    ensures err { IfErr result (IsRefusal ErrorKind.Parse (required (text known_id) (codes "id") (table_view section.entry.table.now) ≡ None)) }
+{
+    let text = section.string_at(alloc, "id")?;
+    match known_id(alloc, text) {
+        Ok(id) => Ok(id),
+        Err(e) => Err(section.refused_at(alloc, "id", &e)),
+    }
+}
+
+/// Reads an entry that is a table: `id`, and perhaps `reason` and `until`.
+fn ignored_in(alloc: Global, table: &Table) -> Result<Ignored>
+    ensures ok { IfOk result (λ i. ignored_in (table_view table.now) ≡ Some i) }
+    ensures err { IfErr result (IsRefusal ErrorKind.Parse (ignored_in (table_view table.now) ≡ None)) }
+{
+    let section = Section {
+        table,
+        name: "an entry of `ignore`",
+    };
+    if let Err(refused) = expect_keys::<IgnoredKeys>(alloc, section) {
+        return Err(refused.error);
+    }
+    let id = id_in(alloc, section)?;
+    let reason = Text::from_option(alloc, section.optional_string_at(alloc, "reason")?)?;
+    let until = section.optional_text_at(alloc, "until")?;
+    Ok(Ignored { id, reason, until })
+}
+
+/// Reads an entry: an ID, or a table.
+fn ignored_of(alloc: Global, value: &Value) -> Result<Ignored>
+    ensures ok { IfOk result (λ i. ignored_of (view value.now) ≡ Some i) }
+    ensures err { IfErr result (IsRefusal ErrorKind.Parse (ignored_of (view value.now) ≡ None)) }
+{
+    if let Some(text) = value.as_str() {
+        let id = known_id(alloc, text)?;
+        return Ok(Ignored {
+            id,
+            reason: None,
+            until: None,
+        });
+    }
+    match value.as_table() {
+        Some(table) => ignored_in(alloc, table),
+        None => Err(refused_text(
+            alloc,
+            "an entry of `ignore` is of the kind",
+            value.type_str(),
+            "an ID, or a table with `id`",
+        )),
+    }
+}
+
+/// Appends the entry of a value.
+fn add_ignored(alloc: Global, ignored: &mut Items<Ignored>, value: &Value) -> Result<()>
+    ensures ok { OnOk result (option_map (λ i. ignored.old ++ i ∷ []) (ignored_of (view value.now)) ≡ Some ignored.new) }
+    ensures err { IfErr result (IsRefusal ErrorKind.Parse (ignored_of (view value.now) ≡ None)) }
+{
+    match ignored_of(alloc, value) {
+        Ok(entry) => {
+            ignored.push(entry)?;
+            Ok(())
+        }
+        Err(e) => Err(e),
+    }
+}
+
+/// Reads the entries of an array, in order.
+pub(crate) fn all_ignored(alloc: Global, array: &Array) -> Result<Items<Ignored>>
+    ensures ok { IfOk result (λ is. read_all ignored_of (list_of (array_view array.now)) ≡ Some is) }
+    ensures err { IfErr result (IsRefusal ErrorKind.Parse (read_all ignored_of (list_of (array_view array.now)) ≡ None)) }
+{
+    let mut ignored = Items::new(alloc);
+    for value in array {
+        add_ignored(alloc, &mut ignored, value)?;
+    }
+    Ok(ignored)
+}
+
+/// Returns the index of the first refused value of an array of entries.
+pub(crate) fn first_refused(alloc: Global, value: Option<&Value>) -> Option<usize> {
+    let entries = value?.as_array()?;
+    entries
+        .iter()
+        .position(|entry| ignored_of(alloc, entry).is_err())
+}
+
+/// Returns the error for an entry with a last day if no day is given.
+fn no_day(alloc: Global, entry: &Ignored, until: &Date) -> Error
+    ensures { IsOfKind ErrorKind.BadParam result }
+{
+    let (id, until) = (entry.id.as_str(), until.as_str());
+    match format!(in alloc;
+        "`{id}` is ignored until {until}, and no day is given to compare with: no clock is read"
+    ) {
+        Ok(message) => Error::new(alloc, ErrorKind::BadParam, &message),
+        Err(refused) => Error::from(refused),
+    }
+}
+
+/// Returns whether an entry counts on a day.
+fn counts_on(alloc: Global, today: Option<&Date>, entry: &Ignored) -> Result<bool>
+    ensures ok { IfOk result (λ b. counts_until entry.now.until (option_map (λ d. d.now) today.entry) ≡ Some b) }
+    ensures err { IfErr result (IsRefusal ErrorKind.BadParam (counts_until entry.now.until (option_map (λ d. d.now) today.entry) ≡ None)) }
+{
+    let Some(until) = &entry.until else {
+        return Ok(true);
+    };
+    match today {
+        Some(today) => Ok(today <= until),
+        None => Err(no_day(alloc, entry, until)),
+    }
+}
+
+/// Appends the ID of an entry that counts on a day.
+fn add_id(alloc: Global, ids: &mut Items<Id>, today: Option<&Date>, entry: &Ignored) -> Result<()>
+    ensures ok { OnOk result (option_map (λ id. ids.old ++ filter_map (λ x. x) (id ∷ [])) (id_on (option_map (λ d. d.now) today.entry) entry.now) ≡ Some ids.new) }
+    ensures err { IfErr result (IsRefusal ErrorKind.BadParam (id_on (option_map (λ d. d.now) today.entry) entry.now ≡ None)) }
+{
+    if counts_on(alloc, today, entry)? {
+        let id = Clone::clone(&entry.id)?;
+        ids.push(id)?;
+    }
+    Ok(())
+}
+
+/// Returns the IDs of the entries that count on a day, in order.
+pub(crate) fn ids_on(alloc: Global, today: Option<&Date>, entries: &[Ignored]) -> Result<Items<Id>>
+    ensures ok { IfOk result (λ ids. ids_on (option_map (λ d. d.now) today.entry) entries.now ≡ Some ids) }
+    ensures err { IfErr result (IsRefusal ErrorKind.BadParam (ids_on (option_map (λ d. d.now) today.entry) entries.now ≡ None)) }
+{
+    let mut ids = Items::new(alloc);
+    for entry in entries {
+        add_id(alloc, &mut ids, today, entry)?;
+    }
+    Ok(ids)
+}

@@ -1,0 +1,27 @@
+//! Policies of audits: which advisories are ignored and why, which findings fail, and for which platforms (the file
+//! `audit.toml` of cargo-audit).
+#![tactic(auto)]
+
+mod flags;
+mod ignored;
+mod keys;
+mod nearest;
+mod notes;
+mod places;
+mod policy;
+mod refused;
+mod sections;
+mod statements;
+#[cfg(test)]
+mod tests;
+mod threshold;
+mod unused;
+mod words;
+
+pub use crate::ignored::Ignored;
+pub use crate::nearest::nearest_word;
+pub use crate::policy::Policy;
+pub use crate::sections::{AdvisoryPolicy, OutputPolicy, TargetPolicy};
+pub use crate::threshold::read_severity;
+pub use crate::unused::{DatabasePolicy, PackagePolicy, YankedPolicy};
+pub use crate::words::{Denied, OutputFormat, PackageSource};
