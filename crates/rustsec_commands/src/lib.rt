@@ -26,3 +26,5 @@ pub use crate::answers::{answer, answer_ranges};
 pub use crate::audit::write_audit;
 pub use crate::commands::{run, run_over, run_with_notes};
 pub use crate::fault::Fault;
+pub use crate::overview::Paths;
+pub use crate::report::{NotedReport, report_of};

@@ -16,7 +16,7 @@ use std::fmt::Write as _;
 const NAMED: usize = 10;
 
 /// The paths of a report: the root of its database and its lockfile.
-#[derive(Clone, Copy)]
+#[derive(Clone, Copy, Debug)]
 pub struct Paths<'a> {
     /// The root of the database.
     pub root: &'a str,

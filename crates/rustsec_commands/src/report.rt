@@ -62,13 +62,15 @@ fn settings_with(alloc: Global, ignored: Items<Id>) -> Result<Settings, AllocErr
 }
 
 /// A report, and a note on what it looked at. Contracts see the report alone.
-#[derive(Drop)]
-struct Noted {
-    report: Report,
-    note: Option<String>,
+#[derive(Debug, Drop)]
+pub struct NotedReport {
+    /// The report.
+    pub report: Report,
+    /// What it looked at, in lines for the error output; `None` if there was no memory for it.
+    pub note: Option<String>,
 }
 
-impl Model for Noted {
+impl Model for NotedReport {
     ghost use Rattle.rustsec_report.specs.declared.report.Report as given;
 
     ghost Value = { given.Report };
@@ -76,13 +78,18 @@ impl Model for Noted {
     ghost view = { λ n. n.report };
 }
 
-/// Generates the report on the lockfile at a path, by the database under a root.
-fn report_of<F: Folders>(
+/// Generates the report on the lockfile at a path, by the database under a root, both read through `folders`. The
+/// database is read first.
+///
+/// # Errors
+///
+/// As `Database::open_with` of the root; then as `Lockfile::load_with` of the lockfile's path; else `OutOfMemory`.
+pub fn report_of<F: Folders>(
     alloc: Global,
     folders: &mut F,
     paths: Paths<'_>,
     settings: &Settings,
-) -> rustsec_versions::Result<Noted>
+) -> rustsec_versions::Result<NotedReport>
     ensures ok { IfOk result (IsReportOfPaths (F.allowed folders.old) paths.entry.root.now paths.entry.lock.now settings.now) }
     ensures err { IfErr result (IsReportRefusal (F.allowed folders.old) paths.entry.root.now paths.entry.lock.now) }
     ensures same { AllowSame (F.allowed folders.old) (F.allowed folders.new) }
@@ -97,11 +104,11 @@ fn report_of<F: Folders>(
         ignored: settings.ignore.as_slice(),
     };
     let note = overview(alloc, folders, looked_at).ok();
-    Ok(Noted { report, note })
+    Ok(NotedReport { report, note })
 }
 
 /// Makes the output of `report` for a report, with the note on what it looked at.
-fn noted_output(alloc: Global, noted: Noted) -> Result<Output, AllocError>
+fn noted_output(alloc: Global, noted: NotedReport) -> Result<Output, AllocError>
     ensures { IfOk result (λ o. o ≡ report_output noted) }
 {
     let output = report_output(alloc, &noted.report)?;
@@ -126,7 +133,7 @@ pub fn report<F: Folders>(
 }
 
 /// Returns what helps against what a report found, and after it what the report looked at.
-fn advice_and_note(alloc: Global, noted: &Noted) -> rustsec_versions::Result<String> {
+fn advice_and_note(alloc: Global, noted: &NotedReport) -> rustsec_versions::Result<String> {
     let mut note = advice(alloc, &noted.report)?;
     if let Some(looked) = &noted.note {
         note.push_str(looked)?;
@@ -135,7 +142,11 @@ fn advice_and_note(alloc: Global, noted: &Noted) -> rustsec_versions::Result<Str
 }
 
 /// Makes the output of `audit` for a report, with a note that says what helps and what was looked at.
-fn advised_output(alloc: Global, deny_warnings: bool, noted: &Noted) -> Result<Output, AllocError>
+fn advised_output(
+    alloc: Global,
+    deny_warnings: bool,
+    noted: &NotedReport,
+) -> Result<Output, AllocError>
     ensures { IfOk result (λ o. o ≡ audit_output deny_warnings noted.now) }
 {
     let output = audit_output(alloc, deny_warnings, &noted.report)?;

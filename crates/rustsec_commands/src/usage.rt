@@ -7,7 +7,7 @@ advisory database. It reads files and its input alone: fetch the database first,
 
   audit ROOT LOCK [--ignore ID].. [--deny-warnings]
       for the lockfile LOCK and the database under the folder ROOT: a line for each vulnerability and each
-      warning, and one that counts them; what to do about each stands on the error output
+      warning, and one that counts them; what to do about each is on the error output
       status 0: no vulnerability and, with --deny-warnings, no warning; 1: some
       example: rustsec_audit audit advisory-db Cargo.lock --ignore RUSTSEC-2020-0001
 
@@ -33,7 +33,7 @@ advisory database. It reads files and its input alone: fetch the database first,
 
   ranges
       for the lines `patched REQ` and `unaffected REQ` of the input: a line for each range of affected
-      versions, from its first version to the first behind it, with `-` where there is none
+      versions, from its first version to the first after it, with `-` where there is none
       status 0
       example: rustsec_audit ranges < lists.txt
 

@@ -1,0 +1,78 @@
+-- What holds by the answers that folders allow later holds by those that they allowed before, where these are the same.
+use Rattle.std.proofs.Common.{◌≡◌, ◌⊎◌, ◌++◌, ℕ, List, Option, None, Some, inl, inr}
+use Rattle.rustsec_versions.specs.Failure.{Failure, IsRefusal}
+use Rattle.rustsec_versions.specs.declared.error.ErrorKind.TheVariants as kind
+use Rattle.rustsec_versions.proofs.Refusals.{refused_by}
+use Rattle.rustsec_folders.specs.Allowed.{Allowed, AllowSame}
+use Rattle.rustsec_folders.specs.Listed.{Listed, Paths, crates_of, rust_of}
+use Rattle.rustsec_folders.proofs.Same.{collection-before, fails-at-file-before, fails-below-before, files-before, there-before}
+use Rattle.rustsec_folders.specs.declared.source_file.SourceFile.{SourceFile}
+use Rattle.rustsec_lock.specs.Lockfile.{IsLockfileAt, IsLockfileRefusal}
+use Rattle.rustsec_lock.specs.Package.{PackageValue}
+use Rattle.rustsec_advisory.specs.declared.advisory.Advisory.{Advisory}
+use Rattle.rustsec_database.specs.Opened.{AreOpened, IsOpenRefusal}
+use Rattle.rustsec_commands.specs.Output.{Output}
+use Rattle.rustsec_program.specs.Checked.{Form, Ground, IsAnswer, IsCheckedRefusal, IsLockfileOutput, checked, refused}
+use Rattle.rustsec_program.specs.Locked.{AreLoadedAt, IsBaselineAt, IsBaselineRefusal, IsLoadRefusal, IsLockedAt, LoadedValue, LockedValue}
+
+module _ (a b : Allowed) (same : AllowSame a b) where
+  -- ---- lockfiles
+
+  pub locked-before : (path : List ℕ) (l : LockedValue) → IsLockedAt b path l → IsLockedAt a path l
+  locked-before path l (text, (read, is)) = (text, ((same.reads path (Some text)).1 read, is))
+
+  pub lockfile-before : (path : List ℕ) (ps : List PackageValue) → IsLockfileAt b path ps → IsLockfileAt a path ps
+  lockfile-before path ps (text, (read, is)) = (text, ((same.reads path (Some text)).1 read, is))
+
+  pub lockfile-refused-before : (path : List ℕ) (e : Failure) → IsLockfileRefusal b path e → IsLockfileRefusal a path e
+  lockfile-refused-before path e (inl h) = inl (refused_by kind.Io e (λ fails. (same.reads path None).1 fails) h)
+  lockfile-refused-before path e (inr (text, (read, h))) = inr (text, ((same.reads path (Some text)).1 read, h))
+
+  pub baseline-before : (old : Option (List ℕ)) (ps : Option (List PackageValue)) → IsBaselineAt b old ps → IsBaselineAt a old ps
+  baseline-before None ps h = h
+  baseline-before (Some path) ps (packages, (read, is)) = (packages, (lockfile-before path packages read, is))
+
+  pub baseline-refused-before : (old : Option (List ℕ)) (e : Failure) → IsBaselineRefusal b old e → IsBaselineRefusal a old e
+  baseline-refused-before None e h = h
+  baseline-refused-before (Some path) e h = lockfile-refused-before path e h
+
+  pub loaded-before : (path : List ℕ) (old : Option (List ℕ)) (l : LoadedValue) → AreLoadedAt b path old l → AreLoadedAt a path old l
+  loaded-before path old l (locked, baseline) = (locked-before path l.locked locked, baseline-before old l.baseline baseline)
+
+  pub load-refused-before : (path : List ℕ) (old : Option (List ℕ)) (e : Failure) → IsLoadRefusal b path old e → IsLoadRefusal a path old e
+  load-refused-before path old e (inl h) = inl (lockfile-refused-before path e h)
+  load-refused-before path old e (inr ((l, locked), h)) = inr ((l, locked-before path l locked), baseline-refused-before old e h)
+
+  -- ---- checks
+
+  pub output-before : (form : Form) (g : Ground) (path : List ℕ) (o : Output) → IsLockfileOutput b form g path o → IsLockfileOutput a form g path o
+  output-before form g path o (l, (loaded, is)) = (l, (loaded-before path g.plan.baseline l loaded, is))
+
+  pub check-refused-before : (g : Ground) (path : List ℕ) (e : Failure) → IsCheckedRefusal b g path e → IsCheckedRefusal a g path e
+  check-refused-before g path e (inl h) = inl (load-refused-before path g.plan.baseline e h)
+  check-refused-before g path e (inr (l, (loaded, h))) = inr (l, (loaded-before path g.plan.baseline l loaded, h))
+
+  pub answer-before : (form : Form) (g : Ground) (path : List ℕ) (o : Output) → IsAnswer b form g path o → IsAnswer a form g path o
+  answer-before form g path o (checked h) = checked (output-before form g path o h)
+  answer-before form g path o (refused e h other is) = refused e (check-refused-before g path e h) other is
+
+  -- ---- databases
+
+  paths-before : (root : List ℕ) (paths : Option (List (List ℕ))) → Paths b root paths → Paths a root paths
+  paths-before root (Some paths) (crates, rust, in_crates, in_rust, is) =
+      (crates, rust, collection-before a b (crates_of root) crates same in_crates, there-before a b (rust_of root) rust same in_rust, is)
+  paths-before root None (inl h) = inl ((same.lists (crates_of root) None).1 h)
+  paths-before root None (inr (inl h)) = inr (inl (fails-below-before a b (crates_of root) same h))
+  paths-before root None (inr (inr h)) = inr (inr (fails-below-before a b (rust_of root) same h))
+
+  listed-before : (root : List ℕ) (files : Option (List SourceFile)) → Listed b root files → Listed a root files
+  listed-before root (Some files) (paths, found, read) = (paths, paths-before root (Some paths) found, files-before a b paths files same read)
+  listed-before root None (inl h) = inl (paths-before root None h)
+  listed-before root None (inr (paths, found, h)) = inr (paths, paths-before root (Some paths) found, fails-at-file-before a b paths same h)
+
+  pub opened-before : (root : List ℕ) (advisories : List Advisory) → AreOpened b root advisories → AreOpened a root advisories
+  opened-before root advisories (files, (listed, loaded)) = (files, (listed-before root (Some files) listed, loaded))
+
+  pub open-refused-before : (root : List ℕ) (e : Failure) → IsOpenRefusal b root e → IsOpenRefusal a root e
+  open-refused-before root e (inl h) = inl (refused_by kind.Io e (λ fails. listed-before root None fails) h)
+  open-refused-before root e (inr (files, (listed, h))) = inr (files, (listed-before root (Some files) listed, h))

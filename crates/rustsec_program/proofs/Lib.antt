@@ -1,0 +1,5 @@
+pub mod OptionWords
+pub mod Before
+pub mod ManyLines
+pub mod Grounds
+pub mod ExplainPlain

@@ -1,0 +1,12 @@
+use Rattle.std.proofs.Common.{◌∙◌, sym}
+use Rattle.std.proofs.lemmas.Result.{IfOk-weaker}
+use Rattle.rustsec_program.specs.Check.{answered, refused_many}
+use Rattle.rustsec_program.proofs.many.check_many.Goals as goal
+
+pub returns-in-Ok-clause-ok : goal.returns-in-Ok-clause-ok
+returns-in-Ok-clause-ok g c = answered c.in-Some.options (sym c.in_ok-options.ensures ∙ c.in-Some.is) c.in-Ok.ensures.ok
+
+pub returns-clause-ok : goal.returns-clause-ok
+returns-clause-ok g c =
+    IfOk-weaker c.refusal.result _ _
+    (λ o h. refused_many c.in-Some.options c.in-Err.error (sym c.in_ok-options.ensures ∙ c.in-Some.is) c.in-Err.ensures.err h.0 h.1) c.refusal.ensures

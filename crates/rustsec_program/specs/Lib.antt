@@ -1,0 +1,11 @@
+pub mod CheckOptions
+pub mod Steps
+pub mod Wanted
+pub mod Locked
+pub mod Plan
+pub mod Checked
+pub mod Forms
+pub mod Check
+pub mod Explain
+pub mod Words
+pub mod Commands

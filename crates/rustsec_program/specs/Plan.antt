@@ -1,0 +1,39 @@
+-- What the options of a command and the file of its policy ask for.
+use Rattle.std.specs.Prelude.{◌≡◌, ◌⊎◌, ℕ, Bool, List, Option, Some, None}
+use Rattle.rustsec_folders.specs.Allowed.{Allowed}
+use Rattle.rustsec_versions.specs.Failure.{Failure, IsRefusal}
+use Rattle.rustsec_versions.specs.declared.error.ErrorKind.TheVariants as kind
+use Rattle.rustsec_policy.specs.declared.ignored.Ignored.{Ignored}
+use Rattle.rustsec_policy.specs.declared.policy.Policy.{Policy}
+use Rattle.rustsec_program.specs.CheckOptions.{CheckOption, has, last_value}
+use Rattle.rustsec_program.specs.Wanted.{IsPolicyAt, IsPolicyRefusal, request_of, wanted}
+use Rattle.rustsec_program.specs.declared.keys.Flag.TheVariants as flag
+use Rattle.rustsec_program.specs.declared.keys.Key.TheVariants as key
+use Rattle.rustsec_program.specs.declared.request.Request.{Request}
+use Rattle.rustsec_program.specs.declared.wanted.Wanted.{Wanted}
+
+-- what is asked for: the entries of the policy that ignore advisories, what policy and words want, the path of the
+-- baseline, and whether an empty database or lockfile is not refused
+pub record PlanValue : Type 0 where
+  pub entries : List Ignored
+  pub wanted : Wanted
+  pub baseline : Option (List ℕ)
+  pub allow_empty : Bool
+
+-- the plan of options
+pub record IsPlan (allowed : Allowed) (options : List CheckOption) (p : PlanValue) : Type 0 where
+  pub request : Request
+  pub policy : Policy
+  pub is_request : request_of options ≡ Some request
+  pub is_policy : IsPolicyAt allowed (last_value key.Policy options) policy
+  pub is_wanted : wanted policy request ≡ Some p.wanted
+  pub entries : p.entries ≡ policy.advisories.ignore
+  pub baseline : p.baseline ≡ last_value key.Baseline options
+  pub allow_empty : p.allow_empty ≡ has flag.AllowEmpty options
+
+-- how options are refused: a value is; the policy is; or an entry of the policy has a last day and the words name no day
+pub data IsPlanRefusal (allowed : Allowed) (options : List CheckOption) (e : Failure) : Type 0 where
+  misread : IsRefusal kind.Parse (request_of options ≡ None) e → IsPlanRefusal allowed options e
+  unruled : (r : Request) → request_of options ≡ Some r → IsPolicyRefusal allowed (last_value key.Policy options) e → IsPlanRefusal allowed options e
+  undated : (r : Request) (p : Policy) → request_of options ≡ Some r → IsPolicyAt allowed (last_value key.Policy options) p
+      → IsRefusal kind.BadParam (wanted p r ≡ None) e → IsPlanRefusal allowed options e

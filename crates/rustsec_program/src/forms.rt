@@ -1,0 +1,29 @@
+//! The forms of an answer.
+
+ghost use Rattle.std.specs.Prelude.{◌≡◌};
+ghost use Rattle.rustsec_program.specs.Checked.{form_of};
+ghost use Rattle.rustsec_program.specs.Forms.{form_view};
+
+use crate::plan::Plan;
+use crate::shapes::Shape;
+
+/// The form of an answer.
+#[derive(Clone, Copy, Debug)]
+pub enum Form<'a> {
+    /// Text for people, with or without colors.
+    Text(bool),
+    /// JSON.
+    Json,
+    /// A line of JSON for the lockfile at this path among many.
+    Line(&'a str),
+}
+
+/// Returns the form that a plan asks for.
+pub fn form_of<'a>(plan: &Plan<'_>) -> Form<'a>
+    ensures { form_view result ≡ form_of plan.now }
+{
+    match plan.wanted.shape {
+        Shape::Text => Form::Text(plan.wanted.colored),
+        Shape::Json => Form::Json,
+    }
+}

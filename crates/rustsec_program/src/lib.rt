@@ -1,0 +1,24 @@
+//! The commands of the program `rustsec_audit`: `check`, `check-many` and `explain` here, and the others of
+//! `rustsec_commands`.
+#![tactic(auto)]
+
+mod check;
+mod checked;
+mod commands;
+mod explain;
+mod forms;
+mod keys;
+mod locked;
+mod many;
+mod misuse;
+mod options;
+mod output;
+mod plan;
+mod request;
+mod shapes;
+mod shown;
+mod usage;
+mod wanted;
+mod words;
+
+pub use crate::commands::{run_over, run_with_notes};

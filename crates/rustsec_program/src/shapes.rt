@@ -1,0 +1,116 @@
+//! The values of `--format`, `--color` and `--severity`.
+
+use rustsec_lock::Severity;
+use rustsec_policy::read_severity;
+use rustsec_values::{Named, value_named};
+use rustsec_versions::{FromText, Result, refused_text};
+use std::alloc::Global;
+use std::marker::Model;
+
+/// How findings are written.
+#[derive(Clone, Copy, PartialEq, Eq, Debug)]
+pub enum Shape {
+    /// As text for people.
+    Text,
+    /// As JSON.
+    Json,
+}
+
+/// Whether the text for people has colors.
+#[derive(Clone, Copy, PartialEq, Eq, Debug)]
+pub enum Coloring {
+    /// It has.
+    Always,
+    /// It has not.
+    Never,
+}
+
+impl Named for Shape {
+    ghost use Rattle.rustsec_program.specs.Wanted.{shape_name, shapes};
+
+    ghost name_of = { shape_name };
+
+    ghost values = { shapes };
+
+    fn all() -> &'static [Shape] {
+        &[Shape::Text, Shape::Json]
+    }
+
+    fn name(&self) -> &'static str {
+        match self {
+            Shape::Text => "text",
+            Shape::Json => "json",
+        }
+    }
+}
+
+impl Named for Coloring {
+    ghost use Rattle.rustsec_program.specs.Wanted.{coloring_name, colorings};
+
+    ghost name_of = { coloring_name };
+
+    ghost values = { colorings };
+
+    fn all() -> &'static [Coloring] {
+        &[Coloring::Always, Coloring::Never]
+    }
+
+    fn name(&self) -> &'static str {
+        match self {
+            Coloring::Always => "always",
+            Coloring::Never => "never",
+        }
+    }
+}
+
+impl FromText for Shape {
+    ghost use Rattle.rustsec_program.specs.Wanted.{shape_of};
+
+    ghost reads = { shape_of };
+
+    fn from_text(alloc: Global, text: &str) -> Result<Shape> {
+        match value_named(text) {
+            Some(shape) => Ok(shape),
+            None => Err(refused_text(alloc, "unknown word", text, "`text` or `json`")),
+        }
+    }
+}
+
+impl FromText for Coloring {
+    ghost use Rattle.rustsec_program.specs.Wanted.{coloring_of};
+
+    ghost reads = { coloring_of };
+
+    fn from_text(alloc: Global, text: &str) -> Result<Coloring> {
+        match value_named(text) {
+            Some(coloring) => Ok(coloring),
+            None => Err(refused_text(alloc, "unknown word", text, "`always` or `never`")),
+        }
+    }
+}
+
+/// A severity that is read from its name.
+#[derive(Drop)]
+pub struct LeastSeverity {
+    /// The severity.
+    pub severity: Severity,
+}
+
+impl Model for LeastSeverity {
+    ghost use Rattle.rustsec_lock.specs.declared.severity.Severity.{Severity};
+
+    ghost Value = { Severity };
+
+    ghost view = { λ s. s.severity };
+}
+
+impl FromText for LeastSeverity {
+    ghost use Rattle.rustsec_policy.specs.Words.{severity_named};
+
+    ghost reads = { severity_named };
+
+    fn from_text(alloc: Global, text: &str) -> Result<LeastSeverity> {
+        let severity = read_severity(alloc, text)?;
+        Ok(LeastSeverity { severity })
+    }
+}
