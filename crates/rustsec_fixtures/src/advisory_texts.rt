@@ -73,6 +73,26 @@ pub const INVALID_ERRORS: &[&str] = &[
     "invalid key `invalid-section` in toplevel",
 ];
 
+/// An advisory with no more than it must have.
+pub const SHORT: &str = "```toml
+[advisory]
+id = \"RUSTSEC-2001-2101\"
+package = \"base\"
+date = \"2001-02-03\"
+
+[versions]
+patched = [\">= 1.2.3\"]
+```
+
+# T
+
+D
+";
+
+/// The OSV document of `SHORT`, as changed on the first day of 2020.
+pub const SHORT_DOCUMENT: &str =
+    r#"{"affected":[{"database_specific":{"categories":[],"cvss":null,"informational":null},"ecosystem_specific":{"affected_functions":null,"affects":{"arch":[],"functions":[],"os":[]}},"package":{"ecosystem":"crates.io","name":"base","purl":"pkg:cargo/base"},"ranges":[{"events":[{"introduced":"0.0.0-0"},{"fixed":"1.2.3"}],"type":"SEMVER"}],"versions":[]}],"aliases":[],"database_specific":{"license":"CC0-1.0"},"details":"D","id":"RUSTSEC-2001-2101","modified":"2020-01-01T00:00:00Z","published":"2001-02-03T12:00:00Z","references":[{"type":"PACKAGE","url":"https://crates.io/crates/base"},{"type":"ADVISORY","url":"https://rustsec.org/advisories/RUSTSEC-2001-2101.html"}],"related":[],"severity":[],"summary":"T"}"#;
+
 /// Returns a text with the first place of another text replaced.
 pub fn changed(alloc: Global, text: &str, old: &str, new: &str) -> Result<String, Fail> {
     let (before, after) = text.split_once(old).ok_or("there is nothing to change")?;

@@ -17,6 +17,8 @@ mod function_paths;
 #[cfg(test)]
 mod ids;
 #[cfg(test)]
+mod large_inputs;
+#[cfg(test)]
 mod notes;
 #[cfg(test)]
 mod paths;

@@ -31,6 +31,19 @@ name = "other"
 version = "1.0.0"
 "#;
 
+/// A lockfile of a vulnerable package in two revisions of a git repository. Cargo writes the commit after a `#`.
+const GIT_LOCK: &str = r#"
+[[package]]
+name = "base"
+version = "1.0.0"
+source = "git+https://example.com/base?rev=0123456#0123456789abcdef0123456789abcdef01234567"
+
+[[package]]
+name = "base"
+version = "2.0.0"
+source = "git+https://example.com/base#89abcdef0123456789abcdef0123456789abcdef"
+"#;
+
 /// Returns the first package of a lockfile, by an advisory that is patched from version 3 on.
 fn vulnerability(alloc: Global, lockfile: &Lockfile) -> Result<Vulnerability, Fail> {
     let text = changed(alloc, VALID, ">= 1.2.3", ">= 3")?;
@@ -39,9 +52,10 @@ fn vulnerability(alloc: Global, lockfile: &Lockfile) -> Result<Vulnerability, Fa
     Ok(Vulnerability::new(alloc, &advisory, package)?)
 }
 
-/// What is asked, and the command that is wanted.
+/// The lockfile, what is asked, and the command that is wanted.
 #[derive(Drop)]
 struct Row<'a> {
+    lockfile: &'a str,
     manifest_path: Option<&'a str>,
     path_to_cargo: Option<&'a str>,
     dry_run: bool,
@@ -61,13 +75,13 @@ fn owned(alloc: Global, text: Option<&str>) -> Result<Option<String>, Fail> {
 fn fixer(alloc: Global, row: &Row<'_>) -> Result<Fixer, Fail> {
     let manifest_path = owned(alloc, row.manifest_path)?;
     let path_to_cargo = owned(alloc, row.path_to_cargo)?;
-    let lockfile = Lockfile::from_str(alloc, LOCK)?;
+    let lockfile = Lockfile::from_str(alloc, row.lockfile)?;
     Ok(Fixer::new(lockfile, manifest_path, path_to_cargo))
 }
 
 /// Returns the command of a row.
 fn command(alloc: Global, row: &Row<'_>) -> Result<FixCommand, Fail> {
-    let lockfile = Lockfile::from_str(alloc, LOCK)?;
+    let lockfile = Lockfile::from_str(alloc, row.lockfile)?;
     let vulnerability = vulnerability(alloc, &lockfile)?;
     let fixer = fixer(alloc, row)?;
     Ok(fixer.get_fix_command(alloc, &vulnerability, row.dry_run)?)
@@ -101,6 +115,7 @@ fn fix_words(rt: HostRuntime) -> Result<(), Fail> {
     expect(
         &rt,
         &Row {
+            lockfile: LOCK,
             manifest_path: None,
             path_to_cargo: None,
             dry_run: true,
@@ -120,6 +135,7 @@ fn fix_words_of_paths(rt: HostRuntime) -> Result<(), Fail> {
     expect(
         &rt,
         &Row {
+            lockfile: LOCK,
             manifest_path: Some("a/Cargo.toml"),
             path_to_cargo: Some("/opt/cargo"),
             dry_run: false,
@@ -130,6 +146,26 @@ fn fix_words_of_paths(rt: HostRuntime) -> Result<(), Fail> {
                 "a/Cargo.toml",
                 "registry+https://github.com/rust-lang/crates.io-index#base@1.0.0",
                 "base@2.0.0",
+            ],
+        },
+    )
+}
+
+// The word has two `#`. It has the form of the Rust crate's word; Cargo's grammar of package ID specifications has one.
+#[test]
+fn fix_words_of_git_sources(rt: HostRuntime) -> Result<(), Fail> {
+    expect(
+        &rt,
+        &Row {
+            lockfile: GIT_LOCK,
+            manifest_path: None,
+            path_to_cargo: None,
+            dry_run: false,
+            program: "cargo",
+            words: &[
+                "update",
+                "git+https://example.com/base?rev=0123456#0123456789abcdef0123456789abcdef01234567#base@1.0.0",
+                "git+https://example.com/base#89abcdef0123456789abcdef0123456789abcdef#base@2.0.0",
             ],
         },
     )

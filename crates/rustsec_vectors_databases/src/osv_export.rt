@@ -1,33 +1,13 @@
 //! Documents of advisories, and what is read out of a document.
 
 use rustsec_advisory::Advisory;
-use rustsec_fixtures::{VALID, changed, kind_of};
+use rustsec_fixtures::{SHORT, SHORT_DOCUMENT, VALID, changed, kind_of};
 use rustsec_osv::{OsvAdvisory, OsvReferenceKind};
 use rustsec_versions::ErrorKind;
 use serde_json::Value;
 use std::alloc::Global;
 use std::process::Abort;
 use std::test::Fail;
-
-/// An advisory with no more than it must have.
-pub const SHORT: &str = "```toml
-[advisory]
-id = \"RUSTSEC-2001-2101\"
-package = \"base\"
-date = \"2001-02-03\"
-
-[versions]
-patched = [\">= 1.2.3\"]
-```
-
-# T
-
-D
-";
-
-/// Its document.
-pub const SHORT_DOCUMENT: &str =
-    r#"{"affected":[{"database_specific":{"categories":[],"cvss":null,"informational":null},"ecosystem_specific":{"affected_functions":null,"affects":{"arch":[],"functions":[],"os":[]}},"package":{"ecosystem":"crates.io","name":"base","purl":"pkg:cargo/base"},"ranges":[{"events":[{"introduced":"0.0.0-0"},{"fixed":"1.2.3"}],"type":"SEMVER"}],"versions":[]}],"aliases":[],"database_specific":{"license":"CC0-1.0"},"details":"D","id":"RUSTSEC-2001-2101","modified":"2020-01-01T00:00:00Z","published":"2001-02-03T12:00:00Z","references":[{"type":"PACKAGE","url":"https://crates.io/crates/base"},{"type":"ADVISORY","url":"https://rustsec.org/advisories/RUSTSEC-2001-2101.html"}],"related":[],"severity":[],"summary":"T"}"#;
 
 /// The document of the valid advisory that other tests have too.
 const VALID_DOCUMENT: &str =

@@ -1,6 +1,6 @@
 //! The source files under a root: over folders in memory, and over those of the disk.
 
-use crate::folders_in_memory::{Failing, Holds, MemoryFolders, Paths};
+use rustsec_fixtures::{Failing, Holds, MemoryFolders, Paths};
 use rustsec_folders::{Folders, RealFolders, SourceFile, source_files};
 use rustsec_versions::ErrorKind;
 use std::alloc::Global;

@@ -1,8 +1,7 @@
 //! Commands over folders in memory: the worked example of `audit`, and an error at each asking in turn.
 
-use crate::folders_in_memory::{Failing, Holds, MemoryFolders, Paths};
 use rustsec_commands::{Fault, run_over};
-use rustsec_fixtures::FOUR_PACKAGES;
+use rustsec_fixtures::{FOUR_PACKAGES, Failing, Holds, MemoryFolders, Paths};
 use rustsec_versions::ErrorKind;
 use std::alloc::Global;
 use std::io;

@@ -1,9 +1,8 @@
 //! Databases: loading from files, errors, and queries.
 
-use crate::folders_in_memory::{Failing, Holds, MemoryFolders, Paths};
 use rustsec_advisory::Advisory;
 use rustsec_database::{Database, Entries, Index, SourceFile};
-use rustsec_fixtures::{VALID, changed, kind_of};
+use rustsec_fixtures::{Failing, Holds, MemoryFolders, Paths, VALID, changed, kind_of};
 use rustsec_lock::Lockfile;
 use rustsec_lock::package::Name;
 use rustsec_query::Query;

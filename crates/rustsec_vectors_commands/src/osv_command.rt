@@ -1,8 +1,7 @@
 //! The command `osv`, over files that a test writes.
 
-use crate::osv_export::{SHORT, SHORT_DOCUMENT};
 use crate::outputs::expect_outputs;
-use rustsec_fixtures::{changed, writes};
+use rustsec_fixtures::{SHORT, SHORT_DOCUMENT, changed, writes};
 use std::fs;
 use std::rt::Files;
 use std::test::Fail;

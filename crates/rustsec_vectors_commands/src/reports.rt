@@ -2,6 +2,7 @@
 
 use rustsec_advisory::Affected;
 use rustsec_database::{Database, SourceFile};
+use rustsec_fixtures::warning_lines;
 use rustsec_lock::package::{Name, Package};
 use rustsec_lock::platforms::OS;
 use rustsec_lock::{Lockfile, Severity};
@@ -65,8 +66,8 @@ fn empty_report_text(rt: HostRuntime) -> Result<(), Fail> {
 
 // ---- the filter
 
-/// Returns a notice about a package, whose advisory affects one system.
-fn notice(alloc: Global, system: OS) -> Result<Warning, Fail> {
+/// Returns a warning of a kind about a package, whose advisory affects one system.
+fn warning(alloc: Global, kind: WarningKind, system: OS) -> Result<Warning, Fail> {
     let package = Package {
         name: Name::from_str(alloc, "base")?,
         version: Version::parse(alloc, "1.0.0")?,
@@ -75,58 +76,54 @@ fn notice(alloc: Global, system: OS) -> Result<Warning, Fail> {
     };
     let mut affected = Affected::default(alloc);
     affected.os.push(system)?;
-    Ok(Warning::new(
-        alloc,
-        WarningKind::Notice,
-        &package,
-        None,
-        Some(affected),
-        None,
-    )?)
+    Ok(Warning::new(alloc, kind, &package, None, Some(affected), None)?)
 }
 
-/// Returns the notice alone, by its kind.
-fn notices(alloc: Global, system: OS) -> Result<WarningInfo, Fail> {
-    let mut list = Items::new(alloc);
-    list.push(notice(alloc, system)?)?;
+/// Returns a warning of each informational kind.
+fn warnings(alloc: Global, system: OS) -> Result<WarningInfo, Fail> {
     let mut warnings = WarningInfo::new(alloc);
-    warnings.insert(WarningKind::Notice, list)?;
+    for kind in &[
+        WarningKind::Notice,
+        WarningKind::Unmaintained,
+        WarningKind::Unsound,
+    ] {
+        let mut list = Items::new(alloc);
+        list.push(warning(alloc, *kind, system)?)?;
+        warnings.insert(*kind, list)?;
+    }
     Ok(warnings)
 }
 
-/// Returns how many notices a format leaves, none if the kind is gone, after one call or two.
-fn left(
-    alloc: Global,
-    system: OS,
-    format: BinaryFormat,
-    twice: bool,
-) -> Result<Option<usize>, Fail> {
+/// An affected system, a format, whether the filter is called twice, and whether the warnings are left.
+type FilterRow = (OS, BinaryFormat, bool, bool);
+
+/// The warnings as lines.
+const LEFT: &str = "notice base 1.0.0 -\nunmaintained base 1.0.0 -\nunsound base 1.0.0 -\n";
+
+/// Returns whether a format leaves all three kinds, and the warnings that a row wants.
+fn leaves(alloc: Global, row: &FilterRow) -> Result<bool, Fail> {
+    let (system, format, twice, left) = row;
     let mut report = Report {
         lockfile: LockfileInfo {
             dependency_count: 1,
         },
         settings: Settings::new(alloc),
         vulnerabilities: VulnerabilityInfo::default(alloc),
-        warnings: notices(alloc, system)?,
+        warnings: warnings(alloc, *system)?,
     };
-    filter_report_by_binary_type(&format, &mut report);
-    if twice {
-        filter_report_by_binary_type(&format, &mut report);
+    filter_report_by_binary_type(format, &mut report);
+    if *twice {
+        filter_report_by_binary_type(format, &mut report);
     }
-    match report.warnings.get(&WarningKind::Notice) {
-        Some(list) => Ok(Some(list.len())),
-        None => Ok(None),
-    }
+    let expected = if *left { LEFT } else { "" };
+    Ok(report.warnings.len() == 3 && are_warnings(alloc, &report.warnings, expected)?)
 }
 
-/// An affected system, a format, whether the filter is called twice, and how many notices are left.
-type FilterRow = (OS, BinaryFormat, bool, usize);
-
-/// Checks how many notices are left, and that their kind is.
+/// Checks which warnings are left, and that their kinds are.
 fn expect_left<T: AllocGlobal + Abort>(rt: &T, rows: &[FilterRow]) -> Result<(), Fail> {
-    for (system, format, twice, expected) in rows {
-        let found = left(rt.alloc(), *system, *format, *twice)?;
-        assert!(rt; found == Some(*expected), "{format:?}, twice: {twice}");
+    for (i, row) in rows.iter().enumerate() {
+        let found = leaves(rt.alloc(), row)?;
+        assert!(rt; found, "row {i}");
     }
     Ok(())
 }
@@ -136,19 +133,19 @@ fn filter_keeps_empty_kind(rt: HostRuntime) -> Result<(), Fail> {
     expect_left(
         &rt,
         &[
-            (OS::Windows, BinaryFormat::Elf64, false, 0),
-            (OS::Windows, BinaryFormat::Elf64, true, 0),
-            (OS::Windows, BinaryFormat::Elf32, false, 0),
-            (OS::Windows, BinaryFormat::Macho, false, 0),
-            (OS::Windows, BinaryFormat::Wasm, false, 0),
-            (OS::Windows, BinaryFormat::PE, true, 1),
-            (OS::Windows, BinaryFormat::Unknown, false, 1),
-            (OS::VisionOS, BinaryFormat::Macho, false, 1),
-            (OS::VisionOS, BinaryFormat::Elf32, false, 0),
-            (OS::Linux, BinaryFormat::Elf32, false, 1),
-            (OS::Linux, BinaryFormat::PE, false, 0),
-            (OS::None, BinaryFormat::Wasm, false, 1),
-            (OS::Unknown, BinaryFormat::Elf64, false, 1),
+            (OS::Windows, BinaryFormat::Elf64, false, false),
+            (OS::Windows, BinaryFormat::Elf64, true, false),
+            (OS::Windows, BinaryFormat::Elf32, false, false),
+            (OS::Windows, BinaryFormat::Macho, false, false),
+            (OS::Windows, BinaryFormat::Wasm, false, false),
+            (OS::Windows, BinaryFormat::PE, true, true),
+            (OS::Windows, BinaryFormat::Unknown, false, true),
+            (OS::VisionOS, BinaryFormat::Macho, false, true),
+            (OS::VisionOS, BinaryFormat::Elf32, false, false),
+            (OS::Linux, BinaryFormat::Elf32, false, true),
+            (OS::Linux, BinaryFormat::PE, false, false),
+            (OS::None, BinaryFormat::Wasm, false, true),
+            (OS::Unknown, BinaryFormat::Elf64, false, true),
         ],
     )
 }
@@ -168,18 +165,29 @@ fn file(alloc: Global, id: &str, extra: &str) -> Result<SourceFile, Fail> {
     })
 }
 
-/// Returns a file of an informational advisory.
-fn informational_file(alloc: Global, kind: &str) -> Result<SourceFile, Fail> {
+/// The informational advisories: their kinds, and the ends of their IDs.
+const INFORMATIONAL: &[(&str, &str)] = &[
+    ("unmaintained", "3"),
+    ("notice", "4"),
+    ("unsound", "5"),
+    ("x", "6"),
+];
+
+/// Returns the file of an informational advisory.
+fn informational_file(alloc: Global, kind: &str, end: &str) -> Result<SourceFile, Fail> {
+    let id = format!(in alloc; "RUSTSEC-2001-000{end}")?;
     let extra = format!(in alloc; "informational = \"{kind}\"")?;
-    file(alloc, "RUSTSEC-2001-0003", &extra)
+    file(alloc, &id, &extra)
 }
 
-/// Returns a plain advisory, a withdrawn one, and an informational one of a kind.
-fn database(alloc: Global, kind: &str) -> Result<Database, Fail> {
+/// Returns a plain advisory, a withdrawn one, and an informational one of each kind.
+fn database(alloc: Global) -> Result<Database, Fail> {
     let mut files = Vec::new(alloc);
     files.push(file(alloc, "RUSTSEC-2001-0001", "")?)?;
     files.push(file(alloc, "RUSTSEC-2001-0002", "withdrawn = \"2001-02-04\"")?)?;
-    files.push(informational_file(alloc, kind)?)?;
+    for (kind, end) in INFORMATIONAL {
+        files.push(informational_file(alloc, kind, end)?)?;
+    }
     Ok(Database::load(alloc, &files)?)
 }
 
@@ -201,31 +209,33 @@ fn lockfile(alloc: Global, twice: bool) -> Result<Lockfile, Fail> {
     Ok(Lockfile::from_str(alloc, &text)?)
 }
 
-/// The settings of a report, and its expected contents.
+/// The settings of a report, and its expected contents, its warnings as lines.
 #[derive(Clone, Copy)]
 struct Row<'a> {
     twice: bool,
     ignored: &'a str,
-    kind: &'a str,
+    kinds: &'a [&'a str],
     vulnerabilities: usize,
-    warnings: Option<usize>,
+    warnings: &'a str,
     packages: usize,
 }
 
-/// Returns settings of severity High, which ask for warnings of a kind and ignore an advisory.
+/// Returns settings of severity High, which ask for warnings of some kinds and ignore an advisory.
 fn settings(alloc: Global, row: &Row<'_>) -> Result<Settings, Fail> {
     let mut settings = Settings::new(alloc);
     settings.severity = Some(Severity::High);
-    settings
-        .informational_warnings
-        .push(Informational::from_str(alloc, row.kind)?)?;
+    for kind in row.kinds {
+        settings
+            .informational_warnings
+            .push(Informational::from_str(alloc, kind)?)?;
+    }
     settings.ignore.push(Id::from_str(alloc, row.ignored)?)?;
     Ok(settings)
 }
 
 /// Returns the report of a row.
 fn report(alloc: Global, row: &Row<'_>) -> Result<Report, Fail> {
-    let database = database(alloc, row.kind)?;
+    let database = database(alloc)?;
     let lockfile = lockfile(alloc, row.twice)?;
     let settings = settings(alloc, row)?;
     Ok(Report::generate(alloc, &database, &lockfile, &settings)?)
@@ -243,22 +253,26 @@ fn are_of_first(list: &[Vulnerability], id: &str) -> bool {
     true
 }
 
-/// Returns whether a report has what a row wants.
+/// Returns whether a report has what a row wants, besides its warnings.
 fn is_wanted(report: &Report, row: &Row<'_>) -> bool {
     let info = &report.vulnerabilities;
-    let warnings = report.warnings.get(&WarningKind::Unmaintained);
     info.count == row.vulnerabilities
         && info.list.len() == row.vulnerabilities
         && info.found == (row.vulnerabilities > 0)
         && are_of_first(info.list.as_slice(), "RUSTSEC-2001-0001")
-        && warnings.map(|list| list.len()) == row.warnings
         && report.lockfile.dependency_count == row.packages
+}
+
+/// Returns whether warnings are those of some lines, and no others.
+fn are_warnings(alloc: Global, warnings: &WarningInfo, expected: &str) -> Result<bool, Fail> {
+    let lines = warning_lines(alloc, warnings)?;
+    Ok(lines.as_str() == expected)
 }
 
 /// Returns whether the report of a row has what the row wants.
 fn is_as_wanted(alloc: Global, row: &Row<'_>) -> Result<bool, Fail> {
     let report = report(alloc, row)?;
-    Ok(is_wanted(&report, row))
+    Ok(is_wanted(&report, row) && are_warnings(alloc, &report.warnings, row.warnings)?)
 }
 
 /// Checks reports.
@@ -286,32 +300,43 @@ fn vulnerabilities_are_copied(alloc: Global, row: &Row<'_>) -> Result<bool, Fail
     Ok(copy.count == report.vulnerabilities.count && copy.list == report.vulnerabilities.list)
 }
 
-/// Returns how many warnings `find_warnings` finds for a row by copied settings.
-fn warnings_found(alloc: Global, row: &Row<'_>) -> Result<Option<usize>, Fail> {
+/// Returns whether `find_warnings` finds the warnings of a row by copied settings.
+fn finds_warnings(alloc: Global, row: &Row<'_>) -> Result<bool, Fail> {
     let settings = settings(alloc, row)?;
     let copy = settings.clone(alloc)?;
-    let (database, lockfile) = (database(alloc, row.kind)?, lockfile(alloc, row.twice)?);
+    let (database, lockfile) = (database(alloc)?, lockfile(alloc, row.twice)?);
     let warnings = find_warnings(alloc, &database, &lockfile, &copy)?;
-    Ok(
-        warnings
-            .get(&WarningKind::Unmaintained)
-            .map(|list| list.len()),
-    )
+    are_warnings(alloc, &warnings, row.warnings)
 }
+
+/// The warnings of the three kinds about a package that is listed once.
+const EACH_KIND: &str = "notice base 1.0.0 RUSTSEC-2001-0004\n\
+    unmaintained base 1.0.0 RUSTSEC-2001-0003\n\
+    unsound base 1.0.0 RUSTSEC-2001-0005\n";
+
+/// The warnings of the three kinds about a package that is listed twice.
+const EACH_KIND_TWICE: &str =
+    "notice base 1.0.0 RUSTSEC-2001-0004\nnotice base 1.0.0 RUSTSEC-2001-0004\n\
+    unmaintained base 1.0.0 RUSTSEC-2001-0003\nunmaintained base 1.0.0 RUSTSEC-2001-0003\n\
+    unsound base 1.0.0 RUSTSEC-2001-0005\nunsound base 1.0.0 RUSTSEC-2001-0005\n";
+
+/// The warnings of one kind about it.
+const UNMAINTAINED_TWICE: &str =
+    "unmaintained base 1.0.0 RUSTSEC-2001-0003\nunmaintained base 1.0.0 RUSTSEC-2001-0003\n";
 
 #[test]
 fn reports_with_ample_memory(rt: HostRuntime) -> Result<(), Fail> {
     let row = Row {
         twice: true,
         ignored: "RUSTSEC-2001-0009",
-        kind: "unmaintained",
+        kinds: &["unmaintained", "notice", "unsound"],
         vulnerabilities: 2,
-        warnings: Some(2),
+        warnings: EACH_KIND_TWICE,
         packages: 5,
     };
     assert!(rt; report_is_copied(rt.alloc(), &row)?);
     assert!(rt; vulnerabilities_are_copied(rt.alloc(), &row)?);
-    assert!(rt; warnings_found(rt.alloc(), &row)? == row.warnings);
+    assert!(rt; finds_warnings(rt.alloc(), &row)?);
     Ok(())
 }
 
@@ -320,12 +345,55 @@ fn report_of_four_packages(rt: HostRuntime) -> Result<(), Fail> {
     let row = Row {
         twice: false,
         ignored: "RUSTSEC-2001-0009",
-        kind: "unmaintained",
+        kinds: &["unmaintained"],
         vulnerabilities: 1,
-        warnings: Some(1),
+        warnings: "unmaintained base 1.0.0 RUSTSEC-2001-0003\n",
         packages: 4,
     };
     expect_reports(&rt, &[row])
+}
+
+/// Each kind that is asked for alone, with its warnings, and all of them; an advisory is ignored for warnings too.
+const KINDS: &[(&[&str], &str, &str)] = &[
+    (
+        &["notice"],
+        "RUSTSEC-2001-0009",
+        "notice base 1.0.0 RUSTSEC-2001-0004\n",
+    ),
+    (
+        &["unsound"],
+        "RUSTSEC-2001-0009",
+        "unsound base 1.0.0 RUSTSEC-2001-0005\n",
+    ),
+    (
+        &["unsound", "x", "notice", "unmaintained"],
+        "RUSTSEC-2001-0009",
+        EACH_KIND,
+    ),
+    (
+        &["notice", "unmaintained", "unsound"],
+        "RUSTSEC-2001-0003",
+        "notice base 1.0.0 RUSTSEC-2001-0004\nunsound base 1.0.0 RUSTSEC-2001-0005\n",
+    ),
+    (&["notice"], "RUSTSEC-2001-0004", ""),
+    (&[], "RUSTSEC-2001-0009", ""),
+];
+
+#[test]
+fn kinds_of_warnings(rt: HostRuntime) -> Result<(), Fail> {
+    for (kinds, ignored, warnings) in KINDS {
+        let row = Row {
+            twice: false,
+            ignored,
+            kinds,
+            vulnerabilities: 1,
+            warnings,
+            packages: 4,
+        };
+        let found = is_as_wanted(rt.alloc(), &row)?;
+        assert!(rt; found, "{warnings}");
+    }
+    Ok(())
 }
 
 #[test]
@@ -336,26 +404,26 @@ fn report_repeats(rt: HostRuntime) -> Result<(), Fail> {
             Row {
                 twice: true,
                 ignored: "RUSTSEC-2001-0009",
-                kind: "unmaintained",
+                kinds: &["unmaintained"],
                 vulnerabilities: 2,
-                warnings: Some(2),
+                warnings: UNMAINTAINED_TWICE,
                 packages: 5,
             },
             Row {
                 twice: true,
                 ignored: "RUSTSEC-2001-0001",
-                kind: "unmaintained",
+                kinds: &["unmaintained"],
                 vulnerabilities: 0,
-                warnings: Some(2),
+                warnings: UNMAINTAINED_TWICE,
                 packages: 5,
             },
             // Another kind is asked for, and gives no warning.
             Row {
                 twice: true,
                 ignored: "RUSTSEC-2001-0009",
-                kind: "x",
+                kinds: &["x"],
                 vulnerabilities: 2,
-                warnings: None,
+                warnings: "",
                 packages: 5,
             },
         ],

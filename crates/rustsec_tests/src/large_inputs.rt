@@ -1,0 +1,42 @@
+//! Large inputs with ample memory: no call answers that memory ran out, and none answers wrongly. Inputs and expected
+//! answers are both made from a number of elements; docs/TESTING.md lists the sizes.
+
+mod descriptions;
+mod files;
+mod folders;
+mod requirements;
+mod texts;
+
+use std::alloc::Global;
+use std::test::Fail;
+
+/// How many requirements each of two lists has.
+const REQUIREMENTS: u32 = 300;
+
+/// How many packages a lockfile has.
+const PACKAGES: u32 = 10000;
+
+/// How many advisories a database has.
+const ADVISORIES: u32 = 2000;
+
+/// How many functions an advisory has.
+const FUNCTIONS: u32 = 2000;
+
+/// How many bytes a long text has.
+const LONG: usize = 65536;
+
+/// Returns a template for each number from 1 to a count, in order, with the number in the place of each `@`.
+fn numbered(alloc: Global, count: u32, template: &str) -> Result<String, Fail> {
+    let mut text = String::new(alloc);
+    for at in 0..count {
+        let number = format!(in alloc; "{}", at + 1)?;
+        let one = template.replace(alloc, "@", &number)?;
+        text.push_str(&one)?;
+    }
+    Ok(text)
+}
+
+/// Returns how often a text contains another one.
+fn occurrences(text: &str, part: &str) -> usize {
+    text.matches(part).count()
+}

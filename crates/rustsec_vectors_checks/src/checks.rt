@@ -1,0 +1,285 @@
+//! Checks of a lockfile, and of many.
+
+use crate::answers::{Lists, tree, writes};
+use crate::files::{HTTP, IGNORED, LEFT};
+use rustsec_fixtures::changed;
+use std::alloc::Global;
+use std::test::Fail;
+
+/// Returns whether words give the tree with these lists on one line, with this status.
+fn gives(alloc: Global, words: &[&str], status: u8, lists: Lists<'_>) -> Result<bool, Fail> {
+    let tree = tree(alloc, lists)?;
+    let line = format!(in alloc; "{tree}\n")?;
+    Ok(writes(alloc, words, "", status, line.as_str())?)
+}
+
+/// Returns the finding of `http` with a part of its text replaced, and after it that of `left`.
+fn both(alloc: Global, old: &str, new: &str) -> Result<String, Fail> {
+    let http = changed(alloc, HTTP, old, new)?;
+    Ok(format!(in alloc; "{http},{LEFT}")?)
+}
+
+// The first of the shortest paths from the member of the workspace, and who depends on the package itself.
+#[test]
+fn check_why(rt: HostRuntime) -> Result<(), Fail> {
+    let findings = both(rt.alloc(), "", "")?;
+    let lists = Lists {
+        findings: findings.as_str(),
+        ignored: "",
+        unused: "",
+        unknown: "",
+    };
+    let words = &["check", "db", "lock", "--format", "json"];
+    assert!(rt; gives(rt.alloc(), words, 1, lists)?, "a check");
+    Ok(())
+}
+
+// One advisory alone is mended by 2.0.0, which the other one affects up to 2.1.0. It counts although it is ignored, and
+// is named.
+#[test]
+fn check_least_free(rt: HostRuntime) -> Result<(), Fail> {
+    let named = r#""ignored":["RUSTSEC-2021-0002"],"least-free":"2.1.0""#;
+    let findings = both(rt.alloc(), r#""ignored":[],"least-free":"2.1.0""#, named)?;
+    let lists = Lists {
+        findings: findings.as_str(),
+        ignored: "",
+        unused: r#""RUSTSEC-2021-0002""#,
+        unknown: "",
+    };
+    let words = &[
+        "check",
+        "db",
+        "lock",
+        "--format",
+        "json",
+        "--ignore",
+        "RUSTSEC-2021-0002",
+    ];
+    assert!(rt; gives(rt.alloc(), words, 1, lists)?, "a check");
+    Ok(())
+}
+
+/// Returns whether a check on a day by the policy writes what is wanted: up to its last day an entry counts.
+fn follows_policy(alloc: Global, today: &str, lists: Lists<'_>) -> Result<bool, Fail> {
+    let words = &[
+        "check", "db", "lock", "--policy", "policy", "--today", today,
+    ];
+    gives(alloc, words, 1, lists)
+}
+
+#[test]
+fn check_policy(rt: HostRuntime) -> Result<(), Fail> {
+    let left = changed(rt.alloc(), LEFT, r#""denied":false"#, r#""denied":true"#)?;
+    let counted = Lists {
+        findings: left.as_str(),
+        ignored: IGNORED,
+        unused: r#""RUSTSEC-2021-0002""#,
+        unknown: r#""RUSTSEC-2018-0001""#,
+    };
+    assert!(rt;
+        follows_policy(rt.alloc(), "2026-03-31", counted)?,
+        "the last day"
+    );
+    Ok(())
+}
+
+#[test]
+fn check_unused_ignore(rt: HostRuntime) -> Result<(), Fail> {
+    let named = r#""ignored":["RUSTSEC-2021-0002"],"least-free":"2.1.0""#;
+    let http = changed(
+        rt.alloc(),
+        HTTP,
+        r#""ignored":[],"least-free":"2.1.0""#,
+        named,
+    )?;
+    let left = changed(rt.alloc(), LEFT, r#""denied":false"#, r#""denied":true"#)?;
+    let findings = format!(in rt.alloc(); "{http},{left}")?;
+    let over = Lists {
+        findings: findings.as_str(),
+        ignored: "",
+        unused: r#""RUSTSEC-2021-0002""#,
+        unknown: r#""RUSTSEC-2018-0001""#,
+    };
+    assert!(rt;
+        follows_policy(rt.alloc(), "2026-04-01", over)?,
+        "the day after"
+    );
+    Ok(())
+}
+
+// The older lockfile has the package in this version, so its finding does not count; another version is another package.
+#[test]
+fn check_baseline(rt: HostRuntime) -> Result<(), Fail> {
+    for (baseline, status, old) in [("old", 0, r#""old":true"#), ("older", 1, r#""old":false"#)] {
+        let findings = both(rt.alloc(), r#""old":false"#, old)?;
+        let lists = Lists {
+            findings: findings.as_str(),
+            ignored: "",
+            unused: "",
+            unknown: "",
+        };
+        let words = &[
+            "check",
+            "db",
+            "lock",
+            "--format",
+            "json",
+            "--baseline",
+            baseline,
+        ];
+        assert!(rt; gives(rt.alloc(), words, status, lists)?, "{baseline}");
+    }
+    Ok(())
+}
+
+/// Words, an input, the status and the output.
+type Row<'a> = (&'a [&'a str], &'a str, u8, &'a str);
+
+/// An empty database or lockfile is refused, and so is what cannot be read.
+const REFUSED: &[Row<'static>] = &[
+    (&["check", "empty", "lock"], "", 2, "refused: not found\n"),
+    (&["check", "db", "none"], "", 2, "refused: not found\n"),
+    (
+        &["check", "db", "absent"],
+        "",
+        2,
+        "refused: I/O operation failed\n",
+    ),
+    (&["check", "db", "broken"], "", 2, "refused: parse error\n"),
+    (
+        &["check", "db", "lock", "--policy", "misspelled"],
+        "",
+        2,
+        "refused: parse error\n",
+    ),
+    (
+        &["check", "db", "lock", "--policy", "policy"],
+        "",
+        2,
+        "refused: bad parameter\n",
+    ),
+    (
+        &["check", "db", "lock", "--deny", "vulnerabilities"],
+        "",
+        2,
+        "refused: parse error\n",
+    ),
+    (
+        &["check", "db", "lock", "--ignored"],
+        "",
+        2,
+        "usage: rustsec_audit COMMAND\n",
+    ),
+    (&["check", "db"], "", 2, "usage: rustsec_audit COMMAND\n"),
+    (
+        &[
+            "check",
+            "empty",
+            "none",
+            "--allow-empty",
+            "--format",
+            "json",
+        ],
+        "",
+        0,
+        "{\"below-threshold\":0,\"database\":{\"advisory-count\":0,\"last-date\":null},\"findings\":[],\"ignored\":[],\"lockfile\":{\"dependency-count\":0},\"notes\":[],\"unknown-ignores\":[],\"unused-ignores\":[]}\n",
+    ),
+];
+
+#[test]
+fn check_empty(rt: HostRuntime) -> Result<(), Fail> {
+    for (words, input, status, text) in REFUSED {
+        assert!(rt;
+            writes(rt.alloc(), words, input, *status, text)?,
+            "of {words:?}"
+        );
+    }
+    Ok(())
+}
+
+// A refused lockfile stops nothing, and what one lockfile is answered does not hang on the others.
+#[test]
+fn check_many(rt: HostRuntime) -> Result<(), Fail> {
+    let findings = both(rt.alloc(), "", "")?;
+    let lists = Lists {
+        findings: findings.as_str(),
+        ignored: "",
+        unused: "",
+        unknown: "",
+    };
+    let tree = tree(rt.alloc(), lists)?;
+    let lines = format!(in rt.alloc();
+        "{{\"lockfile\":\"absent\",\"message\":\"the folders fail\",\"refused\":\"I/O operation failed\"}}\n{{\"check\":{tree},\"lockfile\":\"lock\"}}\n"
+    )?;
+    let words = &["check-many", "db"];
+    assert!(rt;
+        writes(rt.alloc(), words, "absent\nlock\n", 2, lines.as_str())?,
+        "two lockfiles"
+    );
+    Ok(())
+}
+
+/// What `explain` answers of a name, of IDs and of an unknown name.
+const EXPLAINED: &[Row<'static>] = &[
+    (
+        &["explain", "db", "lock", "http"],
+        "",
+        0,
+        "http 1.0.0 RUSTSEC-2021-0001: affected\nhttp 1.0.0 RUSTSEC-2021-0002: unaffected `<1.5.0` holds 1.0.0\n",
+    ),
+    (
+        &[
+            "explain",
+            "db",
+            "lock",
+            "RUSTSEC-2021-0001",
+            "--ignore",
+            "RUSTSEC-2021-0001",
+        ],
+        "",
+        0,
+        "http 1.0.0 RUSTSEC-2021-0001: the ID `RUSTSEC-2021-0001` is ignored\n",
+    ),
+    (
+        &[
+            "explain",
+            "db",
+            "lock",
+            "RUSTSEC-2021-0002",
+            "--format",
+            "json",
+        ],
+        "",
+        0,
+        "[{\"advisory\":\"RUSTSEC-2021-0002\",\"finding\":false,\"package\":{\"name\":\"http\",\"source\":\"registry+https://github.com/rust-lang/crates.io-index\",\"version\":\"1.0.0\"},\"reasons\":[{\"reason\":\"held-by-unaffected\",\"requirement\":\"<1.5.0\"}]}]\n",
+    ),
+    (
+        &["explain", "db", "lock", "nothing"],
+        "",
+        0,
+        "no pair of a package and an advisory with this name or ID\n",
+    ),
+    (
+        &["explain", "db", "absent", "http"],
+        "",
+        2,
+        "refused: I/O operation failed\n",
+    ),
+    (
+        &["explain", "db", "lock"],
+        "",
+        2,
+        "usage: rustsec_audit COMMAND\n",
+    ),
+];
+
+#[test]
+fn explain(rt: HostRuntime) -> Result<(), Fail> {
+    for (words, input, status, text) in EXPLAINED {
+        assert!(rt;
+            writes(rt.alloc(), words, input, *status, text)?,
+            "of {words:?}"
+        );
+    }
+    Ok(())
+}

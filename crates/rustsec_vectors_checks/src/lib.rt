@@ -1,0 +1,10 @@
+//! Worked examples of checks and explanations, each a test with a name of its own. Expected values are worked by hand
+//! from the rules in `docs/DEFINITIONS.md`.
+#![tactic(auto)]
+
+#[cfg(test)]
+mod answers;
+#[cfg(test)]
+mod checks;
+#[cfg(test)]
+mod files;

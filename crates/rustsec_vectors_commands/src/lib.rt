@@ -1,0 +1,26 @@
+//! Worked examples of reports and commands, each a test with a name of its own. Expected values come from outside: from
+//! the rules in `docs/DEFINITIONS.md`, worked by hand, or from the Rust crate.
+#![tactic(auto)]
+
+#[cfg(test)]
+mod ample_memory;
+#[cfg(test)]
+mod audit_command;
+#[cfg(test)]
+mod commands;
+#[cfg(test)]
+mod commands_over_folders;
+#[cfg(test)]
+mod disk;
+#[cfg(test)]
+mod lint;
+#[cfg(test)]
+mod osv_command;
+#[cfg(test)]
+mod outputs;
+#[cfg(test)]
+mod readers_and_writers;
+#[cfg(test)]
+mod reports;
+#[cfg(test)]
+mod roots;
