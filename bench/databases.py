@@ -125,6 +125,15 @@ def random_version(r):
     return numbers + r.choice(["", "", "", "", "-a", "-rc.1", "+b", "-0"])
 
 
+def large_lockfile(r, count):
+    """A lockfile of so many packages, a few of the database's names among them."""
+    parts = ["version = 4\n"]
+    for i in range(count):
+        name = r.choice(NAMES) if r.random() < 0.01 else f"package-{i}"
+        parts.append(package(name, random_version(r), REGISTRY, checksum(r)))
+    return "".join(parts).encode()
+
+
 def random_lockfile(r):
     """The text of a lockfile with a few packages of the database's names."""
     parts = [r.choice(["version = 3\n", "version = 4\n", "version = 4\n"])]

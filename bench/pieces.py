@@ -29,13 +29,16 @@ def unescaped(literal):
     return re.sub(r"\\(.)", lambda m: ESCAPES.get(m[1], m[1]), literal)
 
 
+TEST_CRATES = ("rustsec_fixtures", "rustsec_tests", "rustsec_vectors", "rustsec_vectors_databases", "rustsec_vectors_commands")
+
+
 def texts_of_tests():
     """Each text that a test has written out."""
     found = set()
-    for crate in ("rustsec_fixtures", "rustsec_tests", "rustsec_vectors"):
+    for crate in TEST_CRATES:
         folder = os.path.join(TOP, "crates", crate, "src")
-        for name in sorted(os.listdir(folder)):
-            with open(os.path.join(folder, name), encoding="utf-8") as f:
+        for path in sorted(os.path.join(top, name) for top, _, names in os.walk(folder) for name in names):
+            with open(path, encoding="utf-8") as f:
                 source = f.read()
             for raw, plain in re.findall(r'r#"(.*?)"#|"((?:[^"\\]|\\.)*)"', source, re.S):
                 found.add(raw or unescaped(plain))
@@ -63,6 +66,8 @@ KNOWN = {
     "keyword": (["how"], []), "license": (["CC0-1.0"], []), "name": (["base"], [""]), "os": advisories.SYSTEMS,
     "path": advisories.PATHS, "source": advisories.SOURCES, "warning": (["notice", "yanked"], []),
 }
+# How often an input is a large one, and the most that it has: the sizes of "Large inputs" in docs/TESTING.md.
+LARGE, REQUIREMENTS, DESCRIPTION, PACKAGES, FUNCTIONS = 0.001, 300, 1 << 20, 10_000, 2_000
 # Each reader, and how often it is asked.
 READERS = {reader: 3 for reader in KNOWN} | {"advisory": 6, "lint": 6, "parts": 5, "lockfile": 8, "osv": 14}
 
@@ -183,8 +188,48 @@ def changed(r, data, other):
     return long(r, data, other) if r.random() < 0.002 else data
 
 
+def size(r, most):
+    """A size up to a limit. Each power of two is as frequent as the next."""
+    return int(most ** r.random())
+
+
+def disjoint(r):
+    """Requirements that don't overlap: unaffected ones of one version each, and patched ones."""
+    unaffected = [f"=0.0.{i}" for i in range(1, size(r, REQUIREMENTS) + 1)]
+    patched = [f">={i}.0.0, <{i}.5.0" for i in range(1, size(r, REQUIREMENTS) + 1)]
+    return unaffected, patched
+
+
+def large_advisory(r):
+    """An advisory with many requirements, a long description or many functions."""
+    kind = r.choice(["requirements", "description", "functions"])
+    unaffected, patched = disjoint(r) if kind == "requirements" else ([], [">= 1.2.3"])
+    words = ["chance ", "é", "``", "\n", "# T\n"]
+    description = r.choice(words) * (size(r, DESCRIPTION) // 7) if kind == "description" else "D"
+    functions = "".join(f'"base::f{i}" = ["< 1.2.3"]\n' for i in range(size(r, FUNCTIONS))) if kind == "functions" else ""
+    return (
+        f'{advisories.FENCE}toml\n[advisory]\nid = "RUSTSEC-2021-0001"\npackage = "base"\ndate = "2021-02-03"\n'
+        f"[versions]\npatched = {json.dumps(patched)}\nunaffected = {json.dumps(unaffected)}\n"
+        f"[affected.functions]\n{functions}{advisories.FENCE}\n\n# T\n\n{description}\n"
+    )
+
+
+def large_lines(r, command):
+    """An input of `affected` or `ranges` with many requirements."""
+    unaffected, patched = disjoint(r)
+    found = [f"unaffected {req}" for req in unaffected] + [f"patched {req}" for req in patched]
+    if command == "affected":
+        found += [f"version {r.randrange(REQUIREMENTS)}.{r.randrange(9)}.0" for _ in range(size(r, REQUIREMENTS))]
+    r.shuffle(found)
+    return "\n".join(found).encode() + b"\n"
+
+
 def text_for(r, reader):
     """A text that a reader may take."""
+    if r.random() < LARGE and reader in ("advisory", "lint", "parts"):
+        return large_advisory(r)
+    if r.random() < LARGE and reader == "lockfile":
+        return databases.large_lockfile(r, size(r, PACKAGES)).decode()
     kind = r.random()
     if reader in KNOWN:
         return r.choice(SHORT) if kind < 0.3 else r.choice(r.choice([v for v in KNOWN[reader] if v]))
@@ -216,4 +261,6 @@ def lockfile_input(r):
 
 def lines_input(r, command):
     """The bytes of an input of `affected` or `ranges`."""
+    if r.random() < LARGE:
+        return changed(r, large_lines(r, command), lines.random_input(r, command))
     return changed(r, lines.random_input(r, command), lines.random_input(r, command))

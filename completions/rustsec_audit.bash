@@ -2,7 +2,7 @@
 # ~/.local/share/bash-completion/completions under the name rustsec_audit.
 _rustsec_audit() {
     local word=${COMP_WORDS[COMP_CWORD]}
-    local commands="audit report lint osv affected ranges"
+    local commands="audit report check check-many explain lint osv affected ranges"
     local options=""
     COMPREPLY=()
     if [ "$COMP_CWORD" -eq 1 ]; then
@@ -12,6 +12,9 @@ _rustsec_audit() {
     case ${COMP_WORDS[1]} in
         audit) options="--ignore --deny-warnings" ;;
         report) options="" ;;
+        check) options="--policy --today --baseline --ignore --deny --severity --arch --os --format --color --allow-empty" ;;
+        check-many) options="--policy --today --baseline --ignore --deny --severity --arch --os --format --color --allow-empty --null" ;;
+        explain) options="--policy --today --baseline --ignore --deny --severity --arch --os --format --color --allow-empty" ;;
         lint) options="" ;;
         osv) options="" ;;
         *) return ;;
