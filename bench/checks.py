@@ -1,34 +1,39 @@
-"""Random databases, lockfiles, policies and words for `check --format json`, and what it must answer: the rules of
-docs/DEFINITIONS.md, written a second time, with a search of its own for paths and for least free versions."""
+"""Random databases, lockfiles, policies and words for `check` and `check-many`. check_rules.py says what is wanted."""
 import json
 import os
-import re
 
+import check_rules
 import databases
 import rules
+from check_rules import KINDS, REGISTRY, SEVERITIES, SPARSE
 
-REGISTRY = databases.REGISTRY
-SPARSE = "sparse+https://index.crates.io/"
 ELSEWHERE = "registry+https://example.com/index"
-DEFAULT_REGISTRIES = (REGISTRY, SPARSE)
+COMMIT = "0123456789012345678901234567890123456789"
+GIT = [f"git+https://github.com/example/base?branch=master#{COMMIT}", f"git+https://github.com/example/base#{COMMIT}"]
 NAMES = ["app", "base", "http", "left", "tool"]
-VERSIONS = ["0.0.3", "0.1.0", "0.1.5", "1.0.0", "1.2.3-alpha.1", "1.2.3", "1.2.3+b", "1.2.4", "1.9.9", "2.0.0", "2.1.0", "3.0.0"]
+VERSIONS = [
+    "0.0.3", "0.1.0", "0.1.5", "1.0.0", "1.2.3-alpha.1", "1.2.3", "1.2.3+b", "1.2.4", "1.9.9", "2.0.0", "2.1.0",
+    "3.0.0",
+]
 REQUIREMENTS = [
-    ">= 1.2.3", "> 1.2.3", "^1.2.3", "~1.2", "= 1.2.3", ">= 2.0.0", "^2", "^0.1.2", "^0.0.3", "> 2.1.0", ">= 1.0.0, < 1.2.0",
-    ">= 0.1.5, < 1.0.0", "< 0.1.0", "< 1.0.0", "<= 0.1.0", "< 1.2.3-alpha.1", ">= 3.0.0", ">= 4.0.0-rc.1",
+    ">= 1.2.3", "> 1.2.3", "^1.2.3", "~1.2", "= 1.2.3", ">= 2.0.0", "^2", "^0.1.2", "^0.0.3", "> 2.1.0",
+    ">= 1.0.0, < 1.2.0", ">= 0.1.5, < 1.0.0", "< 0.1.0", "< 1.0.0", "<= 0.1.0", "< 1.2.3-alpha.1", ">= 3.0.0",
+    ">= 4.0.0-rc.1", "> 1.2.3-alpha.1", "> 1.2.3-beta, < 1.9.0",
 ]
 VECTORS = [
     ("CVSS:3.1/AV:N/AC:L/PR:N/UI:N/S:C/C:H/I:H/A:H", "10.0", "critical"),
     ("CVSS:3.1/AV:N/AC:L/PR:N/UI:N/S:U/C:H/I:H/A:H", "9.8", "critical"),
     ("CVSS:3.1/AV:N/AC:L/PR:N/UI:N/S:U/C:N/I:N/A:H", "7.5", "high"),
+    ("CVSS:3.0/AV:N/AC:L/PR:N/UI:R/S:C/C:L/I:L/A:N", "6.1", "medium"),
     ("CVSS:3.1/AV:L/AC:L/PR:L/UI:N/S:U/C:N/I:N/A:H", "5.5", "medium"),
     ("CVSS:3.1/AV:P/AC:H/PR:H/UI:R/S:U/C:L/I:N/A:N", "1.6", "low"),
     ("CVSS:3.1/AV:N/AC:L/PR:N/UI:N/S:U/C:N/I:N/A:N", "0.0", "none"),
+    ("CVSS:4.0/AV:N/AC:L/AT:N/PR:N/UI:N/VC:H/VI:H/VA:H/SC:N/SI:N/SA:N", None, None),
 ]
-SEVERITIES = ["none", "low", "medium", "high", "critical"]
 ARCHES = ["x86_64", "aarch64", "arm"]
 SYSTEMS = ["linux", "windows", "macos"]
-KINDS = ["notice", "unmaintained", "unsound"]
+TITLES = ["T", "A title", "Memory is read after it was freed", 'A "quoted" \\ title', "Größe → Länge"]
+TODAY = "2025-06-15"
 
 
 class Advisory:
@@ -40,14 +45,14 @@ class Advisory:
         self.collection = r.choice(["crates"] * 9 + ["rust"])
         self.date = f"20{r.randint(19, 25)}-0{r.randint(1, 9)}-1{r.randint(0, 9)}"
         self.withdrawn = f"2025-1{r.randint(0, 2)}-01" if r.random() < 0.1 else None
-        self.informational = r.choice(KINDS) if r.random() < 0.3 else None
+        self.informational = r.choice(KINDS * 4 + ["curious"]) if r.random() < 0.3 else None
         self.vector = r.choice(VECTORS) if r.random() < 0.7 else None
         self.aliases = [f"CVE-2021-{r.randint(1000, 9999)}"] if r.random() < 0.3 else []
         self.url = "https://example.com/a" if r.random() < 0.3 else None
         self.arch = r.sample(ARCHES, r.randint(1, 2)) if r.random() < 0.2 else []
         self.systems = r.sample(SYSTEMS, r.randint(1, 2)) if r.random() < 0.2 else []
         self.source = r.choice([SPARSE, ELSEWHERE]) if r.random() < 0.1 else None
-        self.title = r.choice(["T", "A title", "Memory is read after it was freed"])
+        self.title = r.choice(TITLES)
         self.choose_lists(r)
 
     def choose_lists(self, r):
@@ -57,8 +62,8 @@ class Advisory:
             self.unaffected = r.sample(REQUIREMENTS, r.choice([0, 0, 0, 1, 1]))
             self.intervals = [(rules.Interval(rules.comparators_of(t)), True) for t in self.patched]
             self.intervals += [(rules.Interval(rules.comparators_of(t)), False) for t in self.unaffected]
-            meeting = [(a, b) for i, a in enumerate(self.intervals) for b in self.intervals[i + 1:] if a[0].overlaps(b[0])]
-            if all(a[1] and b[1] for a, b in meeting):
+            pairs = [(a, b) for i, a in enumerate(self.intervals) for b in self.intervals[i + 1:]]
+            if all(a[1] and b[1] for a, b in pairs if a[0].overlaps(b[0])):
                 return
 
     def affects(self, version):
@@ -81,24 +86,22 @@ class Advisory:
 
 
 class Package:
-    def __init__(self, r):
-        self.name, self.version = r.choice(NAMES), r.choice(VERSIONS)
-        self.source = r.choice([REGISTRY] * 7 + [SPARSE, ELSEWHERE, None, None])
-        self.entries = []
+    def __init__(self, r, versions):
+        self.name, self.version = r.choice(NAMES), r.choice(versions)
+        self.source = r.choice([REGISTRY] * 9 + [SPARSE, ELSEWHERE, None, None, None, *GIT])
+        self.entries, self.replace = [], None
 
     def same(self, other):
         return (self.name, self.version, self.source) == (other.name, other.version, other.source)
 
-    def fits(self, entry):
-        texts = [self.name, f"{self.name} {self.version}"]
-        if self.source:
-            texts += [f"{self.name} {self.version} ({self.source})"]
-        return entry in texts
+    def all_entries(self):
+        return self.entries + ([self.replace] if self.replace else [])
 
     def text(self):
         lines = ["", "[[package]]", f'name = "{self.name}"', f'version = "{self.version}"']
         lines += [f'source = "{self.source}"'] if self.source else []
         lines += [f"dependencies = {json.dumps(self.entries)}"] if self.entries else []
+        lines += [f'replace = "{self.replace}"'] if self.replace else []
         return "\n".join(lines) + "\n"
 
     def tree(self):
@@ -108,87 +111,59 @@ class Package:
         return {"name": self.name, "version": self.version}
 
 
+def entry_for(r, package):
+    """A text of an entry that fits a package in a new or an old lockfile, or none."""
+    with_version = f"{package.name} {package.version}"
+    texts = [package.name, with_version, with_version, "gone 1.0.0"]
+    if package.source:
+        short = package.source.partition("#")[0]
+        texts += [f"{with_version} ({source})" for source in (package.source, short, short.partition("?")[0])]
+    return r.choice(texts)
+
+
+class Lockfile:
+    """A lockfile: its packages, or the kind of its refusal."""
+
+    def __init__(self, packages, is_old=False, refused=None, data=None):
+        self.packages, self.is_old, self.refused, self.data = packages, is_old, refused, data
+
+    def text(self):
+        head = "" if self.is_old else "version = 4\n"
+        return self.data or (head + "".join(p.text() for p in self.packages)).encode()
+
+
 def random_packages(r):
     """The packages of a lockfile, each at most once, with dependencies between them."""
-    packages = []
+    packages, versions = [], r.sample(VERSIONS, r.choice([2, 4, len(VERSIONS)]))
     for _ in range(r.choice([1, 2, 4, 6, 9])):
-        package = Package(r)
+        package = Package(r, versions)
         if not any(package.same(other) for other in packages):
             packages.append(package)
     for package in packages:
-        for _ in range(r.choice([0, 0, 1, 1, 2, 3])):
-            to = r.choice(packages)
-            texts = [to.name, f"{to.name} {to.version}"] + ([f"{to.name} {to.version} ({to.source})"] if to.source else [])
-            package.entries.append(r.choice(texts) if r.random() < 0.95 else "gone 1.0.0")
+        package.entries = [entry_for(r, r.choice(packages)) for _ in range(r.choice([0, 0, 1, 1, 2, 3]))]
+        package.replace = entry_for(r, r.choice(packages)) if r.random() < 0.05 else None
     return packages
 
 
-def lockfile_text(packages):
-    return ("version = 4\n" + "".join(p.text() for p in packages)).encode()
+def random_lockfile(r):
+    return Lockfile(random_packages(r) if r.random() < 0.98 else [], is_old=r.random() < 0.2)
 
 
-# ---- paths
-
-
-def edges_of(packages):
-    """For each package the places that its entries name: those that fit exactly one package."""
-    out = []
-    for package in packages:
-        places = []
-        for entry in package.entries:
-            fitting = [i for i, p in enumerate(packages) if p.fits(entry)]
-            places += fitting if len(fitting) == 1 else []
-        out.append(places)
-    return out
-
-
-def path_to(packages, edges, target):
-    """The first of the shortest paths from a root: all paths of each length are made, in order."""
-    needed = {to for at, places in enumerate(edges) for to in places if to != at}
-    roots = [i for i, p in enumerate(packages) if not p.source or i not in needed]
-    paths = sorted([i] for i in roots)
-    for _ in packages:
-        found = [path for path in paths if path[-1] == target]
-        if found:
-            return min(found)
-        paths = sorted(path + [to] for path in paths for to in set(edges[path[-1]]) if to not in path)
-    return None
-
-
-# ---- least free versions
-
-
-def least_free(advisories, version):
-    """The least version from this one on that none of the advisories affects: the version itself, or a place where an
-    interval begins."""
-    if not any(a.affects(version) for a in advisories):
-        return version
-    cuts = []
-    for advisory in advisories:
-        for interval, _ in advisory.intervals:
-            if interval.start:
-                cuts.append(interval.start[0] if interval.start[1] else interval.start[0].successor())
-    free = [c for c in cuts if version.key <= c.key and not any(a.affects(c) for a in advisories)]
-    return min(free, key=lambda v: v.key) if free else None
-
-
-def is_compatible(version, free):
-    caret = rules.Interval([("^", list(version.numbers), version.pre)])
-    return free is not None and caret.holds(free)
-
-
-# ---- what is asked
+# The lockfiles that are refused: no file, no lockfile, no text.
+ABSENT = Lockfile([], refused="I/O operation failed")
+BROKEN = Lockfile([], refused="parse error", data=b"package = 1\n")
+LATIN = Lockfile([], refused="I/O operation failed", data=b"# \xe9\n")
 
 
 class Asked:
     """A policy file and words, and what they come to."""
 
     def __init__(self, r, advisories):
-        ids = [a.id for a in advisories] + ["RUSTSEC-2018-0001"]
-        self.today = "2025-06-15"
+        ids = [a.id for a in advisories] + [i for a in advisories for i in a.aliases] + ["RUSTSEC-2018-0001"]
+        self.today = TODAY if r.random() < 0.9 else None
         self.entries = [self.entry(r, ids) for _ in range(r.choice([0, 0, 1, 2]))]
         self.words_ignored = [r.choice(ids) for _ in range(r.choice([0, 0, 0, 1]))]
-        self.warnings = r.sample(KINDS, r.randint(0, 3)) if r.random() < 0.3 else None
+        self.warnings = r.sample([*KINDS, "curious"], r.randint(0, 3)) if r.random() < 0.3 else None
         self.threshold = r.choice(SEVERITIES) if r.random() < 0.2 else None
         self.word_severity = r.choice(SEVERITIES) if r.random() < 0.1 else None
         denied = ["warnings", "unmaintained", "unsound", "yanked"]
@@ -198,37 +173,50 @@ class Asked:
         self.words_arch = r.sample(ARCHES, 1) if r.random() < 0.1 else []
         self.systems = r.sample(SYSTEMS, 1) if r.random() < 0.15 else []
         self.words_systems = r.sample(SYSTEMS, 1) if r.random() < 0.1 else []
+        self.allows_empty = r.random() < 0.7
+        self.format = r.choice(["json", "terminal"]) if r.random() < 0.2 else None
+        self.says_format = self.format != "json" or r.random() < 0.5
 
     @staticmethod
     def entry(r, ids):
         reason = "it is not called" if r.random() < 0.5 else None
-        until = r.choice(["2025-06-14", "2025-06-15", "2025-06-16"]) if r.random() < 0.4 else None
+        until = r.choice(["2025-06-14", TODAY, "2025-06-16"]) if r.random() < 0.4 else None
         return r.choice(ids), reason, until
 
     def policy(self):
         def entry(id_, reason, until):
             if not reason and not until:
                 return json.dumps(id_)
-            keys = [f'id = "{id_}"'] + ([f'reason = "{reason}"'] if reason else []) + ([f'until = "{until}"'] if until else [])
-            return "{ " + ", ".join(keys) + " }"
+            keys = [f'id = "{id_}"'] + ([f'reason = "{reason}"'] if reason else [])
+            return "{ " + ", ".join(keys + ([f'until = "{until}"'] if until else [])) + " }"
 
         lines = ["[advisories]", "ignore = [" + ", ".join(entry(*e) for e in self.entries) + "]"]
         lines += [f"informational_warnings = {json.dumps(self.warnings)}"] if self.warnings is not None else []
         lines += [f'severity_threshold = "{self.threshold}"'] if self.threshold else []
         lines += ["[output]", f"deny = {json.dumps(self.denied)}"]
+        lines += [f'format = "{self.format}"'] if self.format else []
         lines += ["[target]", f"arch = {json.dumps(self.arch)}", f"os = {json.dumps(self.systems)}"]
         return "\n".join(lines) + "\n"
 
     def words(self):
-        out = ["--today", self.today, "--format", "json", "--allow-empty"]
-        for word, values in (("--ignore", self.words_ignored), ("--deny", self.words_denied), ("--arch", self.words_arch), ("--os", self.words_systems)):
-            for value in values:
-                out += [word, value]
-        return out + (["--severity", self.word_severity] if self.word_severity else [])
+        out = ["--today", self.today] if self.today else []
+        out += ["--format", "json"] if self.says_format else []
+        repeated = (("--ignore", self.words_ignored), ("--deny", self.words_denied), ("--arch", self.words_arch),
+                    ("--os", self.words_systems))
+        out += [word for option, values in repeated for value in values for word in (option, value)]
+        out += ["--severity", self.word_severity] if self.word_severity else []
+        return out + (["--allow-empty"] if self.allows_empty else [])
+
+    def is_refused(self):
+        """Whether an entry has a last day, and no day is given."""
+        return not self.today and any(until for _, _, until in self.entries)
+
+    def entries_today(self):
+        return [entry for entry in self.entries if not entry[2] or self.today <= entry[2]]
 
     def ignored(self):
         """The IDs that are ignored, in order: those of the policy that count today, then those of the words."""
-        return [e[0] for e in self.entries if not e[2] or self.today <= e[2]] + self.words_ignored
+        return [id_ for id_, _, _ in self.entries_today()] + self.words_ignored
 
     def least(self):
         return self.word_severity or self.threshold
@@ -238,120 +226,47 @@ class Asked:
         return kind == "vulnerability" or "warnings" in denied or kind in denied
 
 
-# ---- the check
+class Case:
+    """A database, a lockfile, a baseline and what is asked, written below a folder."""
 
+    def __init__(self, r, folder):
+        self.folder, self.root = folder, os.path.join(folder, "database")
+        os.makedirs(os.path.join(self.root, "crates"))
+        self.advisories = [Advisory(r, number) for number in range(1, r.choice([0, 1, 3, 6, 9, 9]) + 1)]
+        for a in self.advisories:
+            databases.write(self.root, a.collection, a.package, a.id + ".md", a.text().encode())
+        self.advisories.sort(key=lambda a: (("crates", "rust").index(a.collection), a.package, a.id))
+        self.lockfile, self.asked = random_lockfile(r), Asked(r, self.advisories)
+        self.lock = self.write("Cargo.lock", self.lockfile)
+        databases.write(folder, "audit.toml", self.asked.policy().encode())
+        self.options = ["--policy", os.path.join(folder, "audit.toml"), *self.asked.words()]
+        self.refused = "bad parameter" if self.asked.is_refused() else None
+        self.choose_baseline(r)
 
-def is_about(advisory, package):
-    """Whether an advisory is about a package of a default registry: its name, its source, its collection."""
-    wanted = advisory.source or REGISTRY
-    return (package.source in DEFAULT_REGISTRIES and package.source == wanted and advisory.package == package.name
-            and advisory.collection == "crates" and not advisory.withdrawn)
+    def write(self, name, lockfile):
+        databases.write(self.folder, name, lockfile.text())
+        return os.path.join(self.folder, name)
 
+    def choose_baseline(self, r):
+        self.baseline, self.is_baseline_missing = None, False
+        if r.random() < 0.2:
+            self.baseline = [p for p in self.lockfile.packages if r.random() < 0.5]
+            path = self.write("old.lock", Lockfile(self.baseline))
+            self.is_baseline_missing = r.random() < 0.05
+            self.options += ["--baseline", path + ("-" if self.is_baseline_missing else "")]
 
-def is_severe(advisory, least):
-    return not least or not advisory.vector or SEVERITIES.index(advisory.vector[2]) >= SEVERITIES.index(least)
+    def words(self):
+        return ["check", self.root, self.lock, *self.options]
 
+    def answer(self):
+        return check_rules.answer(self)
 
-def on_platforms(advisory, asked):
-    arches, systems = asked.arch + asked.words_arch, asked.systems + asked.words_systems
-    of_arch = not arches or not advisory.arch or set(arches) & set(advisory.arch)
-    return of_arch and (not systems or not advisory.systems or set(systems) & set(advisory.systems))
-
-
-def kind_of(advisory, asked):
-    """The kind of the finding that an advisory gives, or none."""
-    if not advisory.informational:
-        return "vulnerability"
-    wanted = KINDS if asked.warnings is None else asked.warnings
-    return advisory.informational if advisory.informational in wanted else None
-
-
-def pairs(advisories, packages, asked, least):
-    """The pairs of a kind, a place and an advisory that are listed, ignored ones too: package by package, of each the
-    vulnerabilities and then the warnings."""
-    out = []
-    for place, package in enumerate(packages):
-        version = rules.version_of(package.version)
-        hits = [a for a in advisories if is_about(a, package) and a.affects(version) and is_severe(a, least)
-                and on_platforms(a, asked) and kind_of(a, asked)]
-        out += [("vulnerability", place, a) for a in hits if not a.informational]
-        out += [(kind_of(a, asked), place, a) for a in hits if a.informational]
-    return out
-
-
-def update_of(advisories, package, advisory, ignored):
-    version = rules.version_of(package.version)
-    counting = [a for a in advisories if is_about(a, package) and not a.informational]
-    free = least_free(counting + [advisory], version)
-    left = [a for a in counting if a.id not in ignored]
-    without = least_free(left + [advisory], version)
-    command = ["cargo", "update", f"{package.source}#{package.name}@{package.version}"]
-    return {"least-free": str(free) if free else None, "compatible": is_compatible(version, free),
-            "ignored": [a.id for a in counting if a.id in ignored and without and a.affects(without)], "command": command}
-
-
-def printed(requirement):
-    """A requirement as it is printed: without a space after an operator."""
-    return re.sub("([<>=]) ", r"\1", requirement)
-
-
-def advisory_tree(advisory):
-    vector, score, severity = advisory.vector or (None, None, None)
-    return {"id": advisory.id, "title": advisory.title, "date": advisory.date, "url": advisory.url, "cvss": vector,
-            "severity": severity, "score": score, "aliases": advisory.aliases}
-
-
-def check(advisories, packages, asked, baseline):
-    """The answer without its notes, and the status."""
-    ignored, edges = asked.ignored(), edges_of(packages)
-    listed = pairs(advisories, packages, asked, asked.least())
-    findings, passed = [], []
-    for kind, place, advisory in listed:
-        package = packages[place]
-        if advisory.id in ignored:
-            found = [e for e in asked.entries if e[0] == advisory.id]
-            _, reason, until = found[0] if found else (None, None, None)
-            passed.append({"kind": kind, "advisory": advisory.id, "package": package.tree(), "reason": reason, "until": until})
-            continue
-        path = path_to(packages, edges, place)
-        findings.append({
-            "kind": kind, "denied": asked.denies(kind), "old": baseline is not None and any(package.same(p) for p in baseline),
-            "advisory": advisory_tree(advisory), "package": package.tree(),
-            "versions": {"patched": list(map(printed, advisory.patched)), "unaffected": list(map(printed, advisory.unaffected))},
-            "path": None if path is None else [packages[i].short() for i in path],
-            "dependents": [packages[i].short() for i in range(len(packages)) if place in edges[i]],
-            "update": update_of(advisories, package, advisory, ignored),
-        })
-    known = {a.id for a in advisories}
-    used = {p["advisory"] for p in passed}
-    everything = [p for p in pairs(advisories, packages, asked, None) if p[2].id not in ignored]
-    tree = {
-        "database": {"advisory-count": len(advisories), "last-date": max((a.date for a in advisories), default=None)},
-        "lockfile": {"dependency-count": len(packages)}, "findings": findings, "ignored": passed,
-        "unused-ignores": [i for i in ignored if i in known and i not in used],
-        "unknown-ignores": [i for i in ignored if i not in known],
-        "below-threshold": len(everything) - len(findings),
-    }
-    return tree, 1 if any(f["denied"] and not f["old"] for f in findings) else 0
-
-
-def random_case(r, folder):
-    """Writes a case below a folder; returns its words, and the answer and the status that are wanted."""
-    root = os.path.join(folder, "database")
-    os.makedirs(os.path.join(root, "crates"))
-    advisories = [Advisory(r, number) for number in range(1, r.choice([0, 1, 3, 6, 9]) + 1)]
-    for advisory in advisories:
-        databases.write(root, advisory.collection, advisory.package, advisory.id + ".md", advisory.text().encode())
-    order = lambda a: (("crates", "rust").index(a.collection), a.package, a.id)
-    advisories.sort(key=order)
-    packages = random_packages(r)
-    databases.write(folder, "Cargo.lock", lockfile_text(packages))
-    asked = Asked(r, advisories)
-    databases.write(folder, "audit.toml", asked.policy().encode())
-    words = ["check", root, os.path.join(folder, "Cargo.lock"), "--policy", os.path.join(folder, "audit.toml"), *asked.words()]
-    baseline = None
-    if r.random() < 0.2:
-        baseline = [p for p in packages if r.random() < 0.5]
-        databases.write(folder, "old.lock", lockfile_text(baseline))
-        words += ["--baseline", os.path.join(folder, "old.lock")]
-    return words, *check(advisories, packages, asked, baseline)
+    def many(self, r):
+        """The words and the input of `check-many` over some lockfiles, and its answer."""
+        others = [(self.write(f"{at}.lock", lockfile), lockfile)
+                  for at, lockfile in enumerate([random_lockfile(r) for _ in range(r.randint(0, 3))])]
+        listed = [(self.lock, self.lockfile), (os.path.join(self.folder, "absent.lock"), ABSENT), *others]
+        listed += [(self.write(name, one), one) for name, one in (("broken.lock", BROKEN), ("latin.lock", LATIN))]
+        listed = [r.choice(listed) for _ in range(r.randint(1, 6))]
+        data = "".join(path + "\n" for path, _ in listed).encode()
+        return ["check-many", self.root, *self.options], data, check_rules.many_answer(self, listed)

@@ -64,6 +64,25 @@ def usual_lockfile(r, count):
     return "".join(parts).encode()
 
 
+def tied_lockfile(r, count, names):
+    """A lockfile of a workspace's member and so many packages with dependencies. Half of the packages have one of so many
+    names of the database. A package needs up to four of those before it, and the member some of the last ones."""
+    known = [f"crate-{n}" for n in r.sample(range(names), min(names, count // 2))]
+    packages = [(name, f"{r.randint(0, 4)}.{r.randint(0, 9)}.{r.randint(0, 9)}")
+                for name in known + [f"package-{n}" for n in range(count - len(known))]]
+    r.shuffle(packages)
+    parts = ["version = 4\n"]
+    for at, (name, version) in enumerate(packages):
+        parts.append(package(name, version, REGISTRY, checksum(r)))
+        parts.append(dependencies(r.sample(packages[:at], min(at, r.randint(0, 4)))))
+    parts += [package("member", "0.1.0", None), dependencies(packages[-20:])]
+    return "".join(parts).encode()
+
+
+def dependencies(needed):
+    return "dependencies = [\n" + "".join(f' "{name} {version}",\n' for name, version in sorted(needed)) + "]\n"
+
+
 # ---- random ones
 
 

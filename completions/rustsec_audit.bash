@@ -13,8 +13,8 @@ _rustsec_audit() {
         audit) options="--ignore --deny-warnings" ;;
         report) options="" ;;
         check) options="--policy --today --baseline --ignore --deny --severity --arch --os --format --color --allow-empty" ;;
-        check-many) options="--policy --today --baseline --ignore --deny --severity --arch --os --format --color --allow-empty --null" ;;
-        explain) options="--policy --today --baseline --ignore --deny --severity --arch --os --format --color --allow-empty" ;;
+        check-many) options="--policy --today --baseline --ignore --deny --severity --arch --os --format --color --allow-empty --null --progress" ;;
+        explain) options="--policy --today --ignore --severity --arch --os --format" ;;
         lint) options="" ;;
         osv) options="" ;;
         *) return ;;

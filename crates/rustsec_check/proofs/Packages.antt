@@ -56,7 +56,7 @@ module _ {B : Type 0} (f : Advisory → Option B) where
 
 -- ---- one more package
 
-enumerate-more : {A : Type 0} (n m : ℕ) (xs : List A) (x : A) → m ≡ n + length xs → enumerate_from n (xs ++ x ∷ []) ≡ enumerate_from n xs ++ (m, x) ∷ []
+pub enumerate-more : {A : Type 0} (n m : ℕ) (xs : List A) (x : A) → m ≡ n + length xs → enumerate_from n (xs ++ x ∷ []) ≡ enumerate_from n xs ++ (m, x) ∷ []
 enumerate-more n m [] x is = let same : m ≡ n = omega (arith, is) in rw same refl
 enumerate-more n m (y ∷ ys) x is = ap (λ zs. (n, y) ∷ zs) (enumerate-more (n + 1) m ys x (omega (arith, is)))
 

@@ -5,9 +5,11 @@ ghost use Rattle.std.specs.List.{filter, list_any};
 ghost use Rattle.rustsec_versions.specs.Failure.{IsMemory};
 ghost use Rattle.rustsec_database.specs.Loaded.{has_id};
 ghost use Rattle.rustsec_report.specs.Report.{vulnerabilities};
+ghost use Rattle.rustsec_lock.specs.Lockfile.{AreValid};
 ghost use Rattle.rustsec_check.specs.AsReport.{vulnerabilities_in};
 ghost use Rattle.rustsec_check.specs.Checks.{IsCheckOf, any_severity, count_of, is_known, is_unused};
 ghost use Rattle.rustsec_check.specs.Pairs.{found};
+ghost use Rattle.rustsec_check.specs.Values.{CheckValue};
 
 use crate::findings::{IgnoredPair, findings_of, ignored_of};
 use crate::found::{Found, all_found, count_of};
@@ -94,9 +96,13 @@ fn any_severity(alloc: Global, settings: &Settings) -> Result<Settings>
 
 /// Returns how many pairs the least severity alone left out, by the pairs that it left.
 fn below_threshold(alloc: Global, subject: &Viewed<'_>, left: usize) -> Result<usize>
+    requires { left ≡ count_of subject.now subject.now.settings }
     ensures ok { IfOk result (λ n. n ≡ count_of subject.now (any_severity subject.now.settings) - left) }
     ensures err { IfErr result IsMemory }
 {
+    if subject.settings.severity.is_none() {
+        return Ok(0);
+    }
     let any = any_severity(alloc, subject.settings)?;
     let found = all_found(alloc, subject.database, subject.lockfile, &any)?;
     Ok(count_of(any.ignore.as_slice(), &found).saturating_sub(left))
@@ -138,6 +144,16 @@ pub fn check<'a>(alloc: Global, subject: Subject<'a>) -> Result<Check<'a>>
       denied = subject.entry.denied.now;
       baseline = option_map (λ l. l.now.packages) subject.entry.baseline;
     })) }
+
+    // If the packages have valid versions, as those of each lockfile that is read do, no other answer meets the definition.
+    ensures only { AreValid subject.entry.lockfile.now.packages → IfOk result (λ c. (other : CheckValue) → IsCheckOf (record {
+      advisories = subject.entry.database.now;
+      packages = subject.entry.lockfile.now.packages;
+      graph = subject.entry.graph.now;
+      settings = subject.entry.settings.now;
+      denied = subject.entry.denied.now;
+      baseline = option_map (λ l. l.now.packages) subject.entry.baseline;
+    }) other → other ≡ c) }
 
     // The findings that are vulnerabilities are those of a report with these settings.
     ensures as_reports { IfOk result (λ c. vulnerabilities_in c.findings

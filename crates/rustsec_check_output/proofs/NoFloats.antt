@@ -8,7 +8,7 @@ use Rattle.serde_json.specs.Data.{Data, Members, member, no_members, put}
 use Rattle.serde_json.specs.View.{items_of}
 use Rattle.serde_json.specs.Written.{has_float, items_have_float, members_have_float}
 use Rattle.rustsec_json.specs.Trees.{list_tree, optional_tree, text_tree}
-use Rattle.rustsec_versions.specs.Failure.{Failure}
+use Rattle.rustsec_versions.specs.declared.error.ErrorKind.{ErrorKind}
 use Rattle.rustsec_versions.specs.Lists.{Lists}
 use Rattle.rustsec_lock.specs.Package.{PackageValue}
 use Rattle.rustsec_advisory.specs.declared.advisory.Advisory.{Advisory}
@@ -160,5 +160,5 @@ check_plain w = object-plain (check_entries w) (append-plain (found_entries w) (
 pub many_plain : (path : List ℕ) (w : WrittenValue) → Plain (many_tree path (check_tree w))
 many_plain path w = object-plain (many_entries path (check_tree w)) (check_plain w, (refl, tt))
 
-pub refused_plain : (path : List ℕ) (e : Failure) → Plain (refused_tree path e)
-refused_plain path e = object-plain (refused_entries path e) (refl, (refl, (refl, tt)))
+pub refused_plain : (path : List ℕ) (kind : ErrorKind) → Plain (refused_tree path kind)
+refused_plain path kind = object-plain (refused_entries path kind) (refl, (refl, tt))

@@ -217,6 +217,18 @@ unused_line id = labelled (codes "unused ignore: ") id.text
 unfoldable pub unknown_line : IdValue → List ℕ
 unknown_line id = labelled (codes "unknown ignore: ") id.text
 
+-- a line for each ignored ID without effect: those that ignore no pair, and those that no advisory has
+abbrev pub id_lines : List IdValue → List IdValue → List ℕ
+id_lines unused unknown = flat_map unused_line unused ++ flat_map unknown_line unknown
+
+-- how many pairs the least severity alone leaves out
+unfoldable pub below_words : ℕ → List ℕ
+below_words n = codes "left out below the least severity: " ++ (decimal n ++ codes "\n")
+
+-- the same, if any
+abbrev pub below_line : ℕ → List ℕ
+below_line n = if n == 0 then [] else below_words n
+
 abbrev pub note_line : List ℕ → List ℕ
 note_line note = labelled (codes "note: ") note
 
@@ -255,11 +267,12 @@ last_line w = found_words w.check.findings (length w.check.ignored) ++ looked_at
 unfoldable pub blocks : Bool → WrittenValue → List ℕ
 blocks colored w = flat_map (block colored w.packages) (in_order w.check.findings (length w.packages))
 
--- a line for each ignored pair, for each ignored ID without effect, and for each note
+-- a line for each ignored pair, for each ignored ID without effect, for the pairs below the least severity, and for
+-- each note
 unfoldable pub further_lines : WrittenValue → List ℕ
 further_lines w =
-    flat_map (ignored_line w.entries) w.check.ignored ++ (flat_map unused_line w.check.unused
-    ++ (flat_map unknown_line w.check.unknown ++ flat_map note_line w.notes))
+    flat_map (ignored_line w.entries) w.check.ignored ++ (id_lines w.check.unused w.check.unknown
+    ++ (below_line w.check.below_threshold ++ flat_map note_line w.notes))
 
 unfoldable pub check_text : Bool → WrittenValue → List ℕ
 check_text colored w = blocks colored w ++ (further_lines w ++ last_line w)

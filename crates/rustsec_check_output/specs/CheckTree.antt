@@ -6,7 +6,7 @@ use Rattle.semver.specs.Identifiers.{parts_text}
 use Rattle.serde_json.specs.Data.{Data, boolean, number, string, unsigned}
 use Rattle.serde_json.specs.Written.{compact_text}
 use Rattle.rustsec_versions.specs.Failure as failure
-use Rattle.rustsec_versions.specs.Failure.{Failure}
+use Rattle.rustsec_versions.specs.declared.error.ErrorKind.{ErrorKind}
 use Rattle.rustsec_lock.specs.Cvss.{cvss_severity, cvss_text}
 use Rattle.rustsec_lock.specs.Package.{PackageValue}
 use Rattle.rustsec_lock.specs.Score.{score_tenths_of}
@@ -239,13 +239,12 @@ many_entries path check = (codes "check", check) ∷ (codes "lockfile", string p
 abbrev pub many_tree : List ℕ → Data → Data
 many_tree path check = object_of (many_entries path check)
 
--- a lockfile that was not checked: the kind of the error and its message
-abbrev pub refused_entries : List ℕ → Failure → List Entry
-refused_entries path e =
-    (codes "lockfile", string path) ∷ (codes "message", string e.message) ∷ (codes "refused", string (failure.kind_text e.kind)) ∷ []
+-- a lockfile that was not checked: the kind of the error
+abbrev pub refused_entries : List ℕ → ErrorKind → List Entry
+refused_entries path kind = (codes "lockfile", string path) ∷ (codes "refused", string (failure.kind_text kind)) ∷ []
 
-abbrev pub refused_tree : List ℕ → Failure → Data
-refused_tree path e = object_of (refused_entries path e)
+abbrev pub refused_tree : List ℕ → ErrorKind → Data
+refused_tree path kind = object_of (refused_entries path kind)
 
 -- a tree on one line
 abbrev pub tree_line : Data → List ℕ

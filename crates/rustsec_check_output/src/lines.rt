@@ -3,7 +3,7 @@
 ghost use Rattle.std.specs.Prelude.{◌≡◌, ◌++◌, OnOk, map, not, length, string_bytes};
 ghost use Rattle.std.specs.List.{filter, flat_map};
 ghost use Rattle.std.specs.Option.{option_copied};
-ghost use Rattle.rustsec_check_output.specs.CheckText.{counted, found_words, further_lines, ignored_line, ignored_with, is_vulnerability, labelled, last_line, looked_at_words, note_line, reason_words, unknown_line, until_words, unused_line};
+ghost use Rattle.rustsec_check_output.specs.CheckText.{below_line, below_words, counted, found_words, further_lines, id_lines, ignored_line, ignored_with, is_vulnerability, labelled, last_line, looked_at_words, note_line, reason_words, unknown_line, until_words, unused_line};
 ghost use Rattle.rustsec_check_output.specs.CheckTree.{reason_of, until_of};
 
 use crate::block::push_package;
@@ -148,16 +148,46 @@ fn push_notes(text: &mut String, notes: &[Text]) -> Result<(), AllocError>
     Ok(())
 }
 
-/// Appends a line for each ignored pair, for each ignored ID without effect, and for each note.
+/// Appends how many pairs the least severity alone leaves out.
+#[tactic(auto, unfolding(crate::specs::CheckText::below_words))]
+fn push_below_words(text: &mut String, count: usize) -> Result<(), AllocError>
+    ensures { OnOk result (string_bytes text.new ≡ string_bytes text.old ++ below_words count) }
+{
+    write!(text, "left out below the least severity: {count}\n")?;
+    Ok(())
+}
+
+/// Appends how many pairs the least severity alone leaves out, if any.
+fn push_below(text: &mut String, count: usize) -> Result<(), AllocError>
+    ensures { OnOk result (string_bytes text.new ≡ string_bytes text.old ++ below_line count) }
+{
+    if count > 0 {
+        push_below_words(text, count)?;
+    }
+    Ok(())
+}
+
+/// Appends a line for each ignored ID without effect: those that ignore no pair, and those that no advisory has.
+fn push_ids(text: &mut String, unused: &[&Id], unknown: &[&Id]) -> Result<(), AllocError>
+    ensures { OnOk result (string_bytes text.new ≡ string_bytes text.old ++ id_lines (map (λ i. i.now) unused.now) (map (λ i. i.now) unknown.now)) }
+{
+    push_unused(text, unused)?;
+    push_unknown(text, unknown)?;
+    Ok(())
+}
+
+/// Appends a line for each ignored pair, for each ignored ID without effect, for the pairs below the least severity, and
+/// for each note.
 #[tactic(auto, unfolding(crate::specs::CheckText::further_lines))]
 pub(crate) fn push_further(text: &mut String, written: &Written<'_, '_>) -> Result<(), AllocError>
     ensures { OnOk result (string_bytes text.new ≡ string_bytes text.old ++ further_lines written.now) }
 {
     let check = written.check;
     push_all_ignored(text, written.entries, check.ignored.as_slice())?;
-    push_unused(text, check.unused.as_slice())?;
-    push_unknown(text, check.unknown.as_slice())?;
-    push_notes(text, written.notes)
+    push_ids(text, check.unused.as_slice(), check.unknown.as_slice())?;
+    push_below(text, check.below_threshold)?;
+    push_notes(text, written.notes)?;
+    Ok(())
 }
 
 /// Appends a number of things, in the singular or in the plural.

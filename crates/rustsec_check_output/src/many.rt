@@ -9,7 +9,7 @@ ghost use Rattle.rustsec_check_output.specs.CheckTree.{check_tree, many_entries,
 use crate::object::{Members, put_tree};
 use crate::tree::check_tree;
 use crate::written::Written;
-use rustsec_versions::{Error, Result};
+use rustsec_versions::{ErrorKind, Result};
 use serde_json::Value;
 use std::alloc::{AllocError, Global};
 
@@ -51,30 +51,28 @@ fn put_refused(
     alloc: Global,
     members: &mut Members,
     path: &str,
-    error: &Error,
+    kind: ErrorKind,
 ) -> std::result::Result<(), AllocError>
     ensures { OnOk result (members_view members.new.entries
-        ≡ with_members (members_view members.old.entries) (refused_entries path.now error.now)) }
+        ≡ with_members (members_view members.old.entries) (refused_entries path.now kind)) }
 {
     let lockfile = Value::try_from_str(alloc, path)?;
     put_tree(alloc, members, "lockfile", lockfile)?;
-    let message = Value::try_from_str(alloc, error.message())?;
-    put_tree(alloc, members, "message", message)?;
-    let kind = Value::try_from_str(alloc, error.kind().text())?;
-    put_tree(alloc, members, "refused", kind)
+    let refused = Value::try_from_str(alloc, kind.text())?;
+    put_tree(alloc, members, "refused", refused)
 }
 
-/// Returns the JSON tree of the refusal of the lockfile at a path: an object with the path at `lockfile`, the message of
-/// the error at `message` and the text of its kind at `refused`.
+/// Returns the JSON tree of the refusal of the lockfile at a path: an object with the path at `lockfile` and the text of
+/// the error's kind at `refused`.
 ///
 /// # Errors
 ///
 /// `OutOfMemory` alone.
-pub fn refused_tree(alloc: Global, path: &str, error: &Error) -> Result<Value>
-    ensures ok { IfOk result (λ v. view v ≡ refused_tree path.now error.now) }
+pub fn refused_tree(alloc: Global, path: &str, kind: ErrorKind) -> Result<Value>
+    ensures ok { IfOk result (λ v. view v ≡ refused_tree path.now kind) }
     ensures err { IfErr result IsMemory }
 {
     let mut members = Members::new(alloc);
-    put_refused(alloc, &mut members, path, error)?;
+    put_refused(alloc, &mut members, path, kind)?;
     Ok(Value::from(members))
 }

@@ -10,7 +10,7 @@ use rustsec_lock::package::Package;
 use rustsec_policy::{Ignored, Policy};
 use rustsec_texts::WarningKind;
 use rustsec_values::Text;
-use rustsec_versions::{Error, ErrorKind};
+use rustsec_versions::ErrorKind;
 use semver::Version;
 use std::alloc::Global;
 use std::process::Abort;
@@ -85,6 +85,7 @@ RUSTSEC-2024-9001 http 2.0.0: Nobody maintains it
   no path from a root
   no fixed version
 ignored RUSTSEC-2024-9001 http 2.0.0 until 2024-12-31: it is small
+left out below the least severity: 4
 note: one\\u{a}two
 1 vulnerability, 1 warning, 1 ignored; looked at 2 advisories and 3 packages
 ";
@@ -116,8 +117,7 @@ const LINE: &[&str] = &[
 ];
 
 /// The line for a lockfile that was refused.
-const REFUSED: &str =
-    r#"{"lockfile":"a/Cargo.lock","message":"key `name` is missing","refused":"parse error"}
+const REFUSED: &str = r#"{"lockfile":"a/Cargo.lock","refused":"parse error"}
 "#;
 
 /// Returns a file.
@@ -255,8 +255,7 @@ fn is_whole(alloc: Global) -> Result<bool, Fail> {
 
 /// Returns whether a refusal is written as the row above says.
 fn is_refused(alloc: Global) -> Result<bool, Fail> {
-    let error = Error::new(alloc, ErrorKind::Parse, "key `name` is missing");
-    let line = refused_line(alloc, "a/Cargo.lock", &error)?;
+    let line = refused_line(alloc, "a/Cargo.lock", ErrorKind::Parse)?;
     Ok(line.as_str() == REFUSED)
 }
 

@@ -32,8 +32,8 @@ fn push_findings(
 }
 
 /// Returns the text of a check for people: a block of lines for each finding, the package with the most severe finding
-/// first, a line for each ignored pair, for each ignored ID without effect and for each note, and a line that counts
-/// them. With `colored` the IDs are bold and the ratings red, by codes of ECMA-48. Texts from files are escaped, so that
+/// first, a line for each ignored pair, for each ignored ID without effect, for the pairs below the least severity and for
+/// each note, and a line that counts them. With `colored` the IDs are bold and the ratings red, by codes of ECMA-48. Texts from files are escaped, so that
 /// none of them adds a line.
 ///
 /// # Errors

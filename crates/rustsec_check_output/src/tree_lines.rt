@@ -9,7 +9,7 @@ ghost use Rattle.rustsec_check_output.specs.CheckTree.{check_tree, many_tree, re
 use crate::many::{many_tree, refused_tree};
 use crate::tree::check_tree;
 use crate::written::Written;
-use rustsec_versions::{Error, Result};
+use rustsec_versions::{ErrorKind, Result};
 use serde_json::Value;
 use std::alloc::{AllocError, Global};
 
@@ -51,17 +51,17 @@ pub fn many_line(alloc: Global, path: &str, written: &Written<'_, '_>) -> Result
     Ok(line)
 }
 
-/// Returns the line for a lockfile of many that was refused: an object with the path of the lockfile at `lockfile`, the
-/// message of the error at `message` and the text of its kind at `refused`, and a line feed.
+/// Returns the line for a lockfile of many that was refused: an object with the path of the lockfile at `lockfile` and
+/// the text of the error's kind at `refused`, and a line feed.
 ///
 /// # Errors
 ///
 /// `OutOfMemory` alone.
-pub fn refused_line(alloc: Global, path: &str, error: &Error) -> Result<String>
-    ensures ok { IfOk result (λ t. string_bytes t ≡ tree_line (refused_tree path.now error.now)) }
+pub fn refused_line(alloc: Global, path: &str, kind: ErrorKind) -> Result<String>
+    ensures ok { IfOk result (λ t. string_bytes t ≡ tree_line (refused_tree path.now kind)) }
     ensures err { IfErr result IsMemory }
 {
-    let tree = refused_tree(alloc, path, error)?;
+    let tree = refused_tree(alloc, path, kind)?;
     let line = tree_line(alloc, &tree)?;
     Ok(line)
 }

@@ -9,7 +9,9 @@ use Rattle.rustsec_lock.specs.Source.{source_text}
 use Rattle.rustsec_advisory.specs.declared.advisory.Advisory.{Advisory}
 use Rattle.rustsec_json.specs.Trees.{list_tree, optional_tree}
 use Rattle.rustsec_report.specs.Trees.{Entry, object_of}
+use Rattle.rustsec_report.specs.declared.settings.Settings.{Settings}
 use Rattle.rustsec_explain.specs.Pair.{ExplainedPair}
+use Rattle.rustsec_explain.specs.Wording.{reason_text}
 use Rattle.rustsec_explain.specs.declared.reason.Reason.{Reason}
 use Rattle.rustsec_explain.specs.declared.reason.Reason.TheVariants as reason
 
@@ -41,9 +43,13 @@ requirement_entries a (reason.HeldByPatched place) = (codes "requirement", requi
 requirement_entries a (reason.HeldByUnaffected place) = (codes "requirement", requirement_tree (slice_get a.versions.unaffected place)) ∷ []
 requirement_entries a other = []
 
--- a reason of a pair with an advisory
-unfoldable pub reason_tree : Advisory → Reason → Data
-reason_tree a r = object_of ((codes "reason", string (reason_name r)) ∷ requirement_entries a r)
+-- a reason of a pair: its name, its words and its requirement
+abbrev pub reason_entries : Settings → ExplainedPair → Reason → List Entry
+reason_entries s e r =
+    (codes "reason", string (reason_name r)) ∷ (codes "text", string (reason_text s e.by e.of r)) ∷ requirement_entries e.by r
+
+unfoldable pub reason_tree : Settings → ExplainedPair → Reason → Data
+reason_tree s e r = object_of (reason_entries s e r)
 
 -- the package of a pair
 abbrev pub package_entries : PackageValue → List Entry
@@ -60,17 +66,17 @@ package_tree p = object_of (package_entries p)
 abbrev pub has_no_reason : ExplainedPair → Bool
 has_no_reason e = length e.reasons == 0
 
-abbrev pub pair_entries : ExplainedPair → List Entry
-pair_entries e =
+abbrev pub pair_entries : Settings → ExplainedPair → List Entry
+pair_entries s e =
     (codes "advisory", string e.by.metadata.id.text)
     ∷ (codes "finding", boolean (has_no_reason e))
     ∷ (codes "package", package_tree e.of)
-    ∷ (codes "reasons", list_tree (reason_tree e.by) e.reasons)
+    ∷ (codes "reasons", list_tree (reason_tree s e) e.reasons)
     ∷ []
 
-unfoldable pub pair_tree : ExplainedPair → Data
-pair_tree e = object_of (pair_entries e)
+unfoldable pub pair_tree : Settings → ExplainedPair → Data
+pair_tree s e = object_of (pair_entries s e)
 
 -- the pairs in order
-abbrev pub explain_tree : List ExplainedPair → Data
-explain_tree pairs = list_tree pair_tree pairs
+abbrev pub explain_tree : Settings → List ExplainedPair → Data
+explain_tree s pairs = list_tree (pair_tree s) pairs

@@ -16,7 +16,8 @@ use std::test::Fail;
 
 /// Returns whether the JSON of some pairs is this.
 fn has_json(alloc: Global, pairs: &[Explained<'_>], json: &str) -> Result<bool, Fail> {
-    let tree = explain_tree(alloc, pairs)?;
+    let settings = Settings::new(alloc);
+    let tree = explain_tree(alloc, &settings, pairs)?;
     let found = tree.to_string(alloc)?;
     Ok(found.as_str() == json)
 }
@@ -94,7 +95,7 @@ fn no_pair(rt: HostRuntime) -> Result<(), Fail> {
 
 /// What is written of two pairs.
 const TWO: (&str, &str) = (
-    "[{\"advisory\":\"RUSTSEC-2020-0001\",\"finding\":true,\"package\":{\"name\":\"base\",\"source\":null,\"version\":\"1.4.0-rc.1\"},\"reasons\":[]},{\"advisory\":\"RUSTSEC-2020-0001\",\"finding\":false,\"package\":{\"name\":\"base\",\"source\":\"sparse+https://index.crates.io/\",\"version\":\"1.4.0\"},\"reasons\":[{\"reason\":\"withdrawn\"}]}]",
+    "[{\"advisory\":\"RUSTSEC-2020-0001\",\"finding\":true,\"package\":{\"name\":\"base\",\"source\":null,\"version\":\"1.4.0-rc.1\"},\"reasons\":[]},{\"advisory\":\"RUSTSEC-2020-0001\",\"finding\":false,\"package\":{\"name\":\"base\",\"source\":\"sparse+https://index.crates.io/\",\"version\":\"1.4.0\"},\"reasons\":[{\"reason\":\"withdrawn\",\"text\":\"withdrawn\"}]}]",
     "base 1.4.0-rc.1 RUSTSEC-2020-0001: affected\nbase 1.4.0 RUSTSEC-2020-0001: withdrawn\n",
 );
 

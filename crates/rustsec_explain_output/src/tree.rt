@@ -10,13 +10,15 @@ ghost use Rattle.rustsec_versions.specs.RequirementText.{requirement_text};
 ghost use Rattle.rustsec_versions.specs.Views.{comparators_of};
 ghost use Rattle.rustsec_lock.specs.Source.{source_text};
 ghost use Rattle.rustsec_report.specs.Trees.{object_of, with_members};
-ghost use Rattle.rustsec_explain_output.specs.ExplainTree.{explain_tree, package_entries, package_tree, pair_entries, pair_tree, reason_name, reason_tree, requirement_entries, requirement_tree};
+ghost use Rattle.rustsec_explain.specs.Wording.{reason_text};
+ghost use Rattle.rustsec_explain_output.specs.ExplainTree.{explain_tree, package_entries, package_tree, pair_entries, pair_tree, reason_entries, reason_name, reason_tree, requirement_entries, requirement_tree};
 
 use rustsec_advisory::Advisory;
 use rustsec_explain::{Explained, Reason};
 use rustsec_json::ToTree;
 use rustsec_lock::SourceId;
 use rustsec_lock::package::Package;
+use rustsec_report::Settings;
 use rustsec_versions::{Result, requirement_text};
 use semver::VersionReq;
 use serde_json::{Map, Value};
@@ -115,33 +117,66 @@ fn put_requirement(
     put_tree(alloc, members, "requirement", tree)
 }
 
-/// Builds the tree of a reason of a pair with an advisory.
-#[tactic(auto, unfolding(crate::specs::ExplainTree::reason_tree, rustsec_report::specs::Trees::with_members))]
-fn reason_tree(
+/// Builds the tree of the words of a reason.
+fn words_tree(
     alloc: Global,
-    advisory: &Advisory,
+    settings: &Settings,
+    pair: &Explained<'_>,
     reason: &Reason,
 ) -> std::result::Result<Value, AllocError>
-    ensures { IfOk result (λ v. view v ≡ reason_tree advisory.now reason.now) }
+    ensures { IfOk result (λ v. view v ≡ string (reason_text settings.now pair.now.by pair.now.of reason.now)) }
+{
+    match reason.text(alloc, settings, pair.advisory, pair.package) {
+        Ok(text) => Ok(Value::from(text)),
+        Err(_) => Err(AllocError),
+    }
+}
+
+/// Sets the keys of a reason of a pair.
+#[tactic(auto, unfolding(rustsec_report::specs::Trees::with_members))]
+fn put_reason(
+    alloc: Global,
+    members: &mut Members,
+    settings: &Settings,
+    pair: &Explained<'_>,
+    reason: &Reason,
+) -> std::result::Result<(), AllocError>
+    ensures { OnOk result (members_view members.new.entries
+        ≡ with_members (members_view members.old.entries) (reason_entries settings.now pair.now reason.now)) }
+{
+    let name = Value::try_from_str(alloc, reason_name(reason))?;
+    put_tree(alloc, members, "reason", name)?;
+    let words = words_tree(alloc, settings, pair, reason)?;
+    put_tree(alloc, members, "text", words)?;
+    put_requirement(alloc, members, pair.advisory, reason)
+}
+
+/// Builds the tree of a reason of a pair.
+#[tactic(auto, unfolding(crate::specs::ExplainTree::reason_tree))]
+fn reason_tree(
+    alloc: Global,
+    settings: &Settings,
+    pair: &Explained<'_>,
+    reason: &Reason,
+) -> std::result::Result<Value, AllocError>
+    ensures { IfOk result (λ v. view v ≡ reason_tree settings.now pair.now reason.now) }
 {
     let mut members = Members::new(alloc);
-    let name = Value::try_from_str(alloc, reason_name(reason))?;
-    put_tree(alloc, &mut members, "reason", name)?;
-    put_requirement(alloc, &mut members, advisory, reason)?;
+    put_reason(alloc, &mut members, settings, pair, reason)?;
     Ok(Value::from(members))
 }
 
-/// Builds the tree of the reasons of a pair with an advisory.
+/// Builds the tree of the reasons of a pair.
 fn reasons_tree(
     alloc: Global,
-    advisory: &Advisory,
-    reasons: &[Reason],
+    settings: &Settings,
+    pair: &Explained<'_>,
 ) -> std::result::Result<Value, AllocError>
-    ensures { IfOk result (λ v. view v ≡ list_tree (reason_tree advisory.now) reasons.now) }
+    ensures { IfOk result (λ v. view v ≡ list_tree (reason_tree settings.now pair.now) pair.now.reasons) }
 {
     let mut trees = Vec::new(alloc);
-    for reason in reasons {
-        trees.push(reason_tree(alloc, advisory, reason)?)?;
+    for reason in pair.reasons.as_slice() {
+        trees.push(reason_tree(alloc, settings, pair, reason)?)?;
     }
     Ok(Value::from(trees))
 }
@@ -189,10 +224,11 @@ fn package_tree(alloc: Global, package: &Package) -> std::result::Result<Value, 
 fn put_pair(
     alloc: Global,
     members: &mut Members,
+    settings: &Settings,
     pair: &Explained<'_>,
 ) -> std::result::Result<(), AllocError>
     ensures { OnOk result (members_view members.new.entries
-        ≡ with_members (members_view members.old.entries) (pair_entries pair.now)) }
+        ≡ with_members (members_view members.old.entries) (pair_entries settings.now pair.now)) }
 {
     let advisory = pair.advisory;
     let id = advisory.metadata.id.to_tree(alloc)?;
@@ -201,7 +237,7 @@ fn put_pair(
     put_tree(alloc, members, "finding", finding)?;
     let package = package_tree(alloc, pair.package)?;
     put_tree(alloc, members, "package", package)?;
-    let reasons = reasons_tree(alloc, advisory, pair.reasons.as_slice())?;
+    let reasons = reasons_tree(alloc, settings, pair)?;
     put_tree(alloc, members, "reasons", reasons)
 }
 
@@ -211,35 +247,44 @@ fn put_pair(
 ///
 /// Out of memory.
 #[tactic(auto, unfolding(crate::specs::ExplainTree::pair_tree))]
-pub fn pair_tree(alloc: Global, pair: &Explained<'_>) -> std::result::Result<Value, AllocError>
-    ensures { IfOk result (λ v. view v ≡ pair_tree pair.now) }
+pub fn pair_tree(
+    alloc: Global,
+    settings: &Settings,
+    pair: &Explained<'_>,
+) -> std::result::Result<Value, AllocError>
+    ensures { IfOk result (λ v. view v ≡ pair_tree settings.now pair.now) }
 {
     let mut members = Members::new(alloc);
-    put_pair(alloc, &mut members, pair)?;
+    put_pair(alloc, &mut members, settings, pair)?;
     Ok(Value::from(members))
 }
 
 /// Builds the tree of the pairs.
-fn list_tree(alloc: Global, pairs: &[Explained<'_>]) -> std::result::Result<Value, AllocError>
-    ensures { IfOk result (λ v. view v ≡ explain_tree pairs.now) }
+fn list_tree(
+    alloc: Global,
+    settings: &Settings,
+    pairs: &[Explained<'_>],
+) -> std::result::Result<Value, AllocError>
+    ensures { IfOk result (λ v. view v ≡ explain_tree settings.now pairs.now) }
 {
     let mut trees = Vec::new(alloc);
     for pair in pairs {
-        trees.push(pair_tree(alloc, pair)?)?;
+        trees.push(pair_tree(alloc, settings, pair)?)?;
     }
     Ok(Value::from(trees))
 }
 
 /// Builds the JSON list of an explanation: for each pair, in order, an object with the ID of its advisory, whether it
 /// is a finding, its package and its reasons. A pair is a finding if it has no reason. A reason is an object with its
-/// name; if a requirement holds the version, it has the requirement's text too.
+/// name and its words; if a requirement holds the version, it has the requirement's text too. The settings are those of
+/// the explanation.
 ///
 /// # Errors
 ///
 /// `OutOfMemory` alone.
-pub fn explain_tree(alloc: Global, pairs: &[Explained<'_>]) -> Result<Value>
-    ensures ok { IfOk result (λ v. view v ≡ explain_tree pairs.now) }
+pub fn explain_tree(alloc: Global, settings: &Settings, pairs: &[Explained<'_>]) -> Result<Value>
+    ensures ok { IfOk result (λ v. view v ≡ explain_tree settings.now pairs.now) }
     ensures err { IfErr result IsMemory }
 {
-    Ok(list_tree(alloc, pairs)?)
+    Ok(list_tree(alloc, settings, pairs)?)
 }

@@ -1,8 +1,9 @@
 -- The tree of an explanation has no float, so that its text is known.
-use Rattle.std.proofs.Common.{◌≡◌, List, [], ◌∷◌, Option, None, Some, refl}
+use Rattle.std.proofs.Common.{List, Option, None, Some, refl}
 use Rattle.semver.specs.Parse.{Held}
 use Rattle.rustsec_lock.specs.Package.{PackageValue}
 use Rattle.rustsec_advisory.specs.declared.advisory.Advisory.{Advisory}
+use Rattle.rustsec_report.specs.declared.settings.Settings.{Settings}
 use Rattle.rustsec_explain.specs.Pair.{ExplainedPair}
 use Rattle.rustsec_explain.specs.declared.reason.Reason.{Reason}
 use Rattle.rustsec_explain.specs.declared.reason.Reason.TheVariants as reason
@@ -29,17 +30,17 @@ entries-plain a reason.KindNotWanted = tt
 entries-plain a reason.KindWithoutWarnings = tt
 entries-plain a reason.Ignored = tt
 
-reason-plain : (a : Advisory) (r : Reason) → Plain (reason_tree a r)
+reason-plain : (s : Settings) (e : ExplainedPair) (r : Reason) → Plain (reason_tree s e r)
 unfolding reason_tree
-reason-plain a r = object-plain _ (refl, entries-plain a r)
+reason-plain s e r = object-plain _ (refl, (refl, entries-plain e.by r))
 
 package-plain : (p : PackageValue) → Plain (package_tree p)
 unfolding package_tree
 package-plain p = object-plain (package_entries p) (refl, (optional-plain _ (λ x. refl) p.source, (refl, tt)))
 
-pair-plain : (e : ExplainedPair) → Plain (pair_tree e)
+pair-plain : (s : Settings) (e : ExplainedPair) → Plain (pair_tree s e)
 unfolding pair_tree
-pair-plain e = object-plain (pair_entries e) (refl, (refl, (package-plain e.of, (list-plain (reason_tree e.by) (reason-plain e.by) e.reasons, tt))))
+pair-plain s e = object-plain (pair_entries s e) (refl, (refl, (package-plain e.of, (list-plain (reason_tree s e) (reason-plain s e) e.reasons, tt))))
 
-pub explain-plain : (pairs : List ExplainedPair) → Plain (explain_tree pairs)
-explain-plain pairs = list-plain pair_tree pair-plain pairs
+pub explain-plain : (s : Settings) (pairs : List ExplainedPair) → Plain (explain_tree s pairs)
+explain-plain s pairs = list-plain (pair_tree s) (pair-plain s) pairs

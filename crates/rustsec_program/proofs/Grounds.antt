@@ -1,14 +1,16 @@
 -- From a plan, and what is made by it over folders that allow the same as before, to outputs and refusals of commands.
-use Rattle.std.proofs.Common.{◌≡◌, ◌⊎◌, ◌∙◌, ℕ, List, Option, None, Some, ap, inl, inr, sym, subst, true}
+use Rattle.std.proofs.Common.{◌≡◌, ◌⊎◌, ◌∙◌, ℕ, List, Option, None, ap, inl, inr, sym, subst, true, false}
 use Rattle.std.specs.Str.{is_utf8}
-use Rattle.rustsec_versions.specs.Failure.{Failure}
+use Rattle.rustsec_versions.specs.Failure.{Failure, IsRefusal}
+use Rattle.rustsec_versions.specs.declared.error.ErrorKind.TheVariants as kind
+use Rattle.rustsec_versions.proofs.Refusals.{refused_by}
 use Rattle.rustsec_folders.specs.Allowed.{Allowed, AllowSame}
 use Rattle.rustsec_folders.proofs.Lists.{pairwise-weaker}
 use Rattle.rustsec_advisory.specs.declared.advisory.Advisory.{Advisory}
 use Rattle.rustsec_database.specs.Opened.{AreOpened, IsOpenRefusal}
 use Rattle.rustsec_commands.specs.Commands as old
 use Rattle.rustsec_commands.specs.Output.{Output}
-use Rattle.rustsec_program.specs.Check.{AreAnswers, AreAnswersTo, IsCheckRefusal, IsCheckResult, paths_of, separator}
+use Rattle.rustsec_program.specs.Check.{AreAnswers, AreAnswersTo, IsCheckRefusal, IsCheckResult, IsList, names_none, paths_of, separator}
 use Rattle.rustsec_program.specs.CheckOptions.{CheckOption}
 use Rattle.rustsec_program.specs.Checked.{Ground, IsCheckedRefusal, IsLockfileOutput, form_of, line}
 use Rattle.rustsec_program.specs.Commands.{Carries, IsOutputOf}
@@ -66,18 +68,28 @@ answers-before a b same g paths o h = record {
   status = h.status;
 }
 
-pub answers-of-plan : (a b : Allowed) → AllowSame a b → (root : List ℕ) (options : List CheckOption) (p : PlanValue) (input text : List ℕ) (end : ℕ)
-    (paths : List (List ℕ)) (o : Output) → IsPlan a options p → is_utf8 input ≡ true → paths ≡ paths_of end text → end ≡ separator options → text ≡ input
+pub answers-of-plan : (a b : Allowed) → AllowSame a b → (root : List ℕ) (options : List CheckOption) (p : PlanValue) (input text : List ℕ)
+    (paths : List (List ℕ)) (o : Output) → IsPlan a options p → IsList options input → paths ≡ paths_of (separator options) text → text ≡ input
     → (advisories : List Advisory) × (AreOpened b root advisories × AreAnswers b (ground p advisories) paths o) → AreAnswersTo a root options input o
-answers-of-plan a b same root options p input text end paths o planned utf8 paths_are end_is text_is (advisories, (opened, h)) =
-    let all : paths ≡ paths_of (separator options) input
-    = paths_are ∙ (ap (λ (e : ℕ). paths_of e text) end_is ∙ ap (λ (t : List ℕ). paths_of (separator options) t) text_is) in (
+answers-of-plan a b same root options p input text paths o planned list paths_are text_is (advisories, (opened, h)) =
+    let all : paths ≡ paths_of (separator options) input = paths_are ∙ ap (λ (t : List ℕ). paths_of (separator options) t) text_is in (
       ground p advisories,
       (
         (planned, opened-before a b same root advisories opened),
-        (utf8, subst (λ (ps : List (List ℕ)). AreAnswers a (ground p advisories) ps o) all (answers-before a b same (ground p advisories) paths o h)),
+        (list, subst (λ (ps : List (List ℕ)). AreAnswers a (ground p advisories) ps o) all (answers-before a b same (ground p advisories) paths o h)),
       ),
     )
+
+-- a list of lockfiles, by its text
+pub is-list : (options : List CheckOption) (text input : List ℕ) → text ≡ input → is_utf8 input ≡ true → names_none options text ≡ false
+    → IsList options input
+is-list options text input is utf8 some = (utf8, subst (λ t. names_none options t ≡ false) is some)
+
+-- and one that names no lockfile
+pub none-listed : (options : List CheckOption) (text input : List ℕ) → text ≡ input → is_utf8 input ≡ true → (e : Failure)
+    → IsRefusal kind.NotFound (names_none options text ≡ true) e
+    → IsRefusal kind.NotFound ((is_utf8 input ≡ true) × (names_none options input ≡ true)) e
+none-listed options text input is utf8 e h = refused_by kind.NotFound e (λ none. (utf8, subst (λ t. names_none options t ≡ true) is none)) h
 
 -- ---- other words
 

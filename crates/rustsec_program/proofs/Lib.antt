@@ -1,5 +1,7 @@
 pub mod OptionWords
 pub mod Before
 pub mod ManyLines
+pub mod NoteLists
+pub mod Once
 pub mod Grounds
 pub mod ExplainPlain

@@ -1,5 +1,5 @@
 -- The outputs of `check` and `check-many`.
-use Rattle.std.specs.Prelude.{◌≡◌, ◌≢◌, ◌⊎◌, ◌==◌, ℕ, Bool, false, true, List, Option, None, Some, filter, flat_map, if◌then◌else◌, length, max, not}
+use Rattle.std.specs.Prelude.{◌≡◌, ◌≢◌, ◌⊎◌, ◌==◌, ◌&&◌, ℕ, Bool, false, true, List, None, Some, filter, flat_map, if◌then◌else◌, length, max, not}
 use Rattle.std.specs.List.{fold, slice_split}
 use Rattle.std.specs.Str.{is_utf8}
 use Rattle.rustsec_folders.specs.Allowed.{Allowed}
@@ -69,15 +69,26 @@ pub record AreAnswers (allowed : Allowed) (g : Ground) (paths : List (List ℕ))
   pub text : o.text ≡ flat_map (λ (one : Output). one.text) outputs
   pub status : o.status ≡ worst outputs
 
+-- whether an input names no lockfile, and that is refused
+abbrev pub names_none : List CheckOption → List ℕ → Bool
+names_none options input = not (has flag.AllowEmpty options) && length (paths_of (separator options) input) == 0
+
+-- an input that is a list of lockfiles
+abbrev pub IsList : List CheckOption → List ℕ → Type 0
+IsList options input = (is_utf8 input ≡ true) × (names_none options input ≡ false)
+
 -- the answers for the lockfiles that an input names
 abbrev pub AreAnswersTo : Allowed → List ℕ → List CheckOption → List ℕ → Output → Type 0
 AreAnswersTo allowed root options input o =
-    (g : Ground) × (IsGround allowed root options g × ((is_utf8 input ≡ true) × AreAnswers allowed g (paths_of (separator options) input) o))
+    (g : Ground) × (IsGround allowed root options g × (IsList options input × AreAnswers allowed g (paths_of (separator options) input) o))
 
--- how there are none: the input is not UTF-8, or the options or the database are refused
+-- how there are none: the input is not UTF-8; or it names no lockfile; or it is a list of lockfiles, and the options or
+-- the database are refused
 abbrev pub IsManyRefusal : Allowed → List ℕ → List CheckOption → List ℕ → Failure → Type 0
 IsManyRefusal allowed root options input e =
-    IsRefusal kind.Parse (is_utf8 input ≡ false) e ⊎ IsGroundRefusal allowed root options e
+    IsRefusal kind.Parse (is_utf8 input ≡ false) e
+    ⊎ (IsRefusal kind.NotFound ((is_utf8 input ≡ true) × (names_none options input ≡ true)) e
+    ⊎ (IsList options input × IsGroundRefusal allowed root options e))
 
 -- an output of `check-many` for a root, the words after it and the bytes of an input
 pub data IsManyOutput (allowed : Allowed) (root : List ℕ) (words : List (List ℕ)) (input : List ℕ) (o : Output) : Type 0 where

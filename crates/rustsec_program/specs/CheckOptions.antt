@@ -35,9 +35,10 @@ key_of = value_named key_name keys
 abbrev pub flag_name : Flag → List ℕ
 flag_name flag.AllowEmpty = codes "--allow-empty"
 flag_name flag.Null = codes "--null"
+flag_name flag.Progress = codes "--progress"
 
 abbrev pub flags : List Flag
-flags = flag.AllowEmpty ∷ flag.Null ∷ []
+flags = flag.AllowEmpty ∷ flag.Null ∷ flag.Progress ∷ []
 
 abbrev pub flag_of : List ℕ → Option Flag
 flag_of = value_named flag_name flags

@@ -1,5 +1,5 @@
 -- What is written of the check of a lockfile.
-use Rattle.std.specs.Prelude.{◌≡◌, ◌≢◌, ◌⊎◌, ◌==◌, ◌&&◌, ◌||◌, ◌++◌, not, ℕ, Bool, true, false, List, Option, codes, if◌then◌else◌, length}
+use Rattle.std.specs.Prelude.{◌≡◌, ◌≢◌, ◌⊎◌, ◌==◌, ◌&&◌, ◌||◌, ◌++◌, not, ℕ, Bool, true, false, List, if◌then◌else◌, length}
 use Rattle.rustsec_folders.specs.Allowed.{Allowed}
 use Rattle.rustsec_versions.specs.Failure.{Failure, IsRefusal}
 use Rattle.rustsec_versions.specs.declared.error.ErrorKind.TheVariants as kind
@@ -11,6 +11,7 @@ use Rattle.rustsec_check_output.specs.CheckText.{check_text}
 use Rattle.rustsec_check_output.specs.CheckTree.{WrittenValue, check_tree, many_tree, refused_tree, tree_line}
 use Rattle.rustsec_commands.specs.Output.{Output, refused_as}
 use Rattle.rustsec_program.specs.Locked.{AreLoadedAt, IsLoadRefusal, LoadedValue}
+use Rattle.rustsec_program.specs.Notes.{dependency_notes, empty_notes, kind_notes}
 use Rattle.rustsec_program.specs.Plan.{PlanValue}
 use Rattle.rustsec_program.specs.declared.shapes.Shape.{Shape}
 use Rattle.rustsec_program.specs.declared.shapes.Shape.TheVariants as shape
@@ -41,7 +42,7 @@ written_text (line path) w = tree_line (many_tree path (check_tree w))
 abbrev pub refusal_text : Form → Failure → List ℕ
 refusal_text (text colored) e = (refused_as e.kind).text
 refusal_text json e = (refused_as e.kind).text
-refusal_text (line path) e = tree_line (refused_tree path e)
+refusal_text (line path) e = tree_line (refused_tree path e.kind)
 
 abbrev pub refusal_output : Form → Failure → Output
 refusal_output form e = record { text = refusal_text form e; status = 2 }
@@ -68,6 +69,13 @@ subject_of g l = record {
   baseline = l.baseline;
 }
 
+-- the notes on a check: those on the policy, on the kinds of warnings, on what is empty, and on the lockfile's dependencies
+abbrev pub notes_of : Ground → LoadedValue → List (List ℕ)
+notes_of g l =
+    ((g.plan.wanted.notes ++ kind_notes g.plan.wanted.settings.informational_warnings)
+    ++ empty_notes (length g.advisories) (length l.locked.packages))
+    ++ dependency_notes l.locked.packages l.locked.graph.unresolved
+
 -- what is written of a check
 abbrev pub written_of : Ground → LoadedValue → CheckValue → WrittenValue
 written_of g l c = record {
@@ -75,7 +83,7 @@ written_of g l c = record {
   packages = l.locked.packages;
   check = c;
   entries = g.plan.entries;
-  notes = g.plan.wanted.notes;
+  notes = notes_of g l;
 }
 
 -- the output for a check: its text, and status 1 if a finding is denied and not old

@@ -1,5 +1,5 @@
 -- What each command writes.
-use Rattle.std.specs.Prelude.{◌≡◌, ℕ, Bool, false, true, List, Option, Some, None, IfSome, map}
+use Rattle.std.specs.Prelude.{◌≡◌, ◌≢◌, ℕ, Bool, false, true, List, Option, Some, None, IfSome, map}
 use Rattle.std.specs.Io.KnownBytes.{Appends}
 use Rattle.rustsec_folders.specs.Allowed.{Allowed}
 use Rattle.rustsec_commands.specs.Commands as old
@@ -52,3 +52,8 @@ pub record Carries (allowed : Allowed) (words : List (List ℕ)) (input : Option
   pub is_output : IsOutputOf allowed words (command_of words) input output
   pub status_is : status ≡ output.status
   pub text : Appends old new output.text
+
+-- words have one output at most, if the bytes of the input are known or the command does not read it
+abbrev pub HaveOneOutput : Allowed → List (List ℕ) → Option (List ℕ) → Type 0
+HaveOneOutput allowed words input = (words_read_input words ≡ true → input ≢ None)
+    → (one other : Output) → IsOutputOf allowed words (command_of words) input one → IsOutputOf allowed words (command_of words) input other → one ≡ other

@@ -33,7 +33,7 @@ pairs_of g packages text = pairs_by g.plan.wanted.settings g.advisories packages
 -- the text for some pairs
 abbrev pub pairs_text : Shape → Settings → List ExplainedPair → List ℕ
 pairs_text shape.Text s pairs = explain_text s pairs
-pairs_text shape.Json s pairs = tree_line (explain_tree pairs)
+pairs_text shape.Json s pairs = tree_line (explain_tree s pairs)
 
 -- the output for the packages of a lockfile
 abbrev pub pairs_output : Ground → List PackageValue → List ℕ → Output

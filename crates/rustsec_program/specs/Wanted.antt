@@ -6,7 +6,6 @@ use Rattle.rustsec_folders.specs.Allowed.{Allowed}
 use Rattle.rustsec_versions.specs.Failure.{Failure, IsRefusal}
 use Rattle.rustsec_versions.specs.declared.error.ErrorKind.TheVariants as kind
 use Rattle.rustsec_lock.specs.Platforms.{arch_of, os_of}
-use Rattle.rustsec_lock.specs.declared.severity.Severity.{Severity}
 use Rattle.rustsec_texts.specs.Dates.{date_of}
 use Rattle.rustsec_texts.specs.Ids.{IdValue, id_of}
 use Rattle.rustsec_texts.specs.declared.informational.Informational.{Informational}

@@ -1,5 +1,5 @@
 -- The commands of this crate, and the words that name them.
-use Rattle.std.specs.Prelude.{ℕ, nat_eq, Bool, false, true, List, [], ◌∷◌, Option, Some, None, codes, if◌then◌else◌}
+use Rattle.std.specs.Prelude.{ℕ, nat_eq, List, [], ◌∷◌, Option, Some, None, codes, if◌then◌else◌}
 use Rattle.std.specs.Cmp.Lexicographic.{pointwise}
 
 -- a command with its words, or the name of one with too few words after it

@@ -11,6 +11,7 @@ ghost use Rattle.rustsec_program.specs.Forms.{form_view};
 
 use crate::forms::Form;
 use crate::locked::{Loaded, load};
+use crate::notes::notes_of;
 use crate::output::Output;
 use crate::plan::Plan;
 use rustsec_check::{Check, Subject, check};
@@ -79,12 +80,14 @@ fn check_output<'x, 'c>(
     ensures err { IfErr result IsMemory }
 {
     let plan = ground.plan;
+    let advisories = ground.database.iter().as_slice().len();
+    let notes = notes_of(alloc, &plan.wanted, advisories, &loaded.locked)?;
     let written = Written {
         database: ground.database,
         lockfile: &loaded.locked.lockfile,
         check,
         entries: plan.policy.advisories.ignore.as_slice(),
-        notes: plan.wanted.notes.as_slice(),
+        notes: notes.as_slice(),
     };
     let text = written_text(alloc, form, &written)?;
     Ok(Output::new(text, status_of(check)))

@@ -42,11 +42,11 @@ fn tree_line(alloc: Global, tree: &Value) -> std::result::Result<String, AllocEr
 }
 
 /// Returns the JSON list of some pairs on one line.
-fn explain_line(alloc: Global, pairs: &[Explained<'_>]) -> Result<String>
-    ensures ok { IfOk result (λ t. string_bytes t ≡ tree_line (explain_tree pairs.now)) }
+fn explain_line(alloc: Global, settings: &Settings, pairs: &[Explained<'_>]) -> Result<String>
+    ensures ok { IfOk result (λ t. string_bytes t ≡ tree_line (explain_tree settings.now pairs.now)) }
     ensures err { IfErr result IsMemory }
 {
-    let tree = explain_tree(alloc, pairs)?;
+    let tree = explain_tree(alloc, settings, pairs)?;
     let line = tree_line(alloc, &tree)?;
     Ok(line)
 }
@@ -63,7 +63,7 @@ fn pairs_text(
 {
     match shape {
         Shape::Text => explain_text(alloc, settings, pairs),
-        Shape::Json => explain_line(alloc, pairs),
+        Shape::Json => explain_line(alloc, settings, pairs),
     }
 }
 

@@ -34,6 +34,8 @@ pub enum Flag {
     AllowEmpty,
     /// Paths end with NUL, not with a line feed.
     Null,
+    /// A line on the error output after each lockfile.
+    Progress,
 }
 
 /// All keys, in their order.
@@ -51,7 +53,7 @@ const KEYS: &[Key] = &[
 ];
 
 /// All flags, in their order.
-const FLAGS: &[Flag] = &[Flag::AllowEmpty, Flag::Null];
+const FLAGS: &[Flag] = &[Flag::AllowEmpty, Flag::Null, Flag::Progress];
 
 impl Named for Key {
     ghost use Rattle.rustsec_program.specs.CheckOptions.{key_name, keys};
@@ -95,6 +97,7 @@ impl Named for Flag {
         match self {
             Flag::AllowEmpty => "--allow-empty",
             Flag::Null => "--null",
+            Flag::Progress => "--progress",
         }
     }
 }

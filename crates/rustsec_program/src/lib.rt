@@ -11,6 +11,7 @@ mod keys;
 mod locked;
 mod many;
 mod misuse;
+mod notes;
 mod options;
 mod output;
 mod plan;

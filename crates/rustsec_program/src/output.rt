@@ -87,7 +87,7 @@ impl Output {
 }
 
 /// Returns the note that says why something is refused, with its cause, on one line.
-fn why(alloc: Global, error: &Error) -> Result<String, AllocError> {
+pub fn why(alloc: Global, error: &Error) -> Result<String, AllocError> {
     let text = error.to_string(alloc)?;
     let mut note = String::from_str(alloc, "rustsec_audit: ")?;
     push_shown(&mut note, &text)?;

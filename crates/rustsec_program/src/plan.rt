@@ -1,11 +1,12 @@
 //! Reads what the options of a command and the file of its policy ask for.
 
 ghost use Rattle.std.specs.Prelude.{◌≡◌, IfErr, IfOk, None, Some, option_map};
+ghost use Rattle.std.specs.List.{filter};
 ghost use Rattle.rustsec_folders.specs.Allowed.{AllowSame};
 ghost use Rattle.rustsec_policy.specs.Policies.{policy_of};
 ghost use Rattle.rustsec_versions.specs.Failure.{IsRefusal};
 ghost use Rattle.rustsec_program.specs.CheckOptions.{has, last_value};
-ghost use Rattle.rustsec_program.specs.Plan.{IsPlan, IsPlanRefusal};
+ghost use Rattle.rustsec_program.specs.Plan.{IsPlan, IsPlanRefusal, counts_on};
 ghost use Rattle.rustsec_program.specs.Wanted.{FailsAtPolicy, IsPolicyAt, IsPolicyRefusal, IsPolicyText, wanted};
 ghost use Rattle.rustsec_program.specs.declared.keys.Flag.TheVariants as flag;
 ghost use Rattle.rustsec_program.specs.declared.keys.Key.TheVariants as key;
@@ -15,8 +16,9 @@ use crate::options::Options;
 use crate::request::{Request, request_of};
 use crate::wanted::Wanted;
 use rustsec_folders::Folders;
-use rustsec_policy::Policy;
-use rustsec_values::Text;
+use rustsec_policy::{Ignored, Policy};
+use rustsec_texts::Date;
+use rustsec_values::{Items, Test, Text};
 use rustsec_versions::{ErrorKind, Result, refused_file};
 use std::alloc::Global;
 use std::marker::Model;
@@ -24,7 +26,7 @@ use std::marker::Model;
 /// What the options of a command and the file of its policy ask for.
 #[derive(Drop)]
 pub struct Plan<'a> {
-    /// The policy.
+    /// The policy, with the entries of `ignore` that count on the day.
     pub policy: Policy,
     /// What policy and words want.
     pub wanted: Wanted,
@@ -32,6 +34,8 @@ pub struct Plan<'a> {
     pub baseline: Option<&'a str>,
     /// Whether an empty database or lockfile is not refused.
     pub allow_empty: bool,
+    /// Whether a line is written to the error output after each lockfile of many.
+    pub shows_progress: bool,
 }
 
 impl<'a> Model for Plan<'a> {
@@ -45,7 +49,36 @@ impl<'a> Model for Plan<'a> {
       wanted = p.wanted;
       baseline = option_map (λ t. t.now) p.baseline;
       allow_empty = p.allow_empty;
+      shows_progress = p.shows_progress;
     } };
+}
+
+/// The test whether an entry of a policy counts on a day.
+#[derive(Drop)]
+struct CountsOn<'a> {
+    today: Option<&'a Date>,
+}
+
+impl<'a> Test<Ignored> for CountsOn<'a> {
+    ghost use Rattle.std.specs.Prelude.{option_map};
+    ghost use Rattle.rustsec_program.specs.Plan.{counts_on};
+
+    ghost passes = { λ test e. counts_on (option_map (λ d. d.now) test.today) e };
+
+    fn passes(&self, entry: &Ignored) -> bool {
+        match (&entry.until, self.today) {
+            (Some(until), Some(today)) => today <= until,
+            (Some(_), None) => false,
+            (None, _) => true,
+        }
+    }
+}
+
+/// Keeps the entries of a policy that count on a day.
+fn keep_counting(entries: &mut Items<Ignored>, today: Option<&Date>)
+    ensures { entries.new ≡ filter (counts_on (option_map (λ d. d.now) today.entry)) entries.old }
+{
+    entries.retain(&CountsOn { today });
 }
 
 /// Reads the text of the policy: that of its file, or the empty text if no file is named.
@@ -88,20 +121,23 @@ fn plan_of<'a>(
     policy: Policy,
     request: &Request,
 ) -> Result<Plan<'a>>
-    ensures entries { IfOk result (λ p. p.entries ≡ policy.advisories.ignore) }
+    ensures entries { IfOk result (λ p. p.entries ≡ filter (counts_on request.now.today) policy.advisories.ignore) }
     ensures wanted { IfOk result (λ p. wanted policy request.now ≡ Some p.wanted) }
     ensures baseline { IfOk result (λ p. p.baseline ≡ last_value key.Baseline options.now) }
     ensures allow_empty { IfOk result (λ p. p.allow_empty ≡ has flag.AllowEmpty options.now) }
+    ensures shows_progress { IfOk result (λ p. p.shows_progress ≡ has flag.Progress options.now) }
     ensures err { IfErr result (IsRefusal ErrorKind.BadParam (wanted policy request.now ≡ None)) }
 {
     let wanted = Wanted::of(alloc, &policy, request)?;
     let baseline = options.last(alloc, Key::Baseline)?;
-    let allow_empty = options.has(Flag::AllowEmpty);
+    let mut policy = policy;
+    keep_counting(&mut policy.advisories.ignore, request.today.as_ref());
     Ok(Plan {
         policy,
         wanted,
         baseline,
-        allow_empty,
+        allow_empty: options.has(Flag::AllowEmpty),
+        shows_progress: options.has(Flag::Progress),
     })
 }
 

@@ -8,8 +8,9 @@ pub const PAGE: &str = "
       status 0: nothing that fails; 1: a vulnerability or a denied warning that is not old
       example: rustsec_audit check advisory-db Cargo.lock --policy audit.toml --today 2026-01-31
 
-  check-many ROOT [OPTION].. [--null]
+  check-many ROOT [OPTION].. [--null] [--progress]
       for each path of a lockfile in the input: a line of JSON
+      --null: the paths end at NUL bytes; --progress: a line on the error output after each lockfile
       status: the worst one
       example: find . -name Cargo.lock -print0 | rustsec_audit check-many advisory-db --null
 
@@ -22,11 +23,14 @@ pub const PAGE: &str = "
   Options; of an option that counts once the last one counts:
       --policy FILE       a policy, as cargo-audit's `audit.toml`
       --today DATE        the day, for entries of the policy with a last day
-      --baseline FILE     an older lockfile: what it has too is old and does not fail
       --ignore ID         an advisory that does not count
-      --deny KIND         warnings that fail: `warnings`, `unmaintained`, `unsound` or `yanked`
       --severity LEVEL    the least severity: `none`, `low`, `medium`, `high` or `critical`
       --arch NAME, --os NAME      a platform
-      --format text|json, --color always|never
-      --allow-empty       an empty database or lockfile is not refused
+      --format text|json
+
+  Options of check and check-many, without effect for explain:
+      --baseline FILE     an older lockfile: what it has too is old and does not fail
+      --deny KIND         warnings that fail: `warnings`, `unmaintained`, `unsound` or `yanked`
+      --color always|never
+      --allow-empty       an empty database, lockfile or list of lockfiles is not refused
 ";

@@ -15,6 +15,32 @@ const NONE: Failing = Failing {
     kind: ErrorKind::Io,
 };
 
+/// Appends what words write for an input, and returns the status.
+pub fn append(
+    alloc: Global,
+    words: &[&str],
+    input: &str,
+    written: &mut Vec<u8>,
+) -> Result<u8, Fault> {
+    let mut folders = MemoryFolders::new(FILES, NONE);
+    let mut input: &[u8] = input.as_bytes();
+    let mut notes = io::sink();
+    run_over(&mut folders, alloc, words, &mut input, written, &mut notes)
+}
+
+/// Returns whether words write these bytes for an input, with this status.
+pub fn writes_bytes(
+    alloc: Global,
+    words: &[&str],
+    input: &str,
+    status: u8,
+    bytes: &[u8],
+) -> Result<bool, Fault> {
+    let mut written = Vec::new(alloc);
+    let found = append(alloc, words, input, &mut written)?;
+    Ok(found == status && written.as_slice() == bytes)
+}
+
 /// Returns whether words write a text for an input, with this status.
 pub fn writes(
     alloc: Global,
@@ -23,11 +49,16 @@ pub fn writes(
     status: u8,
     text: &str,
 ) -> Result<bool, Fault> {
+    writes_bytes(alloc, words, input, status, text.as_bytes())
+}
+
+/// Returns whether words write a text to the error output for an input.
+pub fn notes(alloc: Global, words: &[&str], input: &str, text: &str) -> Result<bool, Fault> {
     let mut folders = MemoryFolders::new(FILES, NONE);
     let mut input: &[u8] = input.as_bytes();
-    let mut written = Vec::new(alloc);
-    let mut notes = io::sink();
-    let found = run_over(
+    let mut written = io::sink();
+    let mut notes = Vec::new(alloc);
+    run_over(
         &mut folders,
         alloc,
         words,
@@ -35,7 +66,7 @@ pub fn writes(
         &mut written,
         &mut notes,
     )?;
-    Ok(found == status && written.as_slice() == text.as_bytes())
+    Ok(notes.as_slice() == text.as_bytes())
 }
 
 /// The lists of a check, each without its brackets.

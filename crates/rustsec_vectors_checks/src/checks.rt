@@ -1,6 +1,6 @@
 //! Checks of a lockfile, and of many.
 
-use crate::answers::{Lists, tree, writes};
+use crate::answers::{Lists, notes, tree, writes};
 use crate::files::{HTTP, IGNORED, LEFT};
 use rustsec_fixtures::changed;
 use std::alloc::Global;
@@ -182,9 +182,113 @@ const REFUSED: &[Row<'static>] = &[
         ],
         "",
         0,
-        "{\"below-threshold\":0,\"database\":{\"advisory-count\":0,\"last-date\":null},\"findings\":[],\"ignored\":[],\"lockfile\":{\"dependency-count\":0},\"notes\":[],\"unknown-ignores\":[],\"unused-ignores\":[]}\n",
+        "{\"below-threshold\":0,\"database\":{\"advisory-count\":0,\"last-date\":null},\"findings\":[],\"ignored\":[],\"lockfile\":{\"dependency-count\":0},\"notes\":[\"the database has no advisory\",\"the lockfile has no package\"],\"unknown-ignores\":[],\"unused-ignores\":[]}\n",
     ),
 ];
+
+/// Notes on what is looked at, and on what the least severity leaves out; the reason is that of the entry that counts on
+/// the day.
+const NOTED: &[Row<'static>] = &[
+    (
+        &["check", "db", "lost"],
+        "",
+        0,
+        "note: app 0.1.0: dependencies that name no package, or several: 2\n0 vulnerabilities, 0 warnings, 0 ignored; looked at 3 advisories and 3 packages\n",
+    ),
+    (
+        &["check", "empty", "none", "--allow-empty"],
+        "",
+        0,
+        "note: the database has no advisory\nnote: the lockfile has no package\n0 vulnerabilities, 0 warnings, 0 ignored; looked at 0 advisories and 0 packages\n",
+    ),
+    (
+        &[
+            "check",
+            "db",
+            "lock",
+            "--severity",
+            "critical",
+            "--ignore",
+            "RUSTSEC-2022-0001",
+        ],
+        "",
+        0,
+        "ignored RUSTSEC-2022-0001 left 0.2.0\nleft out below the least severity: 1\n0 vulnerabilities, 0 warnings, 1 ignored; looked at 3 advisories and 4 packages\n",
+    ),
+    (
+        &[
+            "check",
+            "db",
+            "lock",
+            "--policy",
+            "twofold",
+            "--today",
+            "2026-01-01",
+        ],
+        "",
+        0,
+        "RUSTSEC-2022-0001 left 0.2.0: V\n  unmaintained\n  app 0.1.0 → left 0.2.0\n  no fixed version\nignored RUSTSEC-2021-0001 http 1.0.0: not called\nnote: `unsuond` at `informational_warnings` is not a kind that gives warnings\n0 vulnerabilities, 1 warning, 1 ignored; looked at 3 advisories and 4 packages\n",
+    ),
+];
+
+#[test]
+fn check_notes(rt: HostRuntime) -> Result<(), Fail> {
+    for (words, input, status, text) in NOTED {
+        assert!(rt;
+            writes(rt.alloc(), words, input, *status, text)?,
+            "of {words:?}"
+        );
+    }
+    Ok(())
+}
+
+/// A list without a path is refused, unless that is allowed.
+const LISTS: &[Row<'static>] = &[
+    (&["check-many", "db"], "", 2, "refused: not found\n"),
+    (&["check-many", "db"], "\n\n", 2, "refused: not found\n"),
+    (&["check-many", "db", "--allow-empty"], "\n", 0, ""),
+    (
+        &["check-many", "db", "--policy", "misspelled"],
+        "lock\n",
+        2,
+        "refused: parse error\n",
+    ),
+    (
+        &["check-many", "absent"],
+        "lock\n",
+        2,
+        "refused: I/O operation failed\n",
+    ),
+    (
+        &["check-many", "db", "--null"],
+        "broken\0none\0",
+        2,
+        "{\"lockfile\":\"broken\",\"refused\":\"parse error\"}\n{\"lockfile\":\"none\",\"refused\":\"not found\"}\n",
+    ),
+];
+
+#[test]
+fn check_lists(rt: HostRuntime) -> Result<(), Fail> {
+    for (words, input, status, text) in LISTS {
+        assert!(rt;
+            writes(rt.alloc(), words, input, *status, text)?,
+            "of {words:?} for {input:?}"
+        );
+    }
+    Ok(())
+}
+
+#[test]
+fn check_progress(rt: HostRuntime) -> Result<(), Fail> {
+    let text = "rustsec_audit: I/O operation failed: the folders fail\n\
+        rustsec_audit: 1 of 2: absent\nrustsec_audit: 2 of 2: lock\n";
+    let words = &["check-many", "db", "--progress"];
+    assert!(rt;
+        notes(rt.alloc(), words, "absent\nlock\n", text)?,
+        "after each lockfile"
+    );
+    Ok(())
+}
 
 #[test]
 fn check_empty(rt: HostRuntime) -> Result<(), Fail> {
@@ -209,7 +313,7 @@ fn check_many(rt: HostRuntime) -> Result<(), Fail> {
     };
     let tree = tree(rt.alloc(), lists)?;
     let lines = format!(in rt.alloc();
-        "{{\"lockfile\":\"absent\",\"message\":\"the folders fail\",\"refused\":\"I/O operation failed\"}}\n{{\"check\":{tree},\"lockfile\":\"lock\"}}\n"
+        "{{\"lockfile\":\"absent\",\"refused\":\"I/O operation failed\"}}\n{{\"check\":{tree},\"lockfile\":\"lock\"}}\n"
     )?;
     let words = &["check-many", "db"];
     assert!(rt;
@@ -251,7 +355,7 @@ const EXPLAINED: &[Row<'static>] = &[
         ],
         "",
         0,
-        "[{\"advisory\":\"RUSTSEC-2021-0002\",\"finding\":false,\"package\":{\"name\":\"http\",\"source\":\"registry+https://github.com/rust-lang/crates.io-index\",\"version\":\"1.0.0\"},\"reasons\":[{\"reason\":\"held-by-unaffected\",\"requirement\":\"<1.5.0\"}]}]\n",
+        "[{\"advisory\":\"RUSTSEC-2021-0002\",\"finding\":false,\"package\":{\"name\":\"http\",\"source\":\"registry+https://github.com/rust-lang/crates.io-index\",\"version\":\"1.0.0\"},\"reasons\":[{\"reason\":\"held-by-unaffected\",\"requirement\":\"<1.5.0\",\"text\":\"unaffected `<1.5.0` holds 1.0.0\"}]}]\n",
     ),
     (
         &["explain", "db", "lock", "nothing"],

@@ -58,11 +58,23 @@ pub const FILES: Paths<'_> = &[
         ),
     ),
     ("none", Holds::Text("version = 4\n")),
+    (
+        "lost",
+        Holds::Text(
+            "version = 4\n\n[[package]]\nname = \"app\"\nversion = \"0.1.0\"\ndependencies = [\"gone\", \"twice\"]\n\n[[package]]\nname = \"twice\"\nversion = \"1.0.0\"\nsource = \"registry+https://github.com/rust-lang/crates.io-index\"\n\n[[package]]\nname = \"twice\"\nversion = \"2.0.0\"\nsource = \"registry+https://github.com/rust-lang/crates.io-index\"\n",
+        ),
+    ),
     ("broken", Holds::Text("package = 1\n")),
     (
         "policy",
         Holds::Text(
             "[advisories]\nignore = [{ id = \"RUSTSEC-2021-0001\", reason = \"not called\", until = \"2026-03-31\" }, \"RUSTSEC-2021-0002\", \"RUSTSEC-2018-0001\"]\n\n[output]\ndeny = [\"unmaintained\"]\nformat = \"json\"\n",
+        ),
+    ),
+    (
+        "twofold",
+        Holds::Text(
+            "[advisories]\nignore = [{ id = \"RUSTSEC-2021-0001\", reason = \"until it is mended\", until = \"2020-12-31\" }, { id = \"RUSTSEC-2021-0001\", reason = \"not called\" }]\ninformational_warnings = [\"unmaintained\", \"unsuond\"]\n",
         ),
     ),
     ("misspelled", Holds::Text("[advisories]\nignored = []\n")),

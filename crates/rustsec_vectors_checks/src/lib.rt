@@ -8,3 +8,5 @@ mod answers;
 mod checks;
 #[cfg(test)]
 mod files;
+#[cfg(test)]
+mod split;

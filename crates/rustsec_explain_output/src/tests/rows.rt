@@ -48,25 +48,25 @@ pub(crate) const ROWS: &[Row] = &[
     Row {
         locked: SPARSE,
         reasons: &[Reason::HeldByPatched(0)],
-        json: "[{\"advisory\":\"RUSTSEC-2020-0001\",\"finding\":false,\"package\":{\"name\":\"base\",\"source\":\"sparse+https://index.crates.io/\",\"version\":\"1.4.0\"},\"reasons\":[{\"reason\":\"held-by-patched\",\"requirement\":\">=1.2.3\"}]}]",
+        json: "[{\"advisory\":\"RUSTSEC-2020-0001\",\"finding\":false,\"package\":{\"name\":\"base\",\"source\":\"sparse+https://index.crates.io/\",\"version\":\"1.4.0\"},\"reasons\":[{\"reason\":\"held-by-patched\",\"requirement\":\">=1.2.3\",\"text\":\"patched `>=1.2.3` holds 1.4.0\"}]}]",
         text: "base 1.4.0 RUSTSEC-2020-0001: patched `>=1.2.3` holds 1.4.0\n",
     },
     Row {
         locked: HIDDEN,
         reasons: &[Reason::HeldByUnaffected(0), Reason::Ignored],
-        json: "[{\"advisory\":\"RUSTSEC-2020-0001\",\"finding\":false,\"package\":{\"name\":\"ba\\nse\u{202e}é\",\"source\":null,\"version\":\"0.1.0\"},\"reasons\":[{\"reason\":\"held-by-unaffected\",\"requirement\":\"<0.5.0\"},{\"reason\":\"ignored\"}]}]",
+        json: "[{\"advisory\":\"RUSTSEC-2020-0001\",\"finding\":false,\"package\":{\"name\":\"ba\\nse\u{202e}é\",\"source\":null,\"version\":\"0.1.0\"},\"reasons\":[{\"reason\":\"held-by-unaffected\",\"requirement\":\"<0.5.0\",\"text\":\"unaffected `<0.5.0` holds 0.1.0\"},{\"reason\":\"ignored\",\"text\":\"the ID `RUSTSEC-2020-0001` is ignored\"}]}]",
         text: "ba\\u{a}se\\u{202e}é 0.1.0 RUSTSEC-2020-0001: unaffected `<0.5.0` holds 0.1.0; the ID `RUSTSEC-2020-0001` is ignored\n",
     },
     Row {
         locked: LOCAL,
         reasons: &[Reason::HeldByPatched(1)],
-        json: "[{\"advisory\":\"RUSTSEC-2020-0001\",\"finding\":false,\"package\":{\"name\":\"base\",\"source\":null,\"version\":\"1.4.0-rc.1\"},\"reasons\":[{\"reason\":\"held-by-patched\",\"requirement\":null}]}]",
+        json: "[{\"advisory\":\"RUSTSEC-2020-0001\",\"finding\":false,\"package\":{\"name\":\"base\",\"source\":null,\"version\":\"1.4.0-rc.1\"},\"reasons\":[{\"reason\":\"held-by-patched\",\"requirement\":null,\"text\":\"patched requirement 1 holds 1.4.0-rc.1\"}]}]",
         text: "base 1.4.0-rc.1 RUSTSEC-2020-0001: patched requirement 1 holds 1.4.0-rc.1\n",
     },
     Row {
         locked: SPARSE,
         reasons: OTHERS,
-        json: "[{\"advisory\":\"RUSTSEC-2020-0001\",\"finding\":false,\"package\":{\"name\":\"base\",\"source\":\"sparse+https://index.crates.io/\",\"version\":\"1.4.0\"},\"reasons\":[{\"reason\":\"without-source\"},{\"reason\":\"not-audited\"},{\"reason\":\"other-collection\"},{\"reason\":\"other-package\"},{\"reason\":\"other-source\"},{\"reason\":\"below-threshold\"},{\"reason\":\"other-architecture\"},{\"reason\":\"other-system\"},{\"reason\":\"withdrawn\"},{\"reason\":\"kind-not-wanted\"},{\"reason\":\"kind-without-warnings\"},{\"reason\":\"ignored\"}]}]",
+        json: "[{\"advisory\":\"RUSTSEC-2020-0001\",\"finding\":false,\"package\":{\"name\":\"base\",\"source\":\"sparse+https://index.crates.io/\",\"version\":\"1.4.0\"},\"reasons\":[{\"reason\":\"without-source\",\"text\":\"the package has no source\"},{\"reason\":\"not-audited\",\"text\":\"the source `sparse+https://index.crates.io/` is not the default registry\"},{\"reason\":\"other-collection\",\"text\":\"the advisory is in no collection\"},{\"reason\":\"other-package\",\"text\":\"the advisory is about `base` and not about `base`\"},{\"reason\":\"other-source\",\"text\":\"the advisory is about the default registry's index in git and not about `sparse+https://index.crates.io/`\"},{\"reason\":\"below-threshold\",\"text\":\"the severity is below the least one\"},{\"reason\":\"other-architecture\",\"text\":\"no affected architecture is asked for\"},{\"reason\":\"other-system\",\"text\":\"no affected system is asked for\"},{\"reason\":\"withdrawn\",\"text\":\"withdrawn\"},{\"reason\":\"kind-not-wanted\",\"text\":\"the kind is not asked for\"},{\"reason\":\"kind-without-warnings\",\"text\":\"the kind gives no warnings\"},{\"reason\":\"ignored\",\"text\":\"the ID `RUSTSEC-2020-0001` is ignored\"}]}]",
         text: "base 1.4.0 RUSTSEC-2020-0001: the package has no source; the source `sparse+https://index.crates.io/` is not the default registry; the advisory is in no collection; the advisory is about `base` and not about `base`; the advisory is about the default registry's index in git and not about `sparse+https://index.crates.io/`; the severity is below the least one; no affected architecture is asked for; no affected system is asked for; withdrawn; the kind is not asked for; the kind gives no warnings; the ID `RUSTSEC-2020-0001` is ignored\n",
     },
 ];

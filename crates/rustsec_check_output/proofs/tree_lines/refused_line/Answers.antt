@@ -7,4 +7,4 @@ use Rattle.rustsec_check_output.proofs.tree_lines.refused_line.Goals as goal
 pub returns-clause-ok : goal.returns-clause-ok
 returns-clause-ok c =
     let is = c.in_ok-tree.ensures.ok in
-    c.in_ok-line.ensures (ap has_float is ∙ refused_plain c.args.path.now c.args.error.now) ∙ ap tree_line is
+    c.in_ok-line.ensures (ap has_float is ∙ refused_plain c.args.path.now c.args.kind) ∙ ap tree_line is

@@ -1,4 +1,4 @@
-use Rattle.std.proofs.Common.{◌≡◌, List, flat_map, map, string_bytes, take}
+use Rattle.std.proofs.Common.{map, string_bytes, take}
 use Rattle.rustsec_folders.specs.Allowed.{AllowSame}
 use Rattle.rustsec_program.proofs.ManyLines.{AreSoFar}
 use Rattle.rustsec_program.proofs.many.answers.Given as goal

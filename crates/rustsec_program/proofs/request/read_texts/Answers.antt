@@ -1,7 +1,6 @@
 use Rattle.std.proofs.Common.{get_or}
 use Rattle.std.proofs.lemmas.List.{get_or_default}
 use Rattle.rustsec_values.proofs.Readers.{read_all-nil, read_map-more, read_map-stop}
-use Rattle.rustsec_versions.proofs.Refusals.{refused_by}
 use Rattle.rustsec_program.proofs.OptionWords.{no_word, refused-there}
 use Rattle.rustsec_program.proofs.request.read_texts.Goals as goal
 

@@ -1,0 +1,101 @@
+"""The tables of bench/run --checks.
+
+The first has `check` beside `audit` over the same database and lockfile. The second has `check-many` beside the sum of
+one load and as many readings of lockfiles as its list has paths. Both parts of the sum are measured with rustsec_bench:
+the load as a process that opens the database once, the readings as calls of `Lockfile::from_str` over the texts of the
+list's lockfiles. For these a process is started for each lockfile; its time without a call is subtracted, so that the
+start, and opening and reading the file, are not part of the sum. Each table stands twice: for a database whose
+advisories are about 500 packages, so that there are many findings, and for one with a package for each advisory.
+"""
+import json
+import os
+import random
+import statistics
+import tempfile
+
+import common
+import databases
+import timing
+
+DISTINCT = 50
+HEAD = ["operation", "size", "best, ms", "median", "most MB", "ratio of best", "of median"]
+
+
+def head(title):
+    print(f"\n{title}\n\n| " + " | ".join(HEAD) + " |\n" + "|---" * len(HEAD) + "|", flush=True)
+
+
+def row(name, size, best, middle, memory, beside=None):
+    ratios = [f"{best / beside[0]:.2f}", f"{middle / beside[1]:.2f}"] if beside else ["", ""]
+    cells = [name, str(size), timing.milliseconds(best), timing.milliseconds(middle), memory, *ratios]
+    print("| " + " | ".join(cells) + " |", flush=True)
+
+
+def best_and_median(times):
+    return min(times), statistics.median(times)
+
+
+def counted(options, root, lock):
+    """How many findings there are. `audit` and `check` must agree on that."""
+    audit, status = common.answer_of(options.ours, ["audit", root, lock])
+    words = audit.decode().splitlines()[-1].split()
+    check, other = common.answer_of(options.ours, ["check", root, lock, "--format", "json"])
+    findings = len(json.loads(check)["findings"])
+    if {status, other} - {0, 1} or int(words[0]) + int(words[2]) != findings:
+        raise SystemExit(f"audit: {' '.join(words)}; check: {findings} findings; statuses {status} and {other}")
+    return findings
+
+
+def single(options, root, lock, policy):
+    """`check` beside `audit`."""
+    findings = counted(options, root, lock)
+    head(f"{options.packages} packages, {findings} findings:")
+    calls = [("`audit`", ["audit", root, lock]), ("`check --format json`", ["check", root, lock, "--format", "json"]),
+             ("`check`", ["check", root, lock]),
+             ("`check` with a policy and a baseline", ["check", root, lock, "--policy", policy, "--baseline", lock])]
+    pairs = [(options.ours, [(words, os.devnull)]) for _, words in calls]
+    found = [best_and_median(times) for times in timing.timed(pairs, options.runs)]
+    for at, (name, _) in enumerate(calls):
+        memory = f"{timing.peak(*pairs[at]) / 1024:.1f}"
+        row(f"{name}; advisories", options.advisories, *found[at], memory, found[0] if at else None)
+
+
+def many(options, root, locks):
+    """`check-many` beside one load and the readings of the list's lockfiles."""
+    lines, _ = common.answer_of(options.ours, ["check-many", root], "\n".join(locks).encode())
+    findings = [len(json.loads(line)["check"]["findings"]) for line in lines.splitlines()]
+    head(f"{options.advisories} advisories, lockfiles of {options.packages} packages, "
+         f"{sum(findings) / len(findings):.1f} findings each:")
+    listed = [locks[at % len(locks)] for at in range(options.lockfiles)]
+    path = os.path.join(os.path.dirname(root), "list")
+    with open(path, "w") as f:
+        f.writelines(lock + "\n" for lock in listed)
+    calls = [(options.ours, [(["check-many", root], path)]),
+             (options.checks, [(["load", "1", root, locks[0]], os.devnull)]),
+             (options.checks, [(["lockfile", str(listed.count(lock)), lock], os.devnull) for lock in locks]),
+             (options.checks, [(["lockfile", "0", lock], os.devnull) for lock in locks])]
+    ours, load, reading, start = [best_and_median(times) for times in timing.timed(calls, options.runs)]
+    readings = [a - b for a, b in zip(reading, start)]
+    total = [a + b for a, b in zip(load, readings)]
+    memory = [f"{timing.peak(*call) / 1024:.1f}" for call in calls]
+    row("one load; advisories", options.advisories, *load, memory[1])
+    row("readings; lockfiles", options.lockfiles, *readings, memory[2])
+    row("the sum of both", "", *total, "")
+    row("`check-many`; lockfiles", options.lockfiles, *ours, memory[0], total)
+
+
+def measure(options):
+    common.check_programs(options.ours, options.checks)
+    for names in (500, options.advisories):
+        r = random.Random(f"{options.seed} {names}")
+        with tempfile.TemporaryDirectory() as folder:
+            root, policy = os.path.join(folder, "database"), os.path.join(folder, "audit.toml")
+            databases.usual_database(r, root, options.advisories, names)
+            with open(policy, "w") as f:
+                f.write('[advisories]\nignore = ["RUSTSEC-2016-0001"]\nseverity_threshold = "medium"\n')
+            locks = []
+            for at in range(min(DISTINCT, options.lockfiles)):
+                databases.write(folder, f"{at}.lock", databases.tied_lockfile(r, options.packages, names))
+                locks.append(os.path.join(folder, f"{at}.lock"))
+            single(options, root, locks[0], policy)
+            many(options, root, locks)

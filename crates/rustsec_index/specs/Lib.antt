@@ -1,0 +1,5 @@
+pub mod IndexPath
+pub mod IndexLines
+pub mod CacheFile
+pub mod IndexFile
+pub mod IndexFolder

@@ -1,0 +1,4 @@
+pub mod Agreement
+pub mod Releases
+pub mod Sides
+pub mod Single

@@ -1,0 +1,165 @@
+//! Makes the notes on what a check looks at.
+
+ghost use Rattle.std.specs.Prelude.{◌≡◌, ◌++◌, IfOk, OnOk, length, slice_index_or};
+ghost use Rattle.rustsec_program.specs.Notes.{dependency_note, dependency_notes, dependency_notes_at, empty_notes, kind_note, kind_notes, note_if, unknown_kind};
+
+use crate::locked::Locked;
+use crate::wanted::Wanted;
+use rustsec_lock::package::Package;
+use rustsec_texts::Informational;
+use rustsec_values::{Items, Text};
+use std::alloc::{AllocError, Global};
+use std::fmt::Write as _;
+
+/// Appends a note, if it applies.
+fn push_if(
+    alloc: Global,
+    notes: &mut Items<Text>,
+    applies: bool,
+    note: &str,
+) -> Result<(), AllocError>
+    ensures { OnOk result (notes.new ≡ notes.old ++ note_if applies note.now) }
+{
+    if applies {
+        let note = Text::from_str(alloc, note)?;
+        notes.push(note)?;
+    }
+    Ok(())
+}
+
+/// Returns the note on a kind of informational advisories that gives no warnings.
+#[tactic(auto, unfolding(crate::specs::Notes::unknown_kind))]
+fn unknown_kind(alloc: Global, kind: &Informational) -> Result<Text, AllocError>
+    ensures { IfOk result (λ t. t ≡ unknown_kind kind.now) }
+{
+    let name = kind.as_str();
+    let note = format!(in alloc;
+        "`{name}` at `informational_warnings` is not a kind that gives warnings"
+    )?;
+    Ok(Text::from(note))
+}
+
+/// Appends the note on a kind of informational advisories, if it gives no warnings.
+fn push_kind_note(
+    alloc: Global,
+    notes: &mut Items<Text>,
+    kind: &Informational,
+) -> Result<(), AllocError>
+    ensures { OnOk result (notes.new ≡ notes.old ++ kind_note kind.now) }
+{
+    if kind.is_other() {
+        let note = unknown_kind(alloc, kind)?;
+        notes.push(note)?;
+    }
+    Ok(())
+}
+
+/// Appends the notes on kinds of informational advisories that give no warnings.
+fn push_kind_notes(
+    alloc: Global,
+    notes: &mut Items<Text>,
+    kinds: &[Informational],
+) -> Result<(), AllocError>
+    ensures { OnOk result (notes.new ≡ notes.old ++ kind_notes kinds.now) }
+{
+    for kind in kinds {
+        push_kind_note(alloc, notes, kind)?;
+    }
+    Ok(())
+}
+
+/// Appends the notes on a database without advisories and on a lockfile without packages.
+fn push_empty(
+    alloc: Global,
+    notes: &mut Items<Text>,
+    advisories: usize,
+    packages: usize,
+) -> Result<(), AllocError>
+    ensures { OnOk result (notes.new ≡ notes.old ++ empty_notes advisories packages) }
+{
+    push_if(
+        alloc,
+        notes,
+        advisories == 0,
+        "the database has no advisory",
+    )?;
+    push_if(alloc, notes, packages == 0, "the lockfile has no package")
+}
+
+/// Returns the note on a package whose dependency entries name no package of the lockfile, or several, by how many do.
+#[tactic(auto, unfolding(crate::specs::Notes::dependency_note))]
+fn dependency_note(alloc: Global, package: &Package, count: usize) -> Result<Text, AllocError>
+    ensures { IfOk result (λ t. t ≡ dependency_note «package».now count) }
+{
+    let version = &package.version;
+    let mut note = String::from_str(alloc, package.name.as_str())?;
+    write!(
+        note,
+        " {version}: dependencies that name no package, or several: {count}"
+    )?;
+    Ok(Text::from(note))
+}
+
+/// Returns the number at a place, or 0 past the end.
+fn number_at(numbers: &[usize], place: usize) -> usize
+    ensures { result ≡ slice_index_or numbers.now place 0 }
+{
+    match numbers.get(place) {
+        Some(number) => *number,
+        None => 0,
+    }
+}
+
+/// Appends the note on the package at a place, if some of its entries name no package, or several.
+fn push_dependency_note(
+    alloc: Global,
+    notes: &mut Items<Text>,
+    counts: &[usize],
+    place: usize,
+    package: &Package,
+) -> Result<(), AllocError>
+    ensures { OnOk result (notes.new ≡ notes.old ++ dependency_notes_at counts.now (place, «package».now)) }
+{
+    let count = number_at(counts, place);
+    if count == 0 {
+        return Ok(());
+    }
+    let note = dependency_note(alloc, package, count)?;
+    notes.push(note)
+}
+
+/// Appends the notes on the packages some of whose entries name no package, or several.
+fn push_dependency_notes(
+    alloc: Global,
+    notes: &mut Items<Text>,
+    packages: &[Package],
+    counts: &[usize],
+) -> Result<(), AllocError>
+    ensures { OnOk result (notes.new ≡ notes.old ++ dependency_notes packages.now counts.now) }
+{
+    for (place, package) in packages.iter().enumerate() {
+        push_dependency_note(alloc, notes, counts, place, package)?;
+    }
+    Ok(())
+}
+
+/// Returns the notes on a check: those on the policy and on the kinds of warnings, those on what is empty, by the number
+/// of advisories, and those on the dependencies of the lockfile's packages.
+pub fn notes_of(
+    alloc: Global,
+    wanted: &Wanted,
+    advisories: usize,
+    locked: &Locked,
+) -> Result<Items<Text>, AllocError>
+    ensures { IfOk result (λ notes. notes ≡ ((wanted.now.notes ++ kind_notes wanted.now.settings.informational_warnings)
+        ++ empty_notes advisories (length locked.now.packages))
+        ++ dependency_notes locked.now.packages locked.now.graph.unresolved) }
+{
+    let packages = locked.lockfile.packages.as_slice();
+    let mut notes = Clone::clone(&wanted.notes)?;
+    let kinds = &wanted.settings.informational_warnings;
+    push_kind_notes(alloc, &mut notes, kinds.as_slice())?;
+    push_empty(alloc, &mut notes, advisories, packages.len())?;
+    push_dependency_notes(alloc, &mut notes, packages, locked.graph.unresolved())?;
+    Ok(notes)
+}
