@@ -59,7 +59,7 @@ module _ (i : Interval) (v : Parts) (none : v.3 ≡ []) where
   at-end : (c : Held) (e : Parts) (b : Bool) → option_map (up_to (named c)) (only_if b (Some e)) ≡ Some i → Same c (up_to (named c) e) → Same c i
   at-end c e b is same = subst (λ j. Same c j) (mapped (up_to (named c)) b e i is) same
 
-  -- without a patch there is no pre-release
+  -- a comparator without a patch has an empty pre-release
   plain : (c : List ℕ → Held) (e : Parts) (p : List ℕ) → p ≡ [] → Same (c []) (up_to (named (c [])) e) → Same (c p) (up_to (named (c p)) e)
   plain c e p is same = subst (λ (q : List ℕ). Same (c q) (up_to (named (c q)) e)) (sym is) same
 
