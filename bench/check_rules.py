@@ -193,6 +193,7 @@ def check(case, lockfile):
         "unused-ignores": [i for i in ignored if i in known and i not in used],
         "unknown-ignores": [i for i in ignored if i not in known],
         "below-threshold": len(everything) - len(findings), "notes": notes_of(case, packages, edges),
+        "yanked": None,
     }
     return tree, 1 if any(f["denied"] and not f["old"] for f in findings) else 0
 

@@ -12,8 +12,8 @@ _rustsec_audit() {
     case ${COMP_WORDS[1]} in
         audit) options="--ignore --deny-warnings" ;;
         report) options="" ;;
-        check) options="--policy --today --baseline --ignore --deny --severity --arch --os --format --color --allow-empty" ;;
-        check-many) options="--policy --today --baseline --ignore --deny --severity --arch --os --format --color --allow-empty --null --progress" ;;
+        check) options="--policy --today --baseline --index --ignore --deny --severity --arch --os --format --color --allow-empty" ;;
+        check-many) options="--policy --today --baseline --index --ignore --deny --severity --arch --os --format --color --allow-empty --null --progress" ;;
         explain) options="--policy --today --ignore --severity --arch --os --format" ;;
         lint) options="" ;;
         osv) options="" ;;

@@ -4,7 +4,8 @@
 use rustsec_commands::Fault;
 use rustsec_program::run_with_notes;
 use std::alloc::Global;
-use std::io::ErrorKind;
+use std::env::VarError;
+use std::io::{ErrorKind, IsTerminal};
 use std::process::ExitCode;
 use std::{env, io};
 
@@ -32,10 +33,33 @@ fn texts(alloc: Global, words: &[String]) -> Result<Vec<&str>, Fault> {
     Ok(texts)
 }
 
+/// Returns whether a text for people has colors where no word says so: whether the output is a terminal, and the variable
+/// `NO_COLOR` is missing or empty (no-color.org).
+fn wants_colors(rt: &HostRuntime) -> bool {
+    match env::var(rt, "NO_COLOR") {
+        Ok(value) => value.is_empty() && rt.stdout().is_terminal(),
+        Err(VarError::NotPresent) => rt.stdout().is_terminal(),
+        Err(_) => false,
+    }
+}
+
+/// Asks for colors, if the words are those of `check`: before its options, so that an option `--color` of the words, which
+/// comes later, counts.
+fn add_colors(texts: &mut Vec<&str>) -> Result<(), Fault> {
+    if texts.len() < 3 || texts[0] != "check" {
+        return Ok(());
+    }
+    texts.insert(3, "always").map_err(|_| Fault::Memory)?;
+    texts.insert(3, "--color").map_err(|_| Fault::Memory)
+}
+
 /// Carries out the command that the arguments name.
 fn carry_out(rt: &HostRuntime) -> Result<u8, Fault> {
     let words = words(rt)?;
-    let texts = texts(rt.alloc(), &words)?;
+    let mut texts = texts(rt.alloc(), &words)?;
+    if wants_colors(rt) {
+        add_colors(&mut texts)?;
+    }
     run_with_notes(
         rt,
         &texts,

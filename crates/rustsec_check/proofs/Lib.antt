@@ -2,6 +2,7 @@ pub mod AsReport
 pub mod Fixes
 pub mod Known
 pub mod MoreFindings
+pub mod MoreYanked
 pub mod OneAnswer
 pub mod OneCheck
 pub mod Packages

@@ -39,7 +39,7 @@ same-path : (p q : List ℕ) → slice_cmp nat_cmp p q ≢ Greater → slice_cmp
 same-path p q h k =
     slice_cmp-IsAntisymmetric nat_cmp-IsAntisymmetric p q (neither-after (slice_cmp nat_cmp p q) h (λ g. k (nat_list_cmp_total.antisymm q p ∙ g)))
 
-one-path : (edges : List (List ℕ)) (roots : List ℕ) (target : ℕ) (a b : Option (List ℕ)) → IsAnswer edges roots target a → IsAnswer edges roots target b → a ≡ b
+pub one-path : (edges : List (List ℕ)) (roots : List ℕ) (target : ℕ) (a b : Option (List ℕ)) → IsAnswer edges roots target a → IsAnswer edges roots target b → a ≡ b
 one-path edges roots target None None h k = refl
 one-path edges roots target None (Some q) h k = absurd (h q k.shortest.is_path)
 one-path edges roots target (Some p) None h k = absurd (k p h.shortest.is_path)

@@ -4,5 +4,7 @@ pub mod Compatible
 pub mod Findings
 pub mod LeastFree
 pub mod Pairs
+pub mod Subjects
 pub mod Updates
 pub mod Values
+pub mod Yanked

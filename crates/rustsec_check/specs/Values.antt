@@ -44,6 +44,15 @@ pub record IgnoredValue : Type 0 where
   pub advisory : Advisory
   pub «package» : PackageValue
 
+-- a package that is yanked from its registry
+pub record YankedValue : Type 0 where
+  pub «package» : PackageValue
+  pub place : ℕ
+  pub is_denied : Bool
+  pub is_old : Bool
+  pub path : Option (List ℕ)
+  pub dependents : List ℕ
+
 pub record CheckValue : Type 0 where
   pub findings : List FindingValue
   pub ignored : List IgnoredValue

@@ -1,6 +1,6 @@
 //! Checks a lockfile.
 
-ghost use Rattle.std.specs.Prelude.{◌≡◌, ◌-◌, not, IfErr, IfOk, map, option_map};
+ghost use Rattle.std.specs.Prelude.{◌≡◌, ◌-◌, not, IfErr, IfOk, map};
 ghost use Rattle.std.specs.List.{filter, list_any};
 ghost use Rattle.rustsec_versions.specs.Failure.{IsMemory};
 ghost use Rattle.rustsec_database.specs.Loaded.{has_id};
@@ -9,6 +9,7 @@ ghost use Rattle.rustsec_lock.specs.Lockfile.{AreValid};
 ghost use Rattle.rustsec_check.specs.AsReport.{vulnerabilities_in};
 ghost use Rattle.rustsec_check.specs.Checks.{IsCheckOf, any_severity, count_of, is_known, is_unused};
 ghost use Rattle.rustsec_check.specs.Pairs.{found};
+ghost use Rattle.rustsec_check.specs.Subjects.{subject_view};
 ghost use Rattle.rustsec_check.specs.Values.{CheckValue};
 
 use crate::findings::{IgnoredPair, findings_of, ignored_of};
@@ -136,24 +137,10 @@ fn check_pairs<'a>(alloc: Global, subject: &Viewed<'a>, pairs: &[Found<'a>]) -> 
 ///
 /// `OutOfMemory` alone.
 pub fn check<'a>(alloc: Global, subject: Subject<'a>) -> Result<Check<'a>>
-    ensures ok { IfOk result (IsCheckOf (record {
-      advisories = subject.entry.database.now;
-      packages = subject.entry.lockfile.now.packages;
-      graph = subject.entry.graph.now;
-      settings = subject.entry.settings.now;
-      denied = subject.entry.denied.now;
-      baseline = option_map (λ l. l.now.packages) subject.entry.baseline;
-    })) }
+    ensures ok { IfOk result (IsCheckOf (subject_view subject.entry)) }
 
     // If the packages have valid versions, as those of each lockfile that is read do, no other answer meets the definition.
-    ensures only { AreValid subject.entry.lockfile.now.packages → IfOk result (λ c. (other : CheckValue) → IsCheckOf (record {
-      advisories = subject.entry.database.now;
-      packages = subject.entry.lockfile.now.packages;
-      graph = subject.entry.graph.now;
-      settings = subject.entry.settings.now;
-      denied = subject.entry.denied.now;
-      baseline = option_map (λ l. l.now.packages) subject.entry.baseline;
-    }) other → other ≡ c) }
+    ensures only { AreValid subject.entry.lockfile.now.packages → IfOk result (λ c. (other : CheckValue) → IsCheckOf (subject_view subject.entry) other → other ≡ c) }
 
     // The findings that are vulnerabilities are those of a report with these settings.
     ensures as_reports { IfOk result (λ c. vulnerabilities_in c.findings

@@ -99,7 +99,7 @@ fn some_denies(words: &[Denied], kind: WarningKind) -> bool
 }
 
 /// Returns whether a vulnerability, which has no kind, or a warning of a kind is denied.
-fn is_denied(words: &[Denied], kind: Option<WarningKind>) -> bool
+pub(crate) fn is_denied(words: &[Denied], kind: Option<WarningKind>) -> bool
     ensures { result ≡ is_denied words.now kind }
 {
     match kind {
@@ -116,14 +116,14 @@ fn is_same(a: &Package, b: &Package) -> bool
 }
 
 /// Returns whether some package has the same name, version and source as another one.
-fn has_package(packages: &[Package], package: &Package) -> bool
+pub(crate) fn has_package(packages: &[Package], package: &Package) -> bool
     ensures { result ≡ list_any (is_same «package».now) packages.now }
 {
     packages.iter().any(|other| is_same(package, other))
 }
 
 /// Returns whether an older lockfile, if any, has a package.
-fn is_old(baseline: Option<&Lockfile>, package: &Package) -> bool
+pub(crate) fn is_old(baseline: Option<&Lockfile>, package: &Package) -> bool
     ensures { result ≡ is_old (option_map (λ l. l.now.packages) baseline.entry) «package».now }
 {
     match baseline {

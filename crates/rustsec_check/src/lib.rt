@@ -15,6 +15,7 @@ mod subject;
 #[cfg(test)]
 mod tests;
 mod update;
+mod yanked;
 
 pub use crate::advice::Update;
 pub use crate::checking::check;
@@ -23,3 +24,4 @@ pub use crate::findings::{Finding, IgnoredPair};
 pub use crate::outcome::Check;
 pub use crate::subject::Subject;
 pub use crate::update::least_free;
+pub use crate::yanked::{Yanked, yanked_fail, yanked_packages};

@@ -1,6 +1,7 @@
 //! What a check looks at.
 
-ghost use Rattle.std.specs.Prelude.{◌≡◌, option_map};
+ghost use Rattle.std.specs.Prelude.{◌≡◌};
+ghost use Rattle.rustsec_check.specs.Subjects.{subject_view};
 
 use rustsec_database::Database;
 use rustsec_graph::Graph;
@@ -56,14 +57,7 @@ impl<'a> Model for Viewed<'a> {
 impl<'a> Viewed<'a> {
     /// Returns a subject as contracts see it.
     pub(crate) fn new(subject: Subject<'a>) -> Viewed<'a>
-        ensures { result ≡ record {
-          advisories = subject.entry.database.now;
-          packages = subject.entry.lockfile.now.packages;
-          graph = subject.entry.graph.now;
-          settings = subject.entry.settings.now;
-          denied = subject.entry.denied.now;
-          baseline = option_map (λ l. l.now.packages) subject.entry.baseline;
-        } }
+        ensures { result ≡ subject_view subject.entry }
     {
         Viewed {
             database: subject.database,

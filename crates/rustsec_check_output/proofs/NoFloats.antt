@@ -16,8 +16,8 @@ use Rattle.rustsec_advisory.specs.declared.metadata.Metadata.{Metadata}
 use Rattle.rustsec_report.specs.Trees.{Entry, object_of, versions_entries, versions_tree, with_members}
 use Rattle.rustsec_policy.specs.declared.ignored.Ignored.{Ignored}
 use Rattle.rustsec_check.specs.Updates.{UpdateValue}
-use Rattle.rustsec_check.specs.Values.{FindingValue, IgnoredValue}
-use Rattle.rustsec_check_output.specs.CheckTree.{WrittenValue, advisory_entries, advisory_tree, check_entries, check_tree, command, database_entries, database_tree, entry_with, finding_entries, finding_tree, found_entries, ignored_entries, ignored_tree, last_date, looked_at_entries, many_entries, many_tree, named_entries, named_tree, packages_at, pair_entries, places_tree, rating, reason_of, refused_entries, refused_tree, said_entries, severity_of, sourced_entries, sourced_tree, subject, tenths_of, until_of, update_entries, update_tree}
+use Rattle.rustsec_check.specs.Values.{FindingValue, IgnoredValue, YankedValue}
+use Rattle.rustsec_check_output.specs.CheckTree.{WrittenValue, advisory_entries, advisory_tree, check_entries, check_tree, command, database_entries, database_tree, entry_with, finding_entries, finding_tree, found_entries, ignored_entries, ignored_tree, last_date, looked_at_entries, many_entries, many_tree, named_entries, named_tree, packages_at, pair_entries, places_tree, rating, reason_of, refused_entries, refused_tree, said_entries, severity_of, sourced_entries, sourced_tree, subject, tenths_of, until_of, update_entries, update_tree, yanked_entries, yanked_tree}
 
 -- a tree without a float, and members whose trees have no float
 abbrev pub Plain : Data → Type 0
@@ -128,6 +128,15 @@ unfolding finding_tree finding_entries
 finding-plain packages f =
     object-plain (finding_entries packages f) (append-plain (pair_entries f) (said_entries packages f) (pair-plain f) (said-plain packages f))
 
+yanked-plain : (packages : List PackageValue) (y : YankedValue) → Plain (yanked_tree packages y)
+unfolding yanked_tree
+yanked-plain packages y =
+    object-plain (yanked_entries packages y)
+    (refl, (places-plain packages y.dependents, (refl, (sourced-plain y.«package», (optional-plain (places_tree packages) (places-plain packages) y.path, tt)))))
+
+all-yanked-plain : (packages : List PackageValue) (ys : List YankedValue) → Plain (list_tree (yanked_tree packages) ys)
+all-yanked-plain packages ys = list-plain (yanked_tree packages) (yanked-plain packages) ys
+
 ignored-plain : (entries : List Ignored) (i : IgnoredValue) → Plain (ignored_tree entries i)
 unfolding ignored_tree
 ignored-plain entries i =
@@ -151,7 +160,13 @@ found-plain w = (
 )
 
 looked-at-plain : (w : WrittenValue) → AllPlain (looked_at_entries w)
-looked-at-plain w = (database-plain w.advisories, (object-plain _ (refl, tt), (list-plain text_tree (λ x. refl) w.notes, tt)))
+looked-at-plain w = (
+  database-plain w.advisories,
+  (
+    object-plain _ (refl, tt),
+    (list-plain text_tree (λ x. refl) w.notes, (optional-plain (list_tree (yanked_tree w.packages)) (all-yanked-plain w.packages) w.yanked, tt)),
+  ),
+)
 
 pub check_plain : (w : WrittenValue) → Plain (check_tree w)
 unfolding check_tree check_entries

@@ -1,4 +1,5 @@
--- The text of a check for people: a block for each finding, the most severe package first, and lines for the rest.
+-- The text of a check for people: a block for each finding, the most severe package first, a block for each yanked package,
+-- and lines for the rest.
 use Rattle.std.specs.Prelude.{◌&&◌, ◌==◌, ◌++◌, not, ℕ, Bool, true, false, if◌then◌else◌, List, [], ◌∷◌, Option, Some, None, codes, length, nat_lt, slice_get}
 use Rattle.std.specs.Fmt.{decimal}
 use Rattle.std.specs.List.{filter, flat_map, list_any}
@@ -11,8 +12,9 @@ use Rattle.rustsec_lock.specs.declared.severity.Severity.TheVariants as severity
 use Rattle.rustsec_graph.specs.Entries.{places}
 use Rattle.rustsec_texts.specs.Ids.{IdValue}
 use Rattle.rustsec_texts.specs.declared.warning_kind.WarningKind.{WarningKind}
+use Rattle.rustsec_texts.specs.declared.warning_kind.WarningKind.TheVariants as warning
 use Rattle.rustsec_policy.specs.declared.ignored.Ignored.{Ignored}
-use Rattle.rustsec_check.specs.Values.{FindingValue, IgnoredValue}
+use Rattle.rustsec_check.specs.Values.{FindingValue, IgnoredValue, YankedValue}
 use Rattle.rustsec_check_output.specs.CheckTree.{WrittenValue, entry_with, kind_text, reason_of, score_text, severity_of, tenths_of, until_of}
 use Rattle.rustsec_check_output.specs.Shown.{shown}
 use Rattle.rustsec_check_output.specs.declared.rank.Rank.{Rank}
@@ -187,6 +189,23 @@ block colored packages f =
     title_line colored f ++ (status_line colored f ++ (path_line packages f.path
     ++ (update_line f.«package» f.update.least_free f.update.is_compatible ++ moved_line f.update.moved_by)))
 
+-- ---- the block of a yanked package
+
+-- the package, whether it is denied and whether it is old
+unfoldable pub yanked_title : Bool → YankedValue → List ℕ
+yanked_title colored y =
+    mark colored bold ++ (codes "yanked" ++ (mark colored plain ++ (codes " " ++ (package_words y.«package»
+    ++ (denied_words (Some warning.Yanked) y.is_denied ++ (old_words y.is_old ++ codes "\n"))))))
+
+-- the lines of a yanked package
+abbrev pub yanked_block : Bool → List PackageValue → YankedValue → List ℕ
+yanked_block colored packages y = yanked_title colored y ++ path_line packages y.path
+
+-- the lines of the yanked packages, if an index was asked
+abbrev pub yanked_blocks : Bool → List PackageValue → Option (List YankedValue) → List ℕ
+yanked_blocks colored packages None = []
+yanked_blocks colored packages (Some ys) = flat_map (yanked_block colored packages) ys
+
 -- ---- the lines after the blocks
 
 -- a last day and a reason, which may be missing
@@ -246,12 +265,17 @@ has_no_kind (Some k) = false
 abbrev pub is_vulnerability : FindingValue → Bool
 is_vulnerability f = has_no_kind f.kind
 
--- how many vulnerabilities, warnings and ignored pairs there are
-abbrev pub found_words : List FindingValue → ℕ → List ℕ
-found_words findings ignored =
+-- how many packages are yanked, if an index was asked
+abbrev pub yanked_words : Option (List YankedValue) → List ℕ
+yanked_words None = []
+yanked_words (Some ys) = decimal (length ys) ++ codes " yanked, "
+
+-- how many vulnerabilities, warnings, yanked packages and ignored pairs there are
+abbrev pub found_words : List FindingValue → Option (List YankedValue) → ℕ → List ℕ
+found_words findings yanked ignored =
     counted (length (filter is_vulnerability findings)) (codes " vulnerability, ") (codes " vulnerabilities, ")
     ++ (counted (length (filter (λ f. not (is_vulnerability f)) findings)) (codes " warning, ") (codes " warnings, ")
-    ++ (decimal ignored ++ codes " ignored; looked at "))
+    ++ (yanked_words yanked ++ (decimal ignored ++ codes " ignored; looked at ")))
 
 -- how many advisories and packages were looked at
 abbrev pub looked_at_words : ℕ → ℕ → List ℕ
@@ -259,7 +283,7 @@ looked_at_words advisories packages =
     counted advisories (codes " advisory and ") (codes " advisories and ") ++ (counted packages (codes " package\n") (codes " packages\n"))
 
 unfoldable pub last_line : WrittenValue → List ℕ
-last_line w = found_words w.check.findings (length w.check.ignored) ++ looked_at_words (length w.advisories) (length w.packages)
+last_line w = found_words w.check.findings w.yanked (length w.check.ignored) ++ looked_at_words (length w.advisories) (length w.packages)
 
 -- ---- the whole text
 
@@ -275,4 +299,4 @@ further_lines w =
     ++ (below_line w.check.below_threshold ++ flat_map note_line w.notes))
 
 unfoldable pub check_text : Bool → WrittenValue → List ℕ
-check_text colored w = blocks colored w ++ (further_lines w ++ last_line w)
+check_text colored w = blocks colored w ++ (yanked_blocks colored w.packages w.yanked ++ (further_lines w ++ last_line w))

@@ -26,7 +26,7 @@ use Rattle.rustsec_report.specs.Trees.{Entry, ids_tree, lockfile_tree, object_of
 use Rattle.rustsec_policy.specs.declared.ignored.Ignored.{Ignored}
 use Rattle.rustsec_fixer.specs.Words.{package_word, program_of}
 use Rattle.rustsec_check.specs.Updates.{UpdateValue}
-use Rattle.rustsec_check.specs.Values.{CheckValue, FindingValue, IgnoredValue}
+use Rattle.rustsec_check.specs.Values.{CheckValue, FindingValue, IgnoredValue, YankedValue}
 use Rattle.rustsec_check_output.specs.Latest.{latest}
 
 -- ---- packages
@@ -153,6 +153,21 @@ finding_entries packages f = pair_entries f ++ said_entries packages f
 unfoldable pub finding_tree : List PackageValue → FindingValue → Data
 finding_tree packages f = object_of (finding_entries packages f)
 
+-- ---- yanked packages
+
+-- what is known about a yanked package, over the packages of the lockfile
+abbrev pub yanked_entries : List PackageValue → YankedValue → List Entry
+yanked_entries packages y =
+    (codes "denied", boolean y.is_denied)
+    ∷ (codes "dependents", places_tree packages y.dependents)
+    ∷ (codes "old", boolean y.is_old)
+    ∷ (codes "package", sourced_tree y.«package»)
+    ∷ (codes "path", optional_tree (places_tree packages) y.path)
+    ∷ []
+
+unfoldable pub yanked_tree : List PackageValue → YankedValue → Data
+yanked_tree packages y = object_of (yanked_entries packages y)
+
 -- ---- ignored pairs
 
 -- the first entry of a policy that has an ID, and what it says
@@ -198,13 +213,14 @@ database_tree advisories = object_of (database_entries advisories)
 -- ---- the check
 
 -- a check with what it is written with: the advisories of the database, the packages of the lockfile, the entries of the
--- policy that ignore advisories, and notes
+-- policy that ignore advisories, notes, and the yanked packages, if an index was asked
 pub record WrittenValue : Type 0 where
   pub advisories : List Advisory
   pub packages : List PackageValue
   pub check : CheckValue
   pub entries : List Ignored
   pub notes : List (List ℕ)
+  pub yanked : Option (List YankedValue)
 
 -- what was found
 abbrev pub found_entries : WrittenValue → List Entry
@@ -216,12 +232,13 @@ found_entries w =
     ∷ (codes "unused-ignores", ids_tree w.check.unused)
     ∷ []
 
--- what was looked at
+-- what was looked at, notes, and what an index says, if one was asked
 abbrev pub looked_at_entries : WrittenValue → List Entry
 looked_at_entries w =
     (codes "database", database_tree w.advisories)
     ∷ (codes "lockfile", lockfile_tree (record { dependency_count = length w.packages }))
     ∷ (codes "notes", list_tree text_tree w.notes)
+    ∷ (codes "yanked", optional_tree (list_tree (yanked_tree w.packages)) w.yanked)
     ∷ []
 
 unfoldable pub check_entries : WrittenValue → List Entry

@@ -1,9 +1,9 @@
 -- How a text of a file is shown on a line: each hidden character is replaced by its Unicode escape.
-use Rattle.std.specs.Prelude.{◌≢◌, ◌||◌, ℕ, Bool, if◌then◌else◌, List, [], ◌∷◌}
+use Rattle.std.specs.Prelude.{◌||◌, ℕ, Bool, if◌then◌else◌, List, [], ◌∷◌}
 use Rattle.std.specs.Char.{is_control}
 use Rattle.std.specs.Char.Escape.{escape_unicode}
 use Rattle.std.specs.Int.{is_in_range}
-use Rattle.std.specs.List.{All, flat_map, list_any}
+use Rattle.std.specs.List.{flat_map, list_any}
 use Rattle.std.specs.Str.{chars, encode_utf8_all}
 
 -- from a character to another one
@@ -27,7 +27,3 @@ shown_char c = if is_hidden c then escape_unicode c else c ∷ []
 -- a text as it is shown
 abbrev pub shown : List ℕ → List ℕ
 shown text = encode_utf8_all (flat_map shown_char (chars text))
-
--- a text that has no line feed
-abbrev pub IsOneLine : List ℕ → Type 0
-IsOneLine text = All (λ b. b ≢ 10) text

@@ -17,16 +17,16 @@ use std::alloc::AllocError;
 use std::fmt::Write as _;
 
 /// Makes the characters after it bold.
-const BOLD: &str = "\u{1b}[1m";
+pub(crate) const BOLD: &str = "\u{1b}[1m";
 
 /// Makes the characters after it red.
 const RED: &str = "\u{1b}[31m";
 
 /// Ends the look of the characters before it.
-const PLAIN: &str = "\u{1b}[0m";
+pub(crate) const PLAIN: &str = "\u{1b}[0m";
 
 /// Appends a code that sets the look of the characters after it, if colour is wanted.
-fn push_mark(text: &mut String, colored: bool, code: &str) -> Result<(), AllocError>
+pub(crate) fn push_mark(text: &mut String, colored: bool, code: &str) -> Result<(), AllocError>
     ensures { OnOk result (string_bytes text.new ≡ string_bytes text.old ++ mark colored code.now) }
 {
     if colored {
@@ -84,7 +84,7 @@ fn push_rating(
 }
 
 /// Appends that a warning is denied, if it is.
-fn push_denied(
+pub(crate) fn push_denied(
     text: &mut String,
     kind: Option<WarningKind>,
     is_denied: bool,
@@ -98,7 +98,7 @@ fn push_denied(
 }
 
 /// Appends that a finding is old, if it is.
-fn push_old(text: &mut String, is_old: bool) -> Result<(), AllocError>
+pub(crate) fn push_old(text: &mut String, is_old: bool) -> Result<(), AllocError>
     ensures { OnOk result (string_bytes text.new ≡ string_bytes text.old ++ old_words is_old) }
 {
     if is_old {
@@ -170,7 +170,7 @@ fn push_places(text: &mut String, packages: &[Package], path: &[usize]) -> Resul
 }
 
 /// Appends the line with the packages of a path that may be missing.
-fn push_path(
+pub(crate) fn push_path(
     text: &mut String,
     packages: &[Package],
     path: &Option<Vec<usize>>,

@@ -27,7 +27,7 @@ pub(crate) fn kind_text(kind: Option<WarningKind>) -> &'static str
 }
 
 /// Builds the tree of a path, null without a path.
-fn path_tree(
+pub(crate) fn path_tree(
     alloc: Global,
     packages: &[Package],
     path: &Option<Vec<usize>>,

@@ -17,7 +17,7 @@ use serde_json::Value;
 use std::alloc::{AllocError, Global};
 
 /// Returns the first entry that has an ID.
-pub(crate) fn entry_with<'a>(entries: &'a [Ignored], id: &Id) -> Option<&'a Ignored>
+pub fn entry_with<'a>(entries: &'a [Ignored], id: &Id) -> Option<&'a Ignored>
     ensures { option_copied result ≡ entry_with entries.now id.now }
 {
     entries.iter().find(|entry| entry.id == *id)

@@ -20,7 +20,10 @@ mod tree;
 mod tree_lines;
 mod update_tree;
 mod written;
+mod yanked_block;
+mod yanked_tree;
 
+pub use crate::ignored_tree::entry_with;
 pub use crate::many::{many_tree, refused_tree};
 pub use crate::text::check_text;
 pub use crate::tree::check_tree;

@@ -1,6 +1,6 @@
 //! Writes the lines after the findings for people.
 
-ghost use Rattle.std.specs.Prelude.{◌≡◌, ◌++◌, OnOk, map, not, length, string_bytes};
+ghost use Rattle.std.specs.Prelude.{◌≡◌, ◌++◌, OnOk, map, not, length, option_map, string_bytes};
 ghost use Rattle.std.specs.List.{filter, flat_map};
 ghost use Rattle.std.specs.Option.{option_copied};
 ghost use Rattle.rustsec_check_output.specs.CheckText.{below_line, below_words, counted, found_words, further_lines, id_lines, ignored_line, ignored_with, is_vulnerability, labelled, last_line, looked_at_words, note_line, reason_words, unknown_line, until_words, unused_line};
@@ -10,7 +10,8 @@ use crate::block::push_package;
 use crate::ignored_tree::entry_with;
 use crate::shown::push_shown;
 use crate::written::Written;
-use rustsec_check::{Finding, IgnoredPair};
+use crate::yanked_block::push_yanked_count;
+use rustsec_check::{Finding, IgnoredPair, Yanked};
 use rustsec_policy::Ignored;
 use rustsec_texts::Id;
 use rustsec_values::Text;
@@ -220,9 +221,15 @@ fn warnings_in(findings: &[Finding<'_>]) -> usize
         .count()
 }
 
-/// Appends how many vulnerabilities, warnings and ignored pairs there are.
-fn push_found(text: &mut String, findings: &[Finding<'_>], ignored: usize) -> Result<(), AllocError>
-    ensures { OnOk result (string_bytes text.new ≡ string_bytes text.old ++ found_words findings.now ignored) }
+/// Appends how many vulnerabilities, warnings, yanked packages and ignored pairs there are.
+fn push_found(
+    text: &mut String,
+    findings: &[Finding<'_>],
+    yanked: Option<&[Yanked<'_>]>,
+    ignored: usize,
+) -> Result<(), AllocError>
+    ensures { OnOk result (string_bytes text.new
+        ≡ string_bytes text.old ++ found_words findings.now (option_map (λ y. y.now) yanked.entry) ignored) }
 {
     let (vulnerabilities, warnings) = (vulnerabilities_in(findings), warnings_in(findings));
     push_counted(
@@ -232,6 +239,7 @@ fn push_found(text: &mut String, findings: &[Finding<'_>], ignored: usize) -> Re
         " vulnerabilities, ",
     )?;
     push_counted(text, warnings, " warning, ", " warnings, ")?;
+    push_yanked_count(text, yanked)?;
     write!(text, "{ignored} ignored; looked at ")?;
     Ok(())
 }
@@ -250,7 +258,12 @@ pub(crate) fn push_last(text: &mut String, written: &Written<'_, '_>) -> Result<
     ensures { OnOk result (string_bytes text.new ≡ string_bytes text.old ++ last_line written.now) }
 {
     let check = written.check;
-    push_found(text, check.findings.as_slice(), check.ignored.len())?;
+    push_found(
+        text,
+        check.findings.as_slice(),
+        written.yanked,
+        check.ignored.len(),
+    )?;
     let advisories = written.database.iter().as_slice().len();
     push_looked_at(text, advisories, written.lockfile.packages.len())
 }

@@ -2,7 +2,7 @@
 
 use crate::{Written, check_line, check_text, refused_line};
 use rustsec_advisory::Advisory;
-use rustsec_check::{Check, Finding, IgnoredPair, Update};
+use rustsec_check::{Check, Finding, IgnoredPair, Update, Yanked};
 use rustsec_database::Database;
 use rustsec_folders::SourceFile;
 use rustsec_lock::Lockfile;
@@ -84,10 +84,12 @@ RUSTSEC-2024-9001 http 2.0.0: Nobody maintains it
   unmaintained, old
   no path from a root
   no fixed version
+yanked http 2.0.0, denied
+  app 0.1.0 → http 2.0.0
 ignored RUSTSEC-2024-9001 http 2.0.0 until 2024-12-31: it is small
 left out below the least severity: 4
 note: one\\u{a}two
-1 vulnerability, 1 warning, 1 ignored; looked at 2 advisories and 3 packages
+1 vulnerability, 1 warning, 1 yanked, 1 ignored; looked at 2 advisories and 3 packages
 ";
 
 /// The JSON tree of the check, in pieces.
@@ -112,7 +114,11 @@ const LINE: &[&str] = &[
     r#""ignored":[{"advisory":"RUSTSEC-2024-9001","kind":"unmaintained","package":{"name":"http","#,
     r#""source":"registry+https://github.com/rust-lang/crates.io-index","version":"2.0.0"},"#,
     r#""reason":"it is small","until":"2024-12-31"}],"lockfile":{"dependency-count":3},"#,
-    r#""notes":["one\ntwo"],"unknown-ignores":[],"unused-ignores":[]}"#,
+    r#""notes":["one\ntwo"],"unknown-ignores":[],"unused-ignores":[],"#,
+    r#""yanked":[{"denied":true,"dependents":[{"name":"app","version":"0.1.0"}],"old":false,"#,
+    r#""package":{"name":"http","source":"registry+https://github.com/rust-lang/crates.io-index","#,
+    r#""version":"2.0.0"},"path":[{"name":"app","version":"0.1.0"},"#,
+    r#"{"name":"http","version":"2.0.0"}]}]}"#,
     "\n",
 ];
 
@@ -181,6 +187,20 @@ fn warning<'a>(alloc: Global, advisory: &'a Advisory, package: &'a Package) -> F
     }
 }
 
+/// Returns the yanked package.
+fn yanked<'a>(alloc: Global, package: &'a Package) -> Result<Yanked<'a>, Fail> {
+    let path = [0, 1].to_vec(alloc)?;
+    let dependents = [0].to_vec(alloc)?;
+    Ok(Yanked {
+        package,
+        place: 1,
+        is_denied: true,
+        is_old: false,
+        path: Some(path),
+        dependents,
+    })
+}
+
 /// Returns the check of both findings; the warning is ignored too.
 fn check<'a>(
     alloc: Global,
@@ -215,29 +235,79 @@ fn is_written(alloc: Global, written: &Written<'_, '_>) -> Result<bool, Fail> {
     Ok(line.as_str() == LINE.concat(alloc)?.as_str() && text.as_str() == TEXT)
 }
 
-/// Returns whether the check of the database and the lockfile is written as the rows above say.
-fn is_written_of<'a>(
+/// A check, the yanked packages, and notes.
+#[derive(Drop)]
+struct Case<'a> {
+    check: Check<'a>,
+    yanked: Option<Vec<Yanked<'a>>>,
+    notes: Vec<Text>,
+}
+
+impl<'a> Case<'a> {
+    /// Returns the yanked packages, if any.
+    fn yanked(&self) -> Option<&[Yanked<'a>]> {
+        match &self.yanked {
+            Some(yanked) => Some(yanked.as_slice()),
+            None => None,
+        }
+    }
+}
+
+/// Returns whether a case is written as the rows above say.
+fn is_case_written<'c, 'a>(
     alloc: Global,
-    database: &'a Database,
-    lockfile: &'a Lockfile,
-    entries: &[Ignored],
+    database: &'c Database,
+    lockfile: &'c Lockfile,
+    entries: &'c [Ignored],
+    case: &'c Case<'a>,
 ) -> Result<bool, Fail> {
-    let loaded = database.iter();
-    let advisories = loaded.as_slice();
-    let packages = lockfile.packages.as_slice();
-    let Some(check) = check(alloc, advisories, packages)? else {
-        return Ok(false);
-    };
-    let note = Text::from_str(alloc, "one\ntwo")?;
-    let notes = [note];
     let written = Written {
         database,
         lockfile,
-        check: &check,
+        check: &case.check,
         entries,
-        notes: &notes,
+        notes: case.notes.as_slice(),
+        yanked: case.yanked(),
     };
     is_written(alloc, &written)
+}
+
+/// Returns the check with a note and a yanked package.
+fn whole_case<'a>(
+    alloc: Global,
+    advisories: &'a [Advisory],
+    packages: &'a [Package],
+) -> Result<Option<Case<'a>>, Fail> {
+    let Some(check) = check(alloc, advisories, packages)? else {
+        return Ok(None);
+    };
+    let Some(http) = packages.get(1) else {
+        return Ok(None);
+    };
+    let mut all = Vec::new(alloc);
+    all.push(yanked(alloc, http)?)?;
+    let mut notes = Vec::new(alloc);
+    notes.push(Text::from_str(alloc, "one\ntwo")?)?;
+    Ok(Some(Case {
+        check,
+        yanked: Some(all),
+        notes,
+    }))
+}
+
+/// Returns whether the check of the database and the lockfile is written as the rows above say.
+fn is_written_of(
+    alloc: Global,
+    database: &Database,
+    lockfile: &Lockfile,
+    entries: &[Ignored],
+) -> Result<bool, Fail> {
+    let packages = lockfile.packages.as_slice();
+    let loaded = database.iter();
+    let Some(case) = whole_case(alloc, loaded.as_slice(), packages)? else {
+        return Ok(false);
+    };
+    is_case_written(alloc, database, lockfile, entries, &case)
 }
 
 /// Returns whether the whole is written as the rows above say.

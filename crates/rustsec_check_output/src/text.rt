@@ -7,6 +7,7 @@ ghost use Rattle.rustsec_check_output.specs.CheckText.{blocks, check_text};
 use crate::blocks::{Page, push_blocks};
 use crate::lines::{push_further, push_last};
 use crate::written::Written;
+use crate::yanked_block::push_yanked;
 use rustsec_versions::Result;
 use std::alloc::{AllocError, Global};
 
@@ -32,9 +33,9 @@ fn push_findings(
 }
 
 /// Returns the text of a check for people: a block of lines for each finding, the package with the most severe finding
-/// first, a line for each ignored pair, for each ignored ID without effect, for the pairs below the least severity and for
-/// each note, and a line that counts them. With `colored` the IDs are bold and the ratings red, by codes of ECMA-48. Texts from files are escaped, so that
-/// none of them adds a line.
+/// first, a block for each yanked package, a line for each ignored pair, for each ignored ID without effect, for the
+/// pairs below the least severity and for each note, and a line that counts them. With `colored` the IDs are bold and
+/// the ratings red, by codes of ECMA-48. Texts from files are escaped, so that none of them adds a line.
 ///
 /// # Errors
 ///
@@ -46,6 +47,8 @@ pub fn check_text(alloc: Global, written: &Written<'_, '_>, colored: bool) -> Re
 {
     let mut text = String::new(alloc);
     push_findings(alloc, &mut text, colored, written)?;
+    let packages = written.lockfile.packages.as_slice();
+    push_yanked(&mut text, colored, packages, written.yanked)?;
     push_further(&mut text, written)?;
     push_last(&mut text, written)?;
     Ok(text)

@@ -11,6 +11,7 @@ use crate::finding_tree::findings_tree;
 use crate::ignored_tree::all_ignored_tree;
 use crate::object::{Members, ids_tree, put_tree, texts_tree};
 use crate::written::Written;
+use crate::yanked_tree::all_yanked_tree;
 use rustsec_versions::Result;
 use serde_json::Value;
 use std::alloc::{AllocError, Global};
@@ -58,7 +59,7 @@ fn put_found(
     put_tree(alloc, members, "unused-ignores", unused)
 }
 
-/// Sets the keys of what was looked at.
+/// Sets the keys of what was looked at, of the notes, and of what an index says.
 #[tactic(auto, unfolding(rustsec_report::specs::Trees::with_members))]
 fn put_looked_at(
     alloc: Global,
@@ -73,7 +74,10 @@ fn put_looked_at(
     let lockfile = lockfile_tree(alloc, written.lockfile.packages.len())?;
     put_tree(alloc, members, "lockfile", lockfile)?;
     let notes = texts_tree(alloc, written.notes)?;
-    put_tree(alloc, members, "notes", notes)
+    put_tree(alloc, members, "notes", notes)?;
+    let packages = written.lockfile.packages.as_slice();
+    let yanked = all_yanked_tree(alloc, packages, written.yanked)?;
+    put_tree(alloc, members, "yanked", yanked)
 }
 
 /// Sets the keys of a check.

@@ -1,6 +1,6 @@
 //! A check with what it is written with.
 
-use rustsec_check::Check;
+use rustsec_check::{Check, Yanked};
 use rustsec_database::Database;
 use rustsec_lock::Lockfile;
 use rustsec_policy::Ignored;
@@ -21,9 +21,12 @@ pub struct Written<'a, 'b> {
     pub entries: &'a [Ignored],
     /// Notes for the reader, as they are.
     pub notes: &'a [Text],
+    /// The packages that are yanked, or `None` if no index was asked.
+    pub yanked: Option<&'a [Yanked<'b>]>,
 }
 
 impl<'a, 'b> Model for Written<'a, 'b> {
+    ghost use Rattle.std.specs.Prelude.{option_map};
     ghost use Rattle.rustsec_check_output.specs.CheckTree.{WrittenValue};
 
     ghost Value = { WrittenValue };
@@ -34,5 +37,6 @@ impl<'a, 'b> Model for Written<'a, 'b> {
       check = w.check.now;
       entries = w.entries.now;
       notes = w.notes.now;
+      yanked = option_map (λ y. y.now) w.yanked;
     } };
 }

@@ -3,3 +3,4 @@ pub mod IndexLines
 pub mod CacheFile
 pub mod IndexFile
 pub mod IndexFolder
+pub mod YankedPackages

@@ -9,8 +9,12 @@ mod path;
 mod place;
 #[cfg(test)]
 mod tests;
+mod yanked;
+#[cfg(test)]
+mod yanked_tests;
 
 pub use crate::file::versions_in;
 pub use crate::folder::IndexFolder;
 pub use crate::form::IndexForm;
 pub use crate::path::index_path;
+pub use crate::yanked::{YankedPackages, yanked_in};

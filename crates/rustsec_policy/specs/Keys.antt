@@ -36,4 +36,4 @@ abbrev pub package_keys : List (List ℕ)
 package_keys = codes "source" ∷ []
 
 abbrev pub yanked_keys : List (List ℕ)
-yanked_keys = codes "enabled" ∷ codes "update_index" ∷ []
+yanked_keys = codes "enabled" ∷ codes "index" ∷ codes "update_index" ∷ []

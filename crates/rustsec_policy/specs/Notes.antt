@@ -1,6 +1,6 @@
 -- The notes on a policy: what it asks for that this library does not do, and which of its keys have no effect here.
 -- Without a key nothing is asked for.
-use Rattle.std.specs.Prelude.{◌++◌, ℕ, Bool, true, false, if◌then◌else◌, List, [], ◌∷◌, Option, Some, None, codes, is_some, option_map, unwrap_or}
+use Rattle.std.specs.Prelude.{◌++◌, ◌&&◌, not, ℕ, Bool, true, false, if◌then◌else◌, List, [], ◌∷◌, Option, Some, None, codes, is_some, option_map, unwrap_or}
 use Rattle.std.specs.List.{join_by, list_any}
 use Rattle.rustsec_policy.specs.declared.policy.Policy.{Policy}
 use Rattle.rustsec_policy.specs.declared.unused.DatabasePolicy.{DatabasePolicy}
@@ -16,9 +16,9 @@ use Rattle.rustsec_policy.specs.declared.words.PackageSource.TheVariants as sour
 abbrev pub database_asks : DatabasePolicy → Bool
 database_asks d = unwrap_or d.fetch (is_some d.url)
 
--- as `enabled` says, or without it as `update_index` says
-abbrev pub yanked_asks : YankedPolicy → Bool
-yanked_asks y = unwrap_or y.enabled (unwrap_or y.update_index false)
+-- as `enabled` says, or without it as `update_index` says, unless an index in a folder is asked
+abbrev pub yanked_asks : Bool → YankedPolicy → Bool
+yanked_asks has_index y = not has_index && unwrap_or y.enabled (unwrap_or y.update_index false)
 
 -- the note on the tables that ask for the network
 abbrev pub network_note : Bool → Bool → Option (List ℕ)
@@ -47,7 +47,7 @@ is_yanked denied.Unmaintained = false
 is_yanked denied.Unsound = false
 is_yanked denied.Yanked = true
 
--- the note on the denied word that fits no finding
+-- the note on the denied word that fits no finding without an index
 abbrev pub yanked_note : Bool → Option (List ℕ)
 yanked_note false = None
 yanked_note true = Some (codes "`yanked` at `deny` in [output] denies nothing: no package is reported as yanked here")
@@ -64,12 +64,13 @@ abbrev pub name_if : Bool → List ℕ → Option (List ℕ)
 name_if is_given name = if is_given then Some name else None
 
 -- the names of the keys that a policy gives and that have no effect
-abbrev pub idle_keys : Policy → List (List ℕ)
-idle_keys p =
-    ((given (name_if (is_some p.output.quiet) (codes "`quiet` in [output]"))
+abbrev pub idle_keys : Bool → Policy → List (List ℕ)
+idle_keys has_index p =
+    (((given (name_if (is_some p.output.quiet) (codes "`quiet` in [output]"))
     ++ given (name_if (is_some p.output.show_tree) (codes "`show_tree` in [output]")))
     ++ given (name_if (is_some p.database.path) (codes "`path` in [database]")))
-    ++ given (name_if (is_some p.database.stale) (codes "`stale` in [database]"))
+    ++ given (name_if (is_some p.database.stale) (codes "`stale` in [database]")))
+    ++ given (name_if (has_index && is_some p.yanked.update_index) (codes "`update_index` in [yanked]"))
 
 -- the note on these keys
 abbrev pub idle_note : List (List ℕ) → Option (List ℕ)
@@ -78,9 +79,10 @@ idle_note (name ∷ names) = Some (codes "keys without effect here: " ++ join_by
 
 -- ---- all notes
 
-abbrev pub notes_of : Policy → List (List ℕ)
-notes_of p =
-    ((given (network_note (database_asks p.database) (yanked_asks p.yanked))
+-- the notes on a policy, by whether an index in a folder is asked
+abbrev pub notes_of : Bool → Policy → List (List ℕ)
+notes_of has_index p =
+    ((given (network_note (database_asks p.database) (yanked_asks has_index p.yanked))
     ++ given (package_note p.packages.source))
-    ++ given (yanked_note (list_any is_yanked p.output.deny)))
-    ++ given (idle_note (idle_keys p))
+    ++ given (yanked_note (not has_index && list_any is_yanked p.output.deny)))
+    ++ given (idle_note (idle_keys has_index p))

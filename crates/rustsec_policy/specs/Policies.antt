@@ -1,6 +1,6 @@
 -- The policy of a file (cargo-audit's `audit.toml`): each table with its keys, and what its values are. A boolean that a
 -- file does not give is none, and not false.
-use Rattle.std.specs.Prelude.{ℕ, Bool, true, if◌then◌else◌, not, List, [], ◌∷◌, Option, Some, None, codes}
+use Rattle.std.specs.Prelude.{ℕ, Bool, true, if◌then◌else◌, not, List, [], ◌∷◌, Option, Some, None, codes, unwrap_or}
 use Rattle.std.specs.Cmp.Lexicographic.{slice_cmp}
 use Rattle.std.specs.List.{filter_map}
 use Rattle.std.specs.Ordering.{is_le, nat_cmp}
@@ -100,7 +100,7 @@ target_in ms = only_if (has_only target_keys ms) (
     defaulted [] (words_of os_of) (codes "os") ms >>= λ os.
     Some (record { arch = arch; os = os }))
 
--- ---- `[database]`, `[packages]` and `[yanked]`, which this library does not follow
+-- ---- `[database]` and `[packages]`, which this library does not follow, and `[yanked]`
 
 abbrev pub database_in : Members → Option DatabasePolicy
 database_in ms = only_if (has_only database_keys ms) (
@@ -118,8 +118,13 @@ packages_in ms = only_if (has_only package_keys ms) (
 abbrev pub yanked_in : Members → Option YankedPolicy
 yanked_in ms = only_if (has_only yanked_keys ms) (
     optional as_bool (codes "enabled") ms >>= λ enabled.
+    optional as_str (codes "index") ms >>= λ index.
     optional as_bool (codes "update_index") ms >>= λ update_index.
-    Some (record { enabled = enabled; update_index = update_index }))
+    Some (record { enabled = enabled; index = index; update_index = update_index }))
+
+-- the folder of the index that is asked: as `index` says, unless `enabled` is false
+abbrev pub index_of : YankedPolicy → Option (List ℕ)
+index_of y = if unwrap_or y.enabled true then y.index else None
 
 -- ---- the file
 
@@ -140,7 +145,7 @@ abbrev pub no_packages : PackagePolicy
 no_packages = record { source = None }
 
 abbrev pub no_yanked : YankedPolicy
-no_yanked = record { enabled = None; update_index = None }
+no_yanked = record { enabled = None; index = None; update_index = None }
 
 -- the table at a key, or a value for a missing one
 abbrev pub section_at : {A : Type 0} → A → (Members → Option A) → List ℕ → Members → Option A

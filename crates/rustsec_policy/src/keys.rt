@@ -204,6 +204,6 @@ impl Keys for YankedKeys {
     ghost known = { yanked_keys };
 
     fn all() -> &'static [&'static str] {
-        &["enabled", "update_index"]
+        &["enabled", "index", "update_index"]
     }
 }

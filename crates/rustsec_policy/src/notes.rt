@@ -61,7 +61,7 @@ fn some_yanked(words: &[Denied]) -> bool
     words.iter().any(|word| is_yanked(*word))
 }
 
-/// Returns the note on the denied word that fits no finding.
+/// Returns the note on the denied word that fits no finding without an index.
 fn yanked_note(is_denied: bool) -> Option<&'static str>
     ensures { option_map (λ note. note.now) result ≡ yanked_note is_denied }
 {
@@ -96,11 +96,17 @@ fn name_if(is_given: bool, name: &str) -> Option<&str>
 }
 
 /// Returns the names of the keys that a policy gives and that have no effect.
-fn idle_keys(alloc: Global, policy: &Policy) -> std::result::Result<Items<Text>, AllocError>
-    ensures ok { IfOk result (λ names. names ≡ idle_keys policy.now) }
-    ensures none { IfErr result (λ e. 0 < length (idle_keys policy.now)) }
+fn idle_keys(
+    alloc: Global,
+    policy: &Policy,
+    has_index: bool,
+) -> std::result::Result<Items<Text>, AllocError>
+    ensures ok { IfOk result (λ names. names ≡ idle_keys has_index policy.now) }
+    ensures none { IfErr result (λ e. 0 < length (idle_keys has_index policy.now)) }
 {
     let (output, database) = (&policy.output, &policy.database);
+    let update_index = has_index && policy.yanked.update_index.is_some();
+    let update_index = name_if(update_index, "`update_index` in [yanked]");
     let quiet = name_if(output.quiet.is_some(), "`quiet` in [output]");
     let show_tree = name_if(output.show_tree.is_some(), "`show_tree` in [output]");
     let path = name_if(database.path.is_some(), "`path` in [database]");
@@ -110,6 +116,7 @@ fn idle_keys(alloc: Global, policy: &Policy) -> std::result::Result<Items<Text>,
     add(alloc, &mut names, show_tree)?;
     add(alloc, &mut names, path)?;
     add(alloc, &mut names, stale)?;
+    add(alloc, &mut names, update_index)?;
     Ok(names)
 }
 
@@ -131,11 +138,12 @@ fn add_idle_note(
     alloc: Global,
     notes: &mut Items<Text>,
     policy: &Policy,
+    has_index: bool,
 ) -> std::result::Result<(), AllocError>
-    ensures ok { OnOk result (notes.new ≡ notes.old ++ given (idle_note (idle_keys policy.now))) }
-    ensures none { IfErr result (λ e. 0 < length (given (idle_note (idle_keys policy.now)))) }
+    ensures ok { OnOk result (notes.new ≡ notes.old ++ given (idle_note (idle_keys has_index policy.now))) }
+    ensures none { IfErr result (λ e. 0 < length (given (idle_note (idle_keys has_index policy.now)))) }
 {
-    let names = idle_keys(alloc, policy)?;
+    let names = idle_keys(alloc, policy, has_index)?;
     let note = idle_note(alloc, names.as_slice())?;
     if let Some(note) = note {
         notes.push(Text::from(note))?;
@@ -146,28 +154,29 @@ fn add_idle_note(
 impl Policy {
     /// Returns notes for people on what the policy asks for that this library does not do: the network, which
     /// `[database]` and `[yanked]` may ask for, packages of other sources than the default registry, and findings for
-    /// yanked versions. A last note names the keys that the file gives and that have no effect here.
+    /// yanked versions. A last note names the keys that the file gives and that have no effect here. With `has_index`
+    /// an index in a folder is asked which versions are yanked.
     ///
     /// # Errors
     ///
     /// `OutOfMemory` alone, and only if there is a note.
-    pub fn notes(&self, alloc: Global) -> Result<Items<Text>>
-        ensures ok { IfOk result (λ notes. notes ≡ notes_of self.now) }
+    pub fn notes(&self, alloc: Global, has_index: bool) -> Result<Items<Text>>
+        ensures ok { IfOk result (λ notes. notes ≡ notes_of has_index self.now) }
         ensures err { IfErr result IsMemory }
 
         // A policy without a note takes no memory, so any error means that there is a note.
-        ensures none { IfErr result (λ e. 0 < length (notes_of self.now)) }
+        ensures none { IfErr result (λ e. 0 < length (notes_of has_index self.now)) }
     {
         let network = network_note(
             self.database.asks_for_network(),
-            self.yanked.asks_for_network(),
+            self.yanked.asks_for_network(has_index),
         );
-        let yanked = yanked_note(some_yanked(self.output.deny.as_slice()));
+        let yanked = yanked_note(!has_index && some_yanked(self.output.deny.as_slice()));
         let mut notes = Items::new(alloc);
         add(alloc, &mut notes, network)?;
         add(alloc, &mut notes, package_note(self.packages.source))?;
         add(alloc, &mut notes, yanked)?;
-        add_idle_note(alloc, &mut notes, self)?;
+        add_idle_note(alloc, &mut notes, self, has_index)?;
         Ok(notes)
     }
 }

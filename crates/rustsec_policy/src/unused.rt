@@ -1,12 +1,13 @@
-//! The tables of a policy file that this library reads and does not follow.
+//! The tables of a policy file about what this library does not fetch: the database, packages of other sources, and a
+//! registry's index.
 
-ghost use Rattle.std.specs.Prelude.{◌≡◌, IfErr, IfOk, None, Some};
+ghost use Rattle.std.specs.Prelude.{◌≡◌, IfErr, IfOk, None, Some, option_map};
 ghost use Rattle.toml.specs.Data.{as_str};
 ghost use Rattle.toml.specs.View.{table_view};
 ghost use Rattle.rustsec_toml.specs.Fields.{optional};
 ghost use Rattle.rustsec_versions.specs.Failure.{IsRefusal};
 ghost use Rattle.rustsec_policy.specs.Notes.{database_asks, yanked_asks};
-ghost use Rattle.rustsec_policy.specs.Policies.{database_in, no_database, no_packages, no_yanked, packages_in, yanked_in};
+ghost use Rattle.rustsec_policy.specs.Policies.{database_in, index_of, no_database, no_packages, no_yanked, packages_in, yanked_in};
 
 use crate::flags::flag_at;
 use crate::keys::{DatabaseKeys, PackageKeys, YankedKeys, expect_keys};
@@ -38,11 +39,14 @@ pub struct PackagePolicy {
     pub source: Option<PackageSource>,
 }
 
-/// What `[yanked]` says: whether a registry is asked which versions are yanked. This library asks no registry.
-#[derive(Clone, Copy, Debug)]
+/// What `[yanked]` says: whether a registry is asked which versions are yanked. This library asks an index in a folder
+/// alone, and no registry.
+#[derive(Debug, Drop)]
 pub struct YankedPolicy {
     /// Whether yanked versions give warnings; `None` if the file does not say.
     pub enabled: Option<bool>,
+    /// The folder of a registry's index; `None` if the file does not say. The Rust crate's policy has no such key.
+    pub index: Option<Text>,
     /// Whether the registry's index is updated before; `None` if the file does not say.
     pub update_index: Option<bool>,
 }
@@ -130,15 +134,27 @@ impl YankedPolicy {
     {
         YankedPolicy {
             enabled: None,
+            index: None,
             update_index: None,
         }
     }
 
-    /// Returns whether the table asks for the network: as `enabled` says, or without it as `update_index` says.
-    pub(crate) fn asks_for_network(&self) -> bool
-        ensures { result ≡ yanked_asks self.now }
+    /// Returns the folder of the index that is asked: as `index` says, unless `enabled` is false.
+    pub fn index(&self) -> Option<&str>
+        ensures { option_map (λ t. t.now) result ≡ index_of self.now }
     {
-        self.enabled.unwrap_or(self.update_index.unwrap_or(false))
+        if self.enabled.unwrap_or(true) {
+            return self.index.as_ref().map(|index| index.as_str());
+        }
+        None
+    }
+
+    /// Returns whether the table asks for the network: as `enabled` says, or without it as `update_index` says, unless
+    /// an index in a folder is asked.
+    pub(crate) fn asks_for_network(&self, has_index: bool) -> bool
+        ensures { result ≡ yanked_asks has_index self.now }
+    {
+        !has_index && self.enabled.unwrap_or(self.update_index.unwrap_or(false))
     }
 
     /// Reads the table `[yanked]`.
@@ -152,9 +168,11 @@ impl YankedPolicy {
         };
         expect_keys::<YankedKeys>(alloc, section)?;
         let enabled = flag_at(alloc, section, "enabled")?;
+        let index = at_key(section, "index", optional_text(alloc, section, "index"))?;
         let update_index = flag_at(alloc, section, "update_index")?;
         Ok(YankedPolicy {
             enabled,
+            index,
             update_index,
         })
     }

@@ -12,8 +12,10 @@ use Rattle.rustsec_lock.specs.Package.{PackageValue}
 use Rattle.rustsec_advisory.specs.declared.advisory.Advisory.{Advisory}
 use Rattle.rustsec_database.specs.Opened.{AreOpened, IsOpenRefusal}
 use Rattle.rustsec_commands.specs.Output.{Output}
-use Rattle.rustsec_program.specs.Checked.{Form, Ground, IsAnswer, IsCheckedRefusal, IsLockfileOutput, checked, refused}
-use Rattle.rustsec_program.specs.Locked.{AreLoadedAt, IsBaselineAt, IsBaselineRefusal, IsLoadRefusal, IsLockedAt, LoadedValue, LockedValue}
+use Rattle.rustsec_program.specs.Checked.{Form, Ground, IsAnswer, IsCheckedRefusal, IsLockfileOutput, checked, places_of, refused}
+use Rattle.rustsec_index.specs.declared.yanked.YankedPackages.{YankedPackages}
+use Rattle.rustsec_index.proofs.Before.{yanked-before, yanked-refused-before}
+use Rattle.rustsec_program.specs.Locked.{AreLoadedAt, IsBaselineAt, IsBaselineRefusal, IsIndexRefusal, IsLoadRefusal, IsLockedAt, IsYankedAt, LoadedValue, LockedValue, Places, unbased, unindexed, unlocked}
 
 module _ (a b : Allowed) (same : AllowSame a b) where
   -- ---- lockfiles
@@ -36,21 +38,35 @@ module _ (a b : Allowed) (same : AllowSame a b) where
   baseline-refused-before None e h = h
   baseline-refused-before (Some path) e h = lockfile-refused-before path e h
 
-  pub loaded-before : (path : List ℕ) (old : Option (List ℕ)) (l : LoadedValue) → AreLoadedAt b path old l → AreLoadedAt a path old l
-  loaded-before path old l (locked, baseline) = (locked-before path l.locked locked, baseline-before old l.baseline baseline)
+  pub index-before : (index : Option (List ℕ)) (ps : List PackageValue) (y : Option YankedPackages) → IsYankedAt b index ps y → IsYankedAt a index ps y
+  index-before None ps y h = h
+  index-before (Some index) ps y (yanked, (is, so)) = (yanked, (yanked-before a b same index ps yanked is, so))
 
-  pub load-refused-before : (path : List ℕ) (old : Option (List ℕ)) (e : Failure) → IsLoadRefusal b path old e → IsLoadRefusal a path old e
-  load-refused-before path old e (inl h) = inl (lockfile-refused-before path e h)
-  load-refused-before path old e (inr ((l, locked), h)) = inr ((l, locked-before path l locked), baseline-refused-before old e h)
+  pub index-refused-before : (index : Option (List ℕ)) (ps : List PackageValue) (e : Failure) → IsIndexRefusal b index ps e → IsIndexRefusal a index ps e
+  index-refused-before None ps e h = h
+  index-refused-before (Some index) ps e h = yanked-refused-before a b same index ps e h
+
+  pub loaded-before : (at : Places) (l : LoadedValue) → AreLoadedAt b at l → AreLoadedAt a at l
+  loaded-before at l h = record {
+    locked = locked-before at.lock l.locked h.locked;
+    baseline = baseline-before at.baseline l.baseline h.baseline;
+    yanked = index-before at.index l.locked.packages l.yanked h.yanked;
+  }
+
+  pub load-refused-before : (at : Places) (e : Failure) → IsLoadRefusal b at e → IsLoadRefusal a at e
+  load-refused-before at e (unlocked h) = unlocked (lockfile-refused-before at.lock e h)
+  load-refused-before at e (unbased l locked h) = unbased l (locked-before at.lock l locked) (baseline-refused-before at.baseline e h)
+  load-refused-before at e (unindexed l ps locked baseline h) =
+      unindexed l ps (locked-before at.lock l locked) (baseline-before at.baseline ps baseline) (index-refused-before at.index l.packages e h)
 
   -- ---- checks
 
   pub output-before : (form : Form) (g : Ground) (path : List ℕ) (o : Output) → IsLockfileOutput b form g path o → IsLockfileOutput a form g path o
-  output-before form g path o (l, (loaded, is)) = (l, (loaded-before path g.plan.baseline l loaded, is))
+  output-before form g path o (l, (loaded, is)) = (l, (loaded-before (places_of g path) l loaded, is))
 
   pub check-refused-before : (g : Ground) (path : List ℕ) (e : Failure) → IsCheckedRefusal b g path e → IsCheckedRefusal a g path e
-  check-refused-before g path e (inl h) = inl (load-refused-before path g.plan.baseline e h)
-  check-refused-before g path e (inr (l, (loaded, h))) = inr (l, (loaded-before path g.plan.baseline l loaded, h))
+  check-refused-before g path e (inl h) = inl (load-refused-before (places_of g path) e h)
+  check-refused-before g path e (inr (l, (loaded, h))) = inr (l, (loaded-before (places_of g path) l loaded, h))
 
   pub answer-before : (form : Form) (g : Ground) (path : List ℕ) (o : Output) → IsAnswer b form g path o → IsAnswer a form g path o
   answer-before form g path o (checked h) = checked (output-before form g path o h)

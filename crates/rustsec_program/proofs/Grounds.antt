@@ -30,10 +30,10 @@ module _ (a b : Allowed) (same : AllowSame a b) (root : List ℕ) (options : Lis
   -- ---- check
 
   pub result-of-plan : (lock : List ℕ) (o : Output) → IsPlan a options p
-      → (advisories : List Advisory) × (AreOpened b root advisories × IsLockfileOutput b (form_of p) (ground p advisories) lock o)
+      → (advisories : List Advisory) × (AreOpened b root advisories × IsLockfileOutput b (form_of p lock) (ground p advisories) lock o)
       → IsCheckResult a root lock options o
   result-of-plan lock o planned (advisories, (opened, is)) =
-      (ground p advisories, ((planned, opened-before a b same root advisories opened), output-before a b same (form_of p) (ground p advisories) lock o is))
+      (ground p advisories, ((planned, opened-before a b same root advisories opened), output-before a b same (form_of p lock) (ground p advisories) lock o is))
 
   pub refusal-of-plan : (lock : List ℕ) (e : Failure) → IsPlan a options p
       → IsOpenRefusal b root e ⊎ ((advisories : List Advisory) × (AreOpened b root advisories × IsCheckedRefusal b (ground p advisories) lock e))

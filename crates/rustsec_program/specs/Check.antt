@@ -29,7 +29,7 @@ IsGroundRefusal allowed root options e =
 -- an output for a lockfile that is checked
 abbrev pub IsCheckResult : Allowed → List ℕ → List ℕ → List CheckOption → Output → Type 0
 IsCheckResult allowed root lock options o =
-    (g : Ground) × (IsGround allowed root options g × IsLockfileOutput allowed (form_of g.plan) g lock o)
+    (g : Ground) × (IsGround allowed root options g × IsLockfileOutput allowed (form_of g.plan lock) g lock o)
 
 -- how it is refused: the options or the database are, or the lockfile
 abbrev pub IsCheckRefusal : Allowed → List ℕ → List ℕ → List CheckOption → Failure → Type 0

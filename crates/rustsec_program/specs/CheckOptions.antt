@@ -16,6 +16,7 @@ abbrev pub key_name : Key → List ℕ
 key_name key.Policy = codes "--policy"
 key_name key.Today = codes "--today"
 key_name key.Baseline = codes "--baseline"
+key_name key.Index = codes "--index"
 key_name key.Ignore = codes "--ignore"
 key_name key.Deny = codes "--deny"
 key_name key.Severity = codes "--severity"
@@ -26,7 +27,7 @@ key_name key.Color = codes "--color"
 
 abbrev pub keys : List Key
 keys =
-    key.Policy ∷ key.Today ∷ key.Baseline ∷ key.Ignore ∷ key.Deny ∷ key.Severity ∷ key.Arch ∷ key.Os ∷ key.Format ∷ key.Color ∷ []
+    key.Policy ∷ key.Today ∷ key.Baseline ∷ key.Index ∷ key.Ignore ∷ key.Deny ∷ key.Severity ∷ key.Arch ∷ key.Os ∷ key.Format ∷ key.Color ∷ []
 
 abbrev pub key_of : List ℕ → Option Key
 key_of = value_named key_name keys

@@ -30,10 +30,13 @@ pairs_by s advisories packages text None = explained_by_name s advisories packag
 abbrev pub pairs_of : Ground → List PackageValue → List ℕ → List ExplainedPair
 pairs_of g packages text = pairs_by g.plan.wanted.settings g.advisories packages text (known_id text)
 
--- the text for some pairs
+-- the text for some pairs: for people, unless JSON is asked for
 abbrev pub pairs_text : Shape → Settings → List ExplainedPair → List ℕ
 pairs_text shape.Text s pairs = explain_text s pairs
 pairs_text shape.Json s pairs = tree_line (explain_tree s pairs)
+pairs_text shape.Sarif s pairs = explain_text s pairs
+pairs_text shape.Html s pairs = explain_text s pairs
+pairs_text shape.Markdown s pairs = explain_text s pairs
 
 -- the output for the packages of a lockfile
 abbrev pub pairs_output : Ground → List PackageValue → List ℕ → Output

@@ -2,6 +2,7 @@ pub mod CheckOptions
 pub mod Steps
 pub mod Wanted
 pub mod Locked
+pub mod Places
 pub mod Notes
 pub mod Plan
 pub mod Checked

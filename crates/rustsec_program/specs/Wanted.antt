@@ -1,5 +1,5 @@
 -- How the policy of a file and the words of a command join.
-use Rattle.std.specs.Prelude.{◌≡◌, ◌⊎◌, ◌++◌, ℕ, Bool, true, false, List, [], ◌∷◌, Option, Some, None, codes, unwrap_or}
+use Rattle.std.specs.Prelude.{◌≡◌, ◌⊎◌, ◌++◌, ℕ, Bool, true, false, List, [], ◌∷◌, Option, Some, None, codes, is_some, unwrap_or}
 use Rattle.rustsec_values.specs.ClosedTables.{value_named}
 use Rattle.rustsec_values.specs.Reading.{◌>>=◌, read_all, read_optional}
 use Rattle.rustsec_folders.specs.Allowed.{Allowed}
@@ -11,7 +11,7 @@ use Rattle.rustsec_texts.specs.Ids.{IdValue, id_of}
 use Rattle.rustsec_texts.specs.declared.informational.Informational.{Informational}
 use Rattle.rustsec_texts.specs.declared.informational.Informational.TheVariants as informational
 use Rattle.rustsec_policy.specs.Notes.{notes_of}
-use Rattle.rustsec_policy.specs.Policies.{ids_on, policy_of}
+use Rattle.rustsec_policy.specs.Policies.{ids_on, index_of, policy_of}
 use Rattle.rustsec_policy.specs.Words.{denied_of, severity_named}
 use Rattle.rustsec_policy.specs.declared.policy.Policy.{Policy}
 use Rattle.rustsec_policy.specs.declared.words.OutputFormat.{OutputFormat}
@@ -28,13 +28,16 @@ use Rattle.rustsec_program.specs.declared.wanted.Wanted.{Wanted}
 
 -- ---- the words
 
--- how findings are written: for people, or as JSON
+-- how findings are written: for people, as JSON, as a log of SARIF, as a web page, or as Markdown
 abbrev pub shape_name : Shape → List ℕ
 shape_name shape.Text = codes "text"
 shape_name shape.Json = codes "json"
+shape_name shape.Sarif = codes "sarif"
+shape_name shape.Html = codes "html"
+shape_name shape.Markdown = codes "markdown"
 
 abbrev pub shapes : List Shape
-shapes = shape.Text ∷ shape.Json ∷ []
+shapes = shape.Text ∷ shape.Json ∷ shape.Sarif ∷ shape.Html ∷ shape.Markdown ∷ []
 
 abbrev pub shape_of : List ℕ → Option Shape
 shape_of = value_named shape_name shapes
@@ -70,6 +73,7 @@ request_of options =
       today = today;
       shape = shape;
       color = color;
+      index = last_value key.Index options;
     })
 
 -- ---- the policy
@@ -128,6 +132,10 @@ settings_of p r ids = record {
   informational_warnings = unwrap_or p.advisories.informational_warnings usual_kinds;
 }
 
+-- the folder of the index that is asked: a word's, or else the policy's
+abbrev pub index_by : Policy → Request → Option (List ℕ)
+index_by p r = or_else r.index (index_of p.yanked)
+
 -- what is wanted; `None` if an entry of the policy has a last day and the words name no day
 abbrev pub wanted : Policy → Request → Option Wanted
 wanted p r = ids_on r.today p.advisories.ignore >>= λ ids. Some (record {
@@ -135,5 +143,6 @@ wanted p r = ids_on r.today p.advisories.ignore >>= λ ids. Some (record {
   denied = p.output.deny ++ r.denied;
   shape = unwrap_or r.shape (policy_shape p.output.format);
   colored = has_colors r.color;
-  notes = notes_of p;
+  index = index_by p r;
+  notes = notes_of (is_some (index_by p r)) p;
 })

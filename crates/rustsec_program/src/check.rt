@@ -27,7 +27,7 @@ fn check_by_plan<'x, F: Folders>(
     plan: &'x Plan<'x>,
 ) -> Result<Output>
     ensures ok { IfOk result (λ o. (advisories : List Advisory) × (AreOpened (F.allowed folders.old) paths.entry.root.now advisories
-        × IsLockfileOutput (F.allowed folders.old) (form_of plan.now) (record { plan = plan.now; advisories = advisories }) paths.entry.lock.now o)) }
+        × IsLockfileOutput (F.allowed folders.old) (form_of plan.now paths.entry.lock.now) (record { plan = plan.now; advisories = advisories }) paths.entry.lock.now o)) }
     ensures err { IfErr result (λ e. IsOpenRefusal (F.allowed folders.old) paths.entry.root.now e
         ⊎ ((advisories : List Advisory) × (AreOpened (F.allowed folders.old) paths.entry.root.now advisories
         × IsCheckedRefusal (F.allowed folders.old) (record { plan = plan.now; advisories = advisories }) paths.entry.lock.now e))) }
@@ -38,7 +38,8 @@ fn check_by_plan<'x, F: Folders>(
         plan,
         database: &database,
     };
-    check_lockfile(alloc, folders, form_of(plan), &ground, paths.lock)
+    let form = form_of(plan, paths.lock);
+    check_lockfile(alloc, folders, form, &ground, paths.lock)
 }
 
 /// Reads the options' values, the policy, the database and the lockfiles, in this order, and checks the lockfile.

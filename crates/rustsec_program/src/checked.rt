@@ -1,23 +1,29 @@
 //! Checks a lockfile, and writes what is found.
 
-ghost use Rattle.std.specs.Prelude.{◌≡◌, IfErr, IfOk, if◌then◌else◌, string_bytes, true};
+ghost use Rattle.std.specs.Prelude.{◌≡◌, IfErr, IfOk, option_map, string_bytes, true};
+ghost use Rattle.std.specs.Option.{option_copied};
 ghost use Rattle.rustsec_folders.specs.Allowed.{AllowSame};
 ghost use Rattle.rustsec_versions.specs.Failure.{IsMemory, IsOfKind, IsRefusal};
-ghost use Rattle.rustsec_check.specs.Checks.{IsCheckOf};
-ghost use Rattle.rustsec_check.specs.Findings.{fails};
-ghost use Rattle.rustsec_check.specs.Values.{CheckValue};
-ghost use Rattle.rustsec_program.specs.Checked.{IsCheckedOutput, IsCheckedRefusal, IsLockfileOutput, check_output, is_empty, subject_of, written_text};
+ghost use Rattle.rustsec_check.specs.Subjects.{subject_view};
+ghost use Rattle.rustsec_program.specs.Checked.{AreYankedIf, FoundValue, IsCheckedOutput, IsCheckedRefusal, IsFound, IsLockfileOutput, IsOutputFor, IsWrittenText, is_empty, places_of, some_yanked_fail, status_of, subject_of};
+ghost use Rattle.rustsec_program.specs.Places.{places_view};
 ghost use Rattle.rustsec_program.specs.Forms.{form_view};
 
 use crate::forms::Form;
-use crate::locked::{Loaded, load};
+use crate::locked::{Loaded, Places, load};
 use crate::notes::notes_of;
 use crate::output::Output;
 use crate::plan::Plan;
-use rustsec_check::{Check, Subject, check};
+use crate::wanted::Wanted;
+use rustsec_check::{Check, Subject, Yanked, check, yanked_fail, yanked_packages};
 use rustsec_check_output::{Written, check_line, check_text, many_line};
 use rustsec_database::Database;
 use rustsec_folders::Folders;
+use rustsec_index::YankedPackages;
+use rustsec_markdown::markdown_text;
+use rustsec_page::page_text;
+use rustsec_places::package_places;
+use rustsec_sarif::sarif_text;
 use rustsec_versions::{Error, ErrorKind, Result};
 use std::alloc::Global;
 use std::marker::Model;
@@ -49,48 +55,142 @@ fn is_empty(ground: &Ground<'_>, loaded: &Loaded) -> bool
             || loaded.locked.lockfile.packages.is_empty())
 }
 
-/// Returns the text of a check.
-fn written_text(alloc: Global, form: Form<'_>, written: &Written<'_, '_>) -> Result<String>
-    ensures ok { IfOk result (λ t. string_bytes t ≡ written_text (form_view form.entry) written.now) }
+/// Returns the text of a check of the lockfile with the text `lock`.
+fn written_text(
+    alloc: Global,
+    form: Form<'_>,
+    lock: &str,
+    written: &Written<'_, '_>,
+) -> Result<String>
+    ensures ok { IfOk result (λ t. IsWrittenText (form_view form.entry) lock.now written.now (string_bytes t)) }
     ensures err { IfErr result IsMemory }
 {
     match form {
         Form::Text(colored) => check_text(alloc, written, colored),
         Form::Json => check_line(alloc, written),
+        Form::Sarif(path) => sarif_text(alloc, path, &package_places(alloc, lock)?, written),
+        Form::Html => page_text(alloc, written),
+        Form::Markdown => markdown_text(alloc, written),
         Form::Line(path) => many_line(alloc, path, written),
     }
 }
 
-/// Returns the status of a check: 1 if a finding is denied and not old, else 0.
-fn status_of(check: &Check<'_>) -> u8
-    ensures { result ≡ (if fails check.now.findings then 1 else 0) }
-{
-    if check.fails() { 1 } else { 0 }
+/// What is found in a lockfile.
+#[derive(Drop)]
+struct Found<'a> {
+    check: Check<'a>,
+    yanked: Option<Vec<Yanked<'a>>>,
 }
 
-/// Makes the output for a check.
+impl<'a> Model for Found<'a> {
+    ghost use Rattle.std.specs.Prelude.{option_map};
+    ghost use Rattle.rustsec_program.specs.Checked.{FoundValue};
+
+    ghost Value = { FoundValue };
+
+    ghost view = { λ f. record { check = f.check; yanked = option_map (λ v. v.items) f.yanked } };
+}
+
+impl<'a> Found<'a> {
+    /// Returns the yanked packages, if an index was asked.
+    fn yanked(&self) -> Option<&[Yanked<'a>]>
+        ensures { option_map (λ y. y.now) result ≡ self.now.yanked }
+    {
+        match &self.yanked {
+            Some(yanked) => Some(yanked.as_slice()),
+            None => None,
+        }
+    }
+}
+
+/// Returns whether a yanked package, if an index was asked, is denied and not old.
+fn some_yanked_fail(yanked: Option<&[Yanked<'_>]>) -> bool
+    ensures { result ≡ some_yanked_fail (option_map (λ y. y.now) yanked.entry) }
+{
+    match yanked {
+        Some(yanked) => yanked_fail(yanked),
+        None => false,
+    }
+}
+
+/// Returns the status for what is found: 1 if a finding or a yanked package is denied and not old, else 0.
+fn status_of(found: &Found<'_>) -> u8
+    ensures { result ≡ status_of found.now }
+{
+    if found.check.fails() || some_yanked_fail(found.yanked()) {
+        1
+    } else {
+        0
+    }
+}
+
+/// Makes the output for what is found.
 fn check_output<'x, 'c>(
     alloc: Global,
     form: Form<'_>,
     ground: &'x Ground<'x>,
     loaded: &'x Loaded,
-    check: &'c Check<'x>,
+    found: &'c Found<'x>,
 ) -> Result<Output>
-    ensures ok { IfOk result (λ o. o ≡ check_output (form_view form.entry) ground.now loaded.now check.now) }
+    ensures ok { IfOk result (IsOutputFor (form_view form.entry) ground.now loaded.now found.now) }
     ensures err { IfErr result IsMemory }
 {
     let plan = ground.plan;
     let advisories = ground.database.iter().as_slice().len();
-    let notes = notes_of(alloc, &plan.wanted, advisories, &loaded.locked)?;
+    let notes = notes_of(alloc, &plan.wanted, advisories, loaded)?;
     let written = Written {
         database: ground.database,
         lockfile: &loaded.locked.lockfile,
-        check,
+        check: &found.check,
         entries: plan.policy.advisories.ignore.as_slice(),
         notes: notes.as_slice(),
+        yanked: found.yanked(),
     };
-    let text = written_text(alloc, form, &written)?;
-    Ok(Output::new(text, status_of(check)))
+    let lock = loaded.locked.text.as_str();
+    let text = written_text(alloc, form, lock, &written)?;
+    Ok(Output::new(text, status_of(found)))
+}
+
+/// Returns what a check looks at.
+fn subject_of<'x>(ground: &'x Ground<'x>, loaded: &'x Loaded) -> Subject<'x>
+    ensures { subject_view result ≡ subject_of ground.now loaded.now }
+{
+    let plan = ground.plan;
+    Subject {
+        database: ground.database,
+        lockfile: &loaded.locked.lockfile,
+        graph: &loaded.locked.graph,
+        settings: &plan.wanted.settings,
+        denied: plan.wanted.denied.as_slice(),
+        baseline: loaded.baseline.as_ref(),
+    }
+}
+
+/// Returns the yanked packages of a subject, if an index was asked.
+fn yanked_of<'x>(
+    alloc: Global,
+    subject: Subject<'x>,
+    yanked: Option<&YankedPackages>,
+) -> Result<Option<Vec<Yanked<'x>>>>
+    ensures ok { IfOk result (λ found. AreYankedIf (subject_view subject.entry) (option_copied yanked.entry) (option_map (λ v. v.items) found)) }
+    ensures err { IfErr result IsMemory }
+{
+    let Some(yanked) = yanked else {
+        return Ok(None);
+    };
+    let found = yanked_packages(alloc, subject, yanked.packages.as_slice())?;
+    Ok(Some(found))
+}
+
+/// Returns what is found in a lockfile.
+fn found_in<'x>(alloc: Global, ground: &'x Ground<'x>, loaded: &'x Loaded) -> Result<Found<'x>>
+    ensures ok { IfOk result (IsFound ground.now loaded.now) }
+    ensures err { IfErr result IsMemory }
+{
+    let subject = subject_of(ground, loaded);
+    let check = check(alloc, subject)?;
+    let yanked = yanked_of(alloc, subject, loaded.yanked.as_ref())?;
+    Ok(Found { check, yanked })
 }
 
 /// Checks lockfiles that are not empty, and makes the output.
@@ -100,21 +200,12 @@ fn checked<'x>(
     ground: &'x Ground<'x>,
     loaded: &'x Loaded,
 ) -> Result<Output>
-    ensures ok { IfOk result (λ o. (c : CheckValue) × (IsCheckOf (subject_of ground.now loaded.now) c
-        × (o ≡ check_output (form_view form.entry) ground.now loaded.now c))) }
+    ensures ok { IfOk result (λ o. (f : FoundValue) × (IsFound ground.now loaded.now f
+        × IsOutputFor (form_view form.entry) ground.now loaded.now f o)) }
     ensures err { IfErr result IsMemory }
 {
-    let plan = ground.plan;
-    let subject = Subject {
-        database: ground.database,
-        lockfile: &loaded.locked.lockfile,
-        graph: &loaded.locked.graph,
-        settings: &plan.wanted.settings,
-        denied: plan.wanted.denied.as_slice(),
-        baseline: loaded.baseline.as_ref(),
-    };
-    let check = check(alloc, subject)?;
-    check_output(alloc, form, ground, loaded, &check)
+    let found = found_in(alloc, ground, loaded)?;
+    check_output(alloc, form, ground, loaded, &found)
 }
 
 /// Returns the error for an empty database or lockfile.
@@ -141,7 +232,29 @@ fn checked_output<'x>(
     checked(alloc, form, ground, loaded)
 }
 
-/// Reads the lockfile at a path and the older one, checks it, and makes the output.
+/// Returns the folder of the index that is asked, if any.
+fn index_of(wanted: &Wanted) -> Option<&str>
+    ensures { option_map (λ t. t.now) result ≡ wanted.now.index }
+{
+    match &wanted.index {
+        Some(index) => Some(index.as_str()),
+        None => None,
+    }
+}
+
+/// Returns the files that are looked at for the lockfile at a path.
+fn places_of<'x>(ground: &'x Ground<'x>, path: &'x str) -> Places<'x>
+    ensures { places_view result ≡ places_of ground.now path.now }
+{
+    let plan = ground.plan;
+    Places {
+        lock: path,
+        baseline: plan.baseline,
+        index: index_of(&plan.wanted),
+    }
+}
+
+/// Reads the lockfile at a path, the older one and the index, checks the lockfile, and makes the output.
 ///
 /// # Errors
 ///
@@ -157,7 +270,6 @@ pub fn check_lockfile<'x, F: Folders>(
     ensures err { IfErr result (IsCheckedRefusal (F.allowed folders.old) ground.now path.now) }
     ensures same { AllowSame (F.allowed folders.old) (F.allowed folders.new) }
 {
-    let plan = ground.plan;
-    let loaded = load(alloc, folders, path, plan.baseline)?;
+    let loaded = load(alloc, folders, places_of(ground, path))?;
     checked_output(alloc, form, ground, &loaded)
 }

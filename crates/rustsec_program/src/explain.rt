@@ -62,8 +62,10 @@ fn pairs_text(
     ensures err { IfErr result IsMemory }
 {
     match shape {
-        Shape::Text => explain_text(alloc, settings, pairs),
         Shape::Json => explain_line(alloc, settings, pairs),
+        Shape::Text | Shape::Sarif | Shape::Html | Shape::Markdown => {
+            explain_text(alloc, settings, pairs)
+        }
     }
 }
 

@@ -14,16 +14,25 @@ pub enum Form<'a> {
     Text(bool),
     /// JSON.
     Json,
+    /// A log of SARIF about the lockfile at this path.
+    Sarif(&'a str),
+    /// A web page.
+    Html,
+    /// Markdown.
+    Markdown,
     /// A line of JSON for the lockfile at this path among many.
     Line(&'a str),
 }
 
-/// Returns the form that a plan asks for.
-pub fn form_of<'a>(plan: &Plan<'_>) -> Form<'a>
-    ensures { form_view result ≡ form_of plan.now }
+/// Returns the form that a plan asks for, for the lockfile at a path.
+pub fn form_of<'a>(plan: &Plan<'_>, path: &'a str) -> Form<'a>
+    ensures { form_view result ≡ form_of plan.now path.now }
 {
     match plan.wanted.shape {
         Shape::Text => Form::Text(plan.wanted.colored),
         Shape::Json => Form::Json,
+        Shape::Sarif => Form::Sarif(path),
+        Shape::Html => Form::Html,
+        Shape::Markdown => Form::Markdown,
     }
 }

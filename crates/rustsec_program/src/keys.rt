@@ -11,6 +11,8 @@ pub enum Key {
     Today,
     /// The lockfile whose findings are old.
     Baseline,
+    /// The folder of a registry's index.
+    Index,
     /// The ID of an advisory that does not count.
     Ignore,
     /// Which warnings fail.
@@ -43,6 +45,7 @@ const KEYS: &[Key] = &[
     Key::Policy,
     Key::Today,
     Key::Baseline,
+    Key::Index,
     Key::Ignore,
     Key::Deny,
     Key::Severity,
@@ -71,6 +74,7 @@ impl Named for Key {
             Key::Policy => "--policy",
             Key::Today => "--today",
             Key::Baseline => "--baseline",
+            Key::Index => "--index",
             Key::Ignore => "--ignore",
             Key::Deny => "--deny",
             Key::Severity => "--severity",

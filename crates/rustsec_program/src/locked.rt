@@ -1,4 +1,5 @@
-//! Reads the lockfile of a check with the graph of its packages, and the older lockfile of its baseline.
+//! Reads the lockfile of a check with the graph of its packages, the older lockfile of its baseline, and which packages are
+//! yanked.
 
 ghost use Rattle.std.specs.Prelude.{◌≡◌, IfErr, IfOk, None, Some, option_map};
 ghost use Rattle.toml.specs.View.{table_view};
@@ -6,19 +7,25 @@ ghost use Rattle.rustsec_folders.specs.Allowed.{AllowSame};
 ghost use Rattle.rustsec_graph.specs.Graph.{graph_of};
 ghost use Rattle.rustsec_lock.specs.Lockfile.{IsLockfileRefusal, lockfile_of, packages_of};
 ghost use Rattle.rustsec_versions.specs.Failure.{IsOfKind, IsRefusal};
-ghost use Rattle.rustsec_program.specs.Locked.{AreLoadedAt, IsBaselineAt, IsBaselineRefusal, IsLoadRefusal, IsLockedAt, IsLockedText};
+ghost use Rattle.rustsec_program.specs.Locked.{AreLoadedAt, IsBaselineAt, IsBaselineRefusal, IsIndexRefusal, IsLoadRefusal, IsLockedAt, IsLockedTable, IsLockedText, IsYankedAt};
+ghost use Rattle.rustsec_program.specs.Places.{places_view};
 
 use rustsec_folders::Folders;
 use rustsec_graph::Graph;
+use rustsec_index::{YankedPackages, yanked_in};
 use rustsec_lock::Lockfile;
+use rustsec_lock::package::Package;
+use rustsec_values::Text;
 use rustsec_versions::{Error, ErrorKind, Result, refused_file};
 use std::alloc::{AllocError, Global};
 use std::marker::Model;
 use toml::Table;
 
-/// A lockfile with the graph of its packages.
+/// A lockfile with its text and the graph of its packages.
 #[derive(Drop)]
 pub struct Locked {
+    /// The text.
+    pub text: Text,
     /// The lockfile.
     pub lockfile: Lockfile,
     /// The graph of its packages.
@@ -30,18 +37,30 @@ impl Model for Locked {
 
     ghost Value = { LockedValue };
 
-    ghost view = { λ l. record { packages = l.lockfile.packages; graph = l.graph } };
+    ghost view = { λ l. record { text = l.text; packages = l.lockfile.packages; graph = l.graph } };
 }
 
-/// Reads the lockfile of a TOML table.
-fn locked_of_table(alloc: Global, table: &Table) -> Result<Locked>
-    ensures ok { IfOk result (λ l. (packages_of (table_view table.now) ≡ Some l.packages)
-        × (l.graph ≡ graph_of (table_view table.now) l.packages)) }
+impl Locked {
+    /// Returns the packages of the lockfile.
+    fn packages(&self) -> &[Package]
+        ensures { result.now ≡ self.now.packages }
+    {
+        self.lockfile.packages.as_slice()
+    }
+}
+
+/// Reads the lockfile of a TOML table, whose text this is.
+fn locked_of_table(alloc: Global, table: &Table, text: Text) -> Result<Locked>
+    ensures ok { IfOk result (λ l. (l.text ≡ text) × IsLockedTable (table_view table.now) l) }
     ensures err { IfErr result (IsRefusal ErrorKind.Parse (packages_of (table_view table.now) ≡ None)) }
 {
     let lockfile = Lockfile::from_table(alloc, table)?;
     let graph = Graph::from_table(alloc, table, &lockfile)?;
-    Ok(Locked { lockfile, graph })
+    Ok(Locked {
+        text,
+        lockfile,
+        graph,
+    })
 }
 
 /// Returns the error for a text that is not a TOML document; its cause is the reason of `toml`.
@@ -58,12 +77,12 @@ fn no_document(alloc: Global, error: &toml::de::Error) -> Error
 }
 
 /// Reads the lockfile of a text.
-fn locked_of_text(alloc: Global, text: &str) -> Result<Locked>
-    ensures ok { IfOk result (IsLockedText text.now) }
-    ensures err { IfErr result (IsRefusal ErrorKind.Parse (lockfile_of text.now ≡ None)) }
+fn locked_of_text(alloc: Global, text: Text) -> Result<Locked>
+    ensures ok { IfOk result (IsLockedText text) }
+    ensures err { IfErr result (IsRefusal ErrorKind.Parse (lockfile_of text ≡ None)) }
 {
-    match toml::table_from_str(alloc, text) {
-        Ok(table) => locked_of_table(alloc, &table),
+    match toml::table_from_str(alloc, text.as_str()) {
+        Ok(table) => locked_of_table(alloc, &table, text),
         Err(e) => {
             if e.is_memory() {
                 return Err(Error::from(AllocError));
@@ -74,9 +93,9 @@ fn locked_of_text(alloc: Global, text: &str) -> Result<Locked>
 }
 
 /// Reads the lockfile of a file's text. `path` is for the message alone.
-fn locked_of_file(alloc: Global, path: &str, text: &str) -> Result<Locked>
-    ensures ok { IfOk result (IsLockedText text.now) }
-    ensures err { IfErr result (IsRefusal ErrorKind.Parse (lockfile_of text.now ≡ None)) }
+fn locked_of_file(alloc: Global, path: &str, text: Text) -> Result<Locked>
+    ensures ok { IfOk result (IsLockedText text) }
+    ensures err { IfErr result (IsRefusal ErrorKind.Parse (lockfile_of text ≡ None)) }
 {
     match locked_of_text(alloc, text) {
         Ok(locked) => Ok(locked),
@@ -91,7 +110,7 @@ fn locked_at<F: Folders>(alloc: Global, folders: &mut F, path: &str) -> Result<L
     ensures same { AllowSame (F.allowed folders.old) (F.allowed folders.new) }
 {
     let text = folders.read(alloc, path)?;
-    locked_of_file(alloc, path, text.as_str())
+    locked_of_file(alloc, path, text)
 }
 
 /// Reads the older lockfile, if one is named.
@@ -111,13 +130,44 @@ fn baseline_at<F: Folders>(
     Ok(Some(lockfile))
 }
 
-/// Both lockfiles of a check.
+/// Returns which packages are yanked, if an index is asked.
+fn yanked_at<F: Folders>(
+    alloc: Global,
+    folders: &mut F,
+    index: Option<&str>,
+    packages: &[Package],
+) -> Result<Option<YankedPackages>>
+    ensures ok { IfOk result (IsYankedAt (F.allowed folders.old) (option_map (λ t. t.now) index.entry) packages.now) }
+    ensures err { IfErr result (IsIndexRefusal (F.allowed folders.old) (option_map (λ t. t.now) index.entry) packages.now) }
+    ensures same { AllowSame (F.allowed folders.old) (F.allowed folders.new) }
+{
+    let Some(index) = index else {
+        return Ok(None);
+    };
+    let yanked = yanked_in(alloc, folders, index, packages)?;
+    Ok(Some(yanked))
+}
+
+/// The files that a check looks at beside the policy and the database.
+#[derive(Clone, Copy)]
+pub struct Places<'a> {
+    /// The path of the lockfile.
+    pub lock: &'a str,
+    /// The path of the older lockfile, if one is named.
+    pub baseline: Option<&'a str>,
+    /// The folder of a registry's index, if one is asked.
+    pub index: Option<&'a str>,
+}
+
+/// What these files say.
 #[derive(Drop)]
 pub struct Loaded {
     /// The lockfile.
     pub locked: Locked,
     /// The older one, if any.
     pub baseline: Option<Lockfile>,
+    /// Which packages are yanked, if an index was asked.
+    pub yanked: Option<YankedPackages>,
 }
 
 impl Model for Loaded {
@@ -126,25 +176,26 @@ impl Model for Loaded {
 
     ghost Value = { LoadedValue };
 
-    ghost view = { λ l. record { locked = l.locked; baseline = option_map (λ b. b.packages) l.baseline } };
+    ghost view = { λ l. record { locked = l.locked; baseline = option_map (λ b. b.packages) l.baseline; yanked = l.yanked } };
 }
 
-/// Reads the lockfile at a path, and then the older one, if one is named.
+/// Reads the lockfile, then the older one, if one is named, and then which packages are yanked, if an index is asked.
 ///
 /// # Errors
 ///
-/// `Io` if a file cannot be read; `Parse` if a text is not a lockfile; else `OutOfMemory`.
-pub fn load<F: Folders>(
-    alloc: Global,
-    folders: &mut F,
-    path: &str,
-    old: Option<&str>,
-) -> Result<Loaded>
-    ensures ok { IfOk result (AreLoadedAt (F.allowed folders.old) path.now (option_map (λ t. t.now) old.entry)) }
-    ensures err { IfErr result (IsLoadRefusal (F.allowed folders.old) path.now (option_map (λ t. t.now) old.entry)) }
+/// `Io` if a file cannot be read; `Parse` if a text is not a lockfile, or a file of the index is damaged; else
+/// `OutOfMemory`.
+pub fn load<F: Folders>(alloc: Global, folders: &mut F, places: Places<'_>) -> Result<Loaded>
+    ensures ok { IfOk result (AreLoadedAt (F.allowed folders.old) (places_view places.entry)) }
+    ensures err { IfErr result (IsLoadRefusal (F.allowed folders.old) (places_view places.entry)) }
     ensures same { AllowSame (F.allowed folders.old) (F.allowed folders.new) }
 {
-    let locked = locked_at(alloc, folders, path)?;
-    let baseline = baseline_at(alloc, folders, old)?;
-    Ok(Loaded { locked, baseline })
+    let locked = locked_at(alloc, folders, places.lock)?;
+    let baseline = baseline_at(alloc, folders, places.baseline)?;
+    let yanked = yanked_at(alloc, folders, places.index, locked.packages())?;
+    Ok(Loaded {
+        locked,
+        baseline,
+        yanked,
+    })
 }

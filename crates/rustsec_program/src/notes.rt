@@ -1,10 +1,13 @@
 //! Makes the notes on what a check looks at.
 
 ghost use Rattle.std.specs.Prelude.{◌≡◌, ◌++◌, IfOk, OnOk, length, slice_index_or};
+ghost use Rattle.std.specs.Option.{option_copied};
+ghost use Rattle.rustsec_program.specs.Checked.{index_notes};
 ghost use Rattle.rustsec_program.specs.Notes.{dependency_note, dependency_notes, dependency_notes_at, empty_notes, kind_note, kind_notes, note_if, unknown_kind};
 
-use crate::locked::Locked;
-use crate::wanted::Wanted;
+use crate::locked::Loaded;
+use crate::wanted::{Wanted, joined};
+use rustsec_index::YankedPackages;
 use rustsec_lock::package::Package;
 use rustsec_texts::Informational;
 use rustsec_values::{Items, Text};
@@ -143,23 +146,39 @@ fn push_dependency_notes(
     Ok(())
 }
 
+/// Returns notes and then those on the packages that an index does not list, if one was asked.
+fn with_index_notes(
+    notes: Items<Text>,
+    yanked: Option<&YankedPackages>,
+) -> Result<Items<Text>, AllocError>
+    ensures { IfOk result (λ all. all ≡ notes ++ index_notes (option_copied yanked.entry)) }
+{
+    let Some(yanked) = yanked else {
+        return Ok(notes);
+    };
+    let unlisted = Clone::clone(&yanked.unlisted)?;
+    joined(notes, unlisted)
+}
+
 /// Returns the notes on a check: those on the policy and on the kinds of warnings, those on what is empty, by the number
-/// of advisories, and those on the dependencies of the lockfile's packages.
+/// of advisories, those on the dependencies of the lockfile's packages, and those on the index.
 pub fn notes_of(
     alloc: Global,
     wanted: &Wanted,
     advisories: usize,
-    locked: &Locked,
+    loaded: &Loaded,
 ) -> Result<Items<Text>, AllocError>
-    ensures { IfOk result (λ notes. notes ≡ ((wanted.now.notes ++ kind_notes wanted.now.settings.informational_warnings)
-        ++ empty_notes advisories (length locked.now.packages))
-        ++ dependency_notes locked.now.packages locked.now.graph.unresolved) }
+    ensures { IfOk result (λ notes. notes ≡ (((wanted.now.notes ++ kind_notes wanted.now.settings.informational_warnings)
+        ++ empty_notes advisories (length loaded.now.locked.packages))
+        ++ dependency_notes loaded.now.locked.packages loaded.now.locked.graph.unresolved)
+        ++ index_notes loaded.now.yanked) }
 {
+    let locked = &loaded.locked;
     let packages = locked.lockfile.packages.as_slice();
     let mut notes = Clone::clone(&wanted.notes)?;
     let kinds = &wanted.settings.informational_warnings;
     push_kind_notes(alloc, &mut notes, kinds.as_slice())?;
     push_empty(alloc, &mut notes, advisories, packages.len())?;
     push_dependency_notes(alloc, &mut notes, packages, locked.graph.unresolved())?;
-    Ok(notes)
+    with_index_notes(notes, loaded.yanked.as_ref())
 }

@@ -1,6 +1,6 @@
 //! Reads the values of the options.
 
-ghost use Rattle.std.specs.Prelude.{◌≡◌, [], IfErr, IfOk, None, Some, map};
+ghost use Rattle.std.specs.Prelude.{◌≡◌, [], IfErr, IfOk, None, Some, map, option_map};
 ghost use Rattle.rustsec_policy.specs.Words.{severity_named};
 ghost use Rattle.rustsec_values.specs.Reading.{read_all, read_optional};
 ghost use Rattle.rustsec_versions.specs.Failure.{IsRefusal};
@@ -15,9 +15,9 @@ use rustsec_lock::Severity;
 use rustsec_lock::platforms::{Arch, OS};
 use rustsec_policy::Denied;
 use rustsec_texts::{Date, Id};
-use rustsec_values::{Items, Named};
+use rustsec_values::{Items, Named, Text};
 use rustsec_versions::{ErrorKind, FromText, Result, refused_at};
-use std::alloc::Global;
+use std::alloc::{AllocError, Global};
 
 /// What the options say.
 pub struct Request {
@@ -37,6 +37,8 @@ pub struct Request {
     pub shape: Option<Shape>,
     /// Whether the text for people has colors.
     pub color: Option<Coloring>,
+    /// The folder of a registry's index.
+    pub index: Option<Text>,
 }
 
 /// Hand-written: a derived `Drop` is proved again, field by field, at every exit of every owner.
@@ -51,6 +53,7 @@ impl Drop for Request {
             today: _,
             shape: _,
             color: _,
+            index: _,
         } = self;
     }
 }
@@ -105,6 +108,18 @@ fn read_severity(alloc: Global, options: &Options<'_>) -> Result<Option<Severity
     }
 }
 
+/// Returns the value of a key that counts once as it is, if any.
+fn last_text(
+    alloc: Global,
+    options: &Options<'_>,
+    key: Key,
+) -> std::result::Result<Option<Text>, AllocError>
+    ensures { IfOk result (λ t. t ≡ last_value key options.now) }
+{
+    let last = options.last(alloc, key)?;
+    Text::from_option(alloc, last)
+}
+
 impl Request {
     /// Returns the request of no option.
     fn new(alloc: Global) -> Request
@@ -117,6 +132,7 @@ impl Request {
           today = None;
           shape = None;
           color = None;
+          index = None;
         } }
     {
         Request {
@@ -128,6 +144,7 @@ impl Request {
             today: None,
             shape: None,
             color: None,
+            index: None,
         }
     }
 }
@@ -150,5 +167,6 @@ pub fn request_of(alloc: Global, options: &Options<'_>) -> Result<Request>
     request.today = read_last(alloc, options, Key::Today)?;
     request.shape = read_last(alloc, options, Key::Format)?;
     request.color = read_last(alloc, options, Key::Color)?;
+    request.index = last_text(alloc, options, Key::Index)?;
     Ok(request)
 }

@@ -14,6 +14,12 @@ pub enum Shape {
     Text,
     /// As JSON.
     Json,
+    /// As a log of SARIF.
+    Sarif,
+    /// As a web page.
+    Html,
+    /// As Markdown.
+    Markdown,
 }
 
 /// Whether the text for people has colors.
@@ -33,13 +39,22 @@ impl Named for Shape {
     ghost values = { shapes };
 
     fn all() -> &'static [Shape] {
-        &[Shape::Text, Shape::Json]
+        &[
+            Shape::Text,
+            Shape::Json,
+            Shape::Sarif,
+            Shape::Html,
+            Shape::Markdown,
+        ]
     }
 
     fn name(&self) -> &'static str {
         match self {
             Shape::Text => "text",
             Shape::Json => "json",
+            Shape::Sarif => "sarif",
+            Shape::Html => "html",
+            Shape::Markdown => "markdown",
         }
     }
 }
@@ -71,7 +86,12 @@ impl FromText for Shape {
     fn from_text(alloc: Global, text: &str) -> Result<Shape> {
         match value_named(text) {
             Some(shape) => Ok(shape),
-            None => Err(refused_text(alloc, "unknown word", text, "`text` or `json`")),
+            None => Err(refused_text(
+                alloc,
+                "unknown word",
+                text,
+                "`text`, `json`, `sarif`, `html` or `markdown`",
+            )),
         }
     }
 }

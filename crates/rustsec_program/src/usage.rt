@@ -26,10 +26,11 @@ pub const PAGE: &str = "
       --ignore ID         an advisory that does not count
       --severity LEVEL    the least severity: `none`, `low`, `medium`, `high` or `critical`
       --arch NAME, --os NAME      a platform
-      --format text|json
+      --format text|json  for check also `sarif`, `html` or `markdown`
 
   Options of check and check-many, without effect for explain:
       --baseline FILE     an older lockfile: what it has too is old and does not fail
+      --index FOLDER      a registry's index, which is asked for yanked packages: a checkout, or Cargo's own folder
       --deny KIND         warnings that fail: `warnings`, `unmaintained`, `unsound` or `yanked`
       --color always|never
       --allow-empty       an empty database, lockfile or list of lockfiles is not refused

@@ -4,7 +4,7 @@ ghost use Rattle.std.specs.Prelude.{◌≡◌, ◌++◌, IfErr, IfOk, None, Some
 ghost use Rattle.rustsec_policy.specs.Notes.{notes_of};
 ghost use Rattle.rustsec_policy.specs.Policies.{ids_on};
 ghost use Rattle.rustsec_versions.specs.Failure.{IsMemory, IsRefusal};
-ghost use Rattle.rustsec_program.specs.Wanted.{has_colors, or_else, policy_shape, settings_of, usual_kinds, wanted};
+ghost use Rattle.rustsec_program.specs.Wanted.{has_colors, index_by, or_else, policy_shape, settings_of, usual_kinds, wanted};
 
 use crate::request::Request;
 use crate::shapes::{Coloring, Shape};
@@ -25,6 +25,8 @@ pub struct Wanted {
     pub shape: Shape,
     /// Whether the text for people has colors.
     pub colored: bool,
+    /// The folder of the index that is asked which packages are yanked, if any.
+    pub index: Option<Text>,
     /// Notes on the policy.
     pub notes: Items<Text>,
 }
@@ -37,13 +39,17 @@ impl Drop for Wanted {
             denied: _,
             shape: _,
             colored: _,
+            index: _,
             notes: _,
         } = self;
     }
 }
 
 /// Returns the elements of two lists, one after the other.
-fn joined<T: Drop>(first: Items<T>, second: Items<T>) -> std::result::Result<Items<T>, AllocError>
+pub(crate) fn joined<T: Drop>(
+    first: Items<T>,
+    second: Items<T>,
+) -> std::result::Result<Items<T>, AllocError>
     ensures { IfOk result (λ xs. xs ≡ first ++ second) }
 {
     let mut all = Vec::from(first);
@@ -114,6 +120,21 @@ fn has_colors(color: Option<Coloring>) -> bool
     matches!(color, Some(Coloring::Always))
 }
 
+/// Returns the folder of the index that is asked: the word's, or else the policy's.
+fn index_by(
+    alloc: Global,
+    policy: &Policy,
+    request: &Request,
+) -> std::result::Result<Option<Text>, AllocError>
+    ensures { IfOk result (λ i. i ≡ index_by policy.now request.now) }
+{
+    if let Some(index) = &request.index {
+        let copy = Clone::clone(index)?;
+        return Ok(Some(copy));
+    }
+    Text::from_option(alloc, policy.yanked.index())
+}
+
 impl Wanted {
     /// Returns what is wanted if nothing is said.
     fn new(alloc: Global) -> Wanted
@@ -124,6 +145,7 @@ impl Wanted {
             denied: Items::new(alloc),
             shape: Shape::Text,
             colored: false,
+            index: None,
             notes: Items::new(alloc),
         }
     }
@@ -145,7 +167,8 @@ impl Wanted {
         wanted.denied = joined_copies(&policy.output.deny, &request.denied)?;
         wanted.shape = shape_of(request.shape, policy.output.format);
         wanted.colored = has_colors(request.color);
-        wanted.notes = policy.notes(alloc)?;
+        wanted.index = index_by(alloc, policy, request)?;
+        wanted.notes = policy.notes(alloc, wanted.index.is_some())?;
         Ok(wanted)
     }
 }

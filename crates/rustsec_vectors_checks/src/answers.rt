@@ -87,7 +87,7 @@ pub fn tree(alloc: Global, lists: Lists<'_>) -> Result<String, Fail> {
         unknown,
     } = lists;
     let text = format!(in alloc;
-        "{{\"below-threshold\":0,\"database\":{{\"advisory-count\":3,\"last-date\":\"2022-01-01\"}},\"findings\":[{findings}],\"ignored\":[{ignored}],\"lockfile\":{{\"dependency-count\":4}},\"notes\":[],\"unknown-ignores\":[{unknown}],\"unused-ignores\":[{unused}]}}"
+        "{{\"below-threshold\":0,\"database\":{{\"advisory-count\":3,\"last-date\":\"2022-01-01\"}},\"findings\":[{findings}],\"ignored\":[{ignored}],\"lockfile\":{{\"dependency-count\":4}},\"notes\":[],\"unknown-ignores\":[{unknown}],\"unused-ignores\":[{unused}],\"yanked\":null}}"
     )?;
     Ok(text)
 }

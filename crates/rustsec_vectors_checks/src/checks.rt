@@ -182,7 +182,7 @@ const REFUSED: &[Row<'static>] = &[
         ],
         "",
         0,
-        "{\"below-threshold\":0,\"database\":{\"advisory-count\":0,\"last-date\":null},\"findings\":[],\"ignored\":[],\"lockfile\":{\"dependency-count\":0},\"notes\":[\"the database has no advisory\",\"the lockfile has no package\"],\"unknown-ignores\":[],\"unused-ignores\":[]}\n",
+        "{\"below-threshold\":0,\"database\":{\"advisory-count\":0,\"last-date\":null},\"findings\":[],\"ignored\":[],\"lockfile\":{\"dependency-count\":0},\"notes\":[\"the database has no advisory\",\"the lockfile has no package\"],\"unknown-ignores\":[],\"unused-ignores\":[],\"yanked\":null}\n",
     ),
 ];
 

@@ -78,6 +78,31 @@ pub const FILES: Paths<'_> = &[
         ),
     ),
     ("misspelled", Holds::Text("[advisories]\nignored = []\n")),
+    ("index", Holds::Entries(&[("ht", true), ("le", true)])),
+    ("index/ht", Holds::Entries(&[("tp", true)])),
+    ("index/ht/tp", Holds::Entries(&[("http", false)])),
+    (
+        "index/ht/tp/http",
+        Holds::Text(
+            "{\"name\":\"http\",\"vers\":\"1.0.0\",\"yanked\":false}\n{\"name\":\"http\",\"vers\":\"1.0.1\",\"yanked\":true}\n",
+        ),
+    ),
+    ("index/le", Holds::Entries(&[("ft", true)])),
+    ("index/le/ft", Holds::Entries(&[("left", false)])),
+    (
+        "index/le/ft/left",
+        Holds::Text(
+            "{\"name\":\"left\",\"vers\":\"0.2.0\",\"yanked\":false}\n{\"name\":\"left\",\"vers\":\"0.2.0\",\"yanked\":true}\n",
+        ),
+    ),
+    ("damaged", Holds::Entries(&[("le", true)])),
+    ("damaged/le", Holds::Entries(&[("ft", true)])),
+    ("damaged/le/ft", Holds::Entries(&[("left", false)])),
+    ("damaged/le/ft/left", Holds::Text("{\"name\":\"left\"\n")),
+    (
+        "indexed",
+        Holds::Text("[yanked]\nindex = \"index\"\n\n[output]\ndeny = [\"yanked\"]\n"),
+    ),
 ];
 
 /// The finding of `http`, as JSON: from `old` on, what says whether it is old; then what is ignored.

@@ -9,4 +9,8 @@ mod checks;
 #[cfg(test)]
 mod files;
 #[cfg(test)]
+mod formats;
+#[cfg(test)]
 mod split;
+#[cfg(test)]
+mod yanked;

@@ -273,3 +273,27 @@ fn other_tables(rt: HostRuntime) {
         assert!(rt; is_read(rt.alloc(), row), "of {}", row.text);
     }
 }
+
+/// Files, each with the folder of the index that is asked.
+const INDEXES: &[(&str, Option<&str>)] = &[
+    ("", None),
+    ("yanked.enabled = true", None),
+    ("yanked.index = \"an index\"", Some("an index")),
+    ("yanked = { index = \"a\", enabled = true }", Some("a")),
+    ("yanked = { index = \"a\", enabled = false }", None),
+];
+
+/// Returns whether a file's policy asks this index.
+fn asks(alloc: Global, text: &str, index: Option<&str>) -> bool {
+    match Policy::from_str(alloc, text) {
+        Ok(policy) => policy.yanked.index() == index,
+        Err(_) => false,
+    }
+}
+
+#[test]
+fn indexes(rt: HostRuntime) {
+    for (text, index) in INDEXES {
+        assert!(rt; asks(rt.alloc(), text, *index), "of {text}");
+    }
+}

@@ -93,10 +93,21 @@ const IDLE: &[(&str, &[&str])] = &[
     ),
 ];
 
+/// Files beside an index in a folder.
+const INDEXED: &[(&str, &[&str])] = &[
+    ("yanked.enabled = true", &[]),
+    ("output.deny = [\"yanked\"]", &[]),
+    ("database.fetch = true\nyanked.enabled = true", &[DATABASE]),
+    (
+        "yanked.update_index = true",
+        &["keys without effect here: `update_index` in [yanked]"],
+    ),
+];
+
 /// Returns whether a file's policy has these notes.
-fn has_notes(alloc: Global, text: &str, wanted: &[&str]) -> Result<bool> {
+fn has_notes(alloc: Global, text: &str, has_index: bool, wanted: &[&str]) -> Result<bool> {
     let policy = Policy::from_str(alloc, text)?;
-    let notes = policy.notes(alloc)?;
+    let notes = policy.notes(alloc, has_index)?;
     Ok(
         notes.len() == wanted.len()
             && notes
@@ -107,8 +118,8 @@ fn has_notes(alloc: Global, text: &str, wanted: &[&str]) -> Result<bool> {
 }
 
 /// Returns whether a file has a policy with these notes.
-fn gives(alloc: Global, text: &str, wanted: &[&str]) -> bool {
-    match has_notes(alloc, text, wanted) {
+fn gives(alloc: Global, text: &str, has_index: bool, wanted: &[&str]) -> bool {
+    match has_notes(alloc, text, has_index, wanted) {
         Ok(holds) => holds,
         Err(_) => false,
     }
@@ -117,13 +128,20 @@ fn gives(alloc: Global, text: &str, wanted: &[&str]) -> bool {
 #[test]
 fn notes(rt: HostRuntime) {
     for (text, wanted) in ROWS {
-        assert!(rt; gives(rt.alloc(), text, wanted), "of {text}");
+        assert!(rt; gives(rt.alloc(), text, false, wanted), "of {text}");
     }
 }
 
 #[test]
 fn keys_without_effect(rt: HostRuntime) {
     for (text, wanted) in IDLE {
-        assert!(rt; gives(rt.alloc(), text, wanted), "of {text}");
+        assert!(rt; gives(rt.alloc(), text, false, wanted), "of {text}");
+    }
+}
+
+#[test]
+fn notes_beside_an_index(rt: HostRuntime) {
+    for (text, wanted) in INDEXED {
+        assert!(rt; gives(rt.alloc(), text, true, wanted), "of {text}");
     }
 }

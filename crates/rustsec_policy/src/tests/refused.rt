@@ -70,7 +70,7 @@ const UNKNOWN_KEYS: &[(&str, &str)] = &[
     ),
     (
         "[yanked]\nenable = true",
-        "line 2, column 1: unknown key `enable` in [yanked], expected `enabled` or `update_index`; did you mean `enabled`?",
+        "line 2, column 1: unknown key `enable` in [yanked], expected `enabled`, `index` or `update_index`; did you mean `enabled`?",
     ),
     (
         "[target]\nso = 1\n",

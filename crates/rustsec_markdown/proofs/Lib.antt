@@ -1,0 +1,5 @@
+pub mod EscapedTexts
+pub mod Fits
+pub mod Harmless
+pub mod Lengths
+pub mod Pieces

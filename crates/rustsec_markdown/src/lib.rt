@@ -1,0 +1,17 @@
+//! What is written of a check for a comment on a pull request: GitHub Flavored Markdown, in which no text of a file
+//! starts a link, a mention or a line.
+#![tactic(auto)]
+
+mod escaped;
+#[cfg(test)]
+mod escaped_tests;
+mod fitting;
+mod lines;
+mod row;
+#[cfg(test)]
+mod tests;
+mod text;
+mod words;
+
+pub use crate::escaped::markdown_escaped;
+pub use crate::text::markdown_text;

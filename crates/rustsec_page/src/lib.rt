@@ -1,0 +1,26 @@
+//! A check as one HTML page for a browser.
+#![tactic(auto)]
+
+mod card;
+mod cuts;
+mod drawing;
+mod drawn;
+mod escape;
+mod facts;
+mod finding;
+mod frame;
+mod header;
+mod item;
+mod line;
+mod links;
+mod lists;
+mod mended;
+mod page;
+mod pieces;
+mod ranked;
+mod section;
+mod style;
+#[cfg(test)]
+mod tests;
+
+pub use crate::page::page_text;

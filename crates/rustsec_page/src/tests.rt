@@ -1,0 +1,4 @@
+//! Tests of the page.
+
+mod texts;
+mod whole;

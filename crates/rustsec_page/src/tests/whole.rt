@@ -1,0 +1,388 @@
+//! The page of a check of three packages, written by hand.
+
+use crate::lists::push_yanked_list;
+use crate::page_text;
+use rustsec_advisory::Advisory;
+use rustsec_check::{Check, Finding, IgnoredPair, Update, Yanked};
+use rustsec_check_output::Written;
+use rustsec_database::Database;
+use rustsec_folders::SourceFile;
+use rustsec_lock::Lockfile;
+use rustsec_lock::package::Package;
+use rustsec_policy::{Ignored, Policy};
+use rustsec_texts::WarningKind;
+use rustsec_values::Text;
+use semver::Version;
+use std::alloc::Global;
+use std::process::Abort;
+use std::test::Fail;
+
+/// An advisory about a vulnerability. Its vector is the example of CVSS 3.1 with the score 9.8.
+const CRITICAL: &str = r#"```toml
+[advisory]
+id = "RUSTSEC-2023-9002"
+package = "quillpack"
+date = "2023-05-04"
+cvss = "CVSS:3.1/AV:N/AC:L/PR:N/UI:N/S:U/C:H/I:H/A:H"
+references = ["http://example.com/plain"]
+url = "https://example.com/?a=1&b=2"
+
+[versions]
+patched = [">=2.3.1"]
+```
+
+# Reads past the end
+
+It reads <past> the end.
+
+It writes, too.
+"#;
+
+/// An advisory about a package that nobody maintains.
+const UNMAINTAINED: &str = r#"```toml
+[advisory]
+id = "RUSTSEC-2024-9001"
+package = "http"
+date = "2024-01-02"
+informational = "unmaintained"
+
+[versions]
+patched = []
+```
+
+# Nobody maintains it
+
+Nobody does.
+"#;
+
+/// A lockfile with a local package and two published ones.
+const LOCKFILE: &str = r#"
+[[package]]
+name = "app"
+version = "0.1.0"
+dependencies = ["http"]
+
+[[package]]
+name = "http"
+version = "2.0.0"
+source = "registry+https://github.com/rust-lang/crates.io-index"
+dependencies = ["quillpack"]
+
+[[package]]
+name = "quillpack"
+version = "2.1.0"
+source = "registry+https://github.com/rust-lang/crates.io-index"
+"#;
+
+/// A policy that ignores the warning.
+const POLICY: &str = r#"
+[advisories]
+ignore = [{ id = "RUSTSEC-2024-9001", reason = 'it is "small"', until = "2024-12-31" }]
+"#;
+
+/// The page after its style sheet.
+const BODY: &str = r#"</head>
+<body>
+<header>
+<h1>Dependency check</h1>
+<p class="summary">1 vulnerability, 1 warning, 1 ignored</p>
+<p class="soft">Looked at 2 advisories and 3 packages</p>
+<p class="soft">Left out below the least severity: 4</p>
+</header>
+<main>
+<section class="critical">
+<h2>Critical</h2>
+<article>
+<h3><a href="https://rustsec.org/advisories/RUSTSEC-2023-9002" rel="noreferrer">RUSTSEC-2023-9002</a> Reads past the end</h3>
+<p class="facts"><code>quillpack 2.1.0</code> <span class="tag">vulnerability, critical 9.8</span></p>
+<figure>
+<div class="drawing"><svg width="192" height="64" viewBox="0 0 192 64" role="img" aria-label="Versions">
+<path class="axis" d="M0 32H192"/>
+<path class="affected" d="M0 32H144"/>
+<path class="tick" d="M144 26v12"/><text x="144" y="57">2.3.1</text>
+<path class="tick" d="M48 26v12"/><text x="48" y="57">2.1.0</text>
+<path class="locked" d="M48 21l9 11-9 11-9-11z"/><text class="name" x="48" y="13">locked</text>
+<circle class="free" cy="32" r="9" cx="144"/><text class="name" x="144" y="13">least free</text>
+</svg></div>
+<figcaption>Affected: <span class="range">below 2.3.1</span></figcaption>
+</figure>
+<p class="update">Update to <strong>2.3.1</strong> (compatible): <code>cargo update quillpack@2.1.0</code></p>
+<ol class="path">
+<li>app 0.1.0</li>
+<li>http 2.0.0</li>
+<li>quillpack 2.1.0</li>
+</ol>
+<details>
+<summary>Description</summary>
+<div class="description">It reads &lt;past&gt; the end.
+
+It writes, too.</div>
+</details>
+<ul class="links">
+<li><a href="https://example.com/?a=1&amp;b=2" rel="noreferrer">https://example.com/?a=1&amp;b=2</a></li>
+<li>http://example.com/plain</li>
+</ul>
+</article>
+</section>
+<section class="warning">
+<h2>Warnings</h2>
+<article>
+<h3><a href="https://rustsec.org/advisories/RUSTSEC-2024-9001" rel="noreferrer">RUSTSEC-2024-9001</a> Nobody maintains it</h3>
+<p class="facts"><code>http 2.0.0</code> <span class="tag">unmaintained</span> <span class="tag">old</span></p>
+<figure>
+<div class="drawing"><svg width="96" height="64" viewBox="0 0 96 64" role="img" aria-label="Versions">
+<path class="axis" d="M0 32H96"/>
+<path class="affected" d="M0 32H96"/>
+<path class="tick" d="M48 26v12"/><text x="48" y="57">2.0.0</text>
+<path class="locked" d="M48 21l9 11-9 11-9-11z"/><text class="name" x="48" y="13">locked</text>
+</svg></div>
+<figcaption>Affected: <span class="range">every version</span></figcaption>
+</figure>
+<p class="update">No fixed version</p>
+<p class="soft">No path from a root</p>
+<details>
+<summary>Description</summary>
+<div class="description">Nobody does.</div>
+</details>
+</article>
+</section>
+<section>
+<h2>Ignored</h2>
+<ul class="box">
+<li><a href="https://rustsec.org/advisories/RUSTSEC-2024-9001" rel="noreferrer">RUSTSEC-2024-9001</a> <code>http 2.0.0</code> until 2024-12-31: it is &quot;small&quot;</li>
+</ul>
+</section>
+<section>
+<h2>Notes</h2>
+<ul class="box">
+<li>one
+&lt;b&gt;two</li>
+</ul>
+</section>
+</main>
+</body>
+</html>
+"#;
+
+/// The section of the yanked package.
+const YANKED: &str = r#"<section>
+<h2>Yanked packages</h2>
+<ul class="box">
+<li><code>http 2.0.0</code> <span class="tag">denied</span><ol class="path">
+<li>app 0.1.0</li>
+<li>http 2.0.0</li>
+</ol>
+</li>
+</ul>
+</section>
+"#;
+
+/// Returns a file.
+fn file(alloc: Global, path: &str, text: &str) -> Result<SourceFile, Fail> {
+    let path = Text::from_str(alloc, path)?;
+    let text = Text::from_str(alloc, text)?;
+    Ok(SourceFile { path, text })
+}
+
+/// Returns the database of both advisories.
+fn database(alloc: Global) -> Result<Database, Fail> {
+    let mut files = Vec::new(alloc);
+    files.push(file(alloc, "crates/quillpack/RUSTSEC-2023-9002.md", CRITICAL)?)?;
+    files.push(file(alloc, "crates/http/RUSTSEC-2024-9001.md", UNMAINTAINED)?)?;
+    let database = Database::load(alloc, files.as_slice())?;
+    Ok(database)
+}
+
+/// Returns the finding of the vulnerability.
+fn vulnerability<'a>(
+    alloc: Global,
+    advisory: &'a Advisory,
+    package: &'a Package,
+) -> Result<Finding<'a>, Fail> {
+    let least_free = Version::parse(alloc, "2.3.1")?;
+    let path = [0, 1, 2].to_vec(alloc)?;
+    let dependents = [1].to_vec(alloc)?;
+    Ok(Finding {
+        kind: None,
+        advisory,
+        package,
+        place: 2,
+        is_denied: true,
+        is_old: false,
+        path: Some(path),
+        dependents,
+        update: Update {
+            least_free: Some(least_free),
+            is_compatible: true,
+            moved_by: Vec::new(alloc),
+        },
+    })
+}
+
+/// Returns the finding of the warning.
+fn warning<'a>(alloc: Global, advisory: &'a Advisory, package: &'a Package) -> Finding<'a> {
+    Finding {
+        kind: Some(WarningKind::Unmaintained),
+        advisory,
+        package,
+        place: 1,
+        is_denied: false,
+        is_old: true,
+        path: None,
+        dependents: Vec::new(alloc),
+        update: Update {
+            least_free: None,
+            is_compatible: false,
+            moved_by: Vec::new(alloc),
+        },
+    }
+}
+
+/// Returns the packages that are yanked: the second one.
+fn yanked<'a>(alloc: Global, packages: &'a [Package]) -> Result<Vec<Yanked<'a>>, Fail> {
+    let mut yanked = Vec::new(alloc);
+    if let [_, http, ..] = packages {
+        let path = [0, 1].to_vec(alloc)?;
+        yanked.push(Yanked {
+            package: http,
+            place: 1,
+            is_denied: true,
+            is_old: false,
+            path: Some(path),
+            dependents: Vec::new(alloc),
+        })?;
+    }
+    Ok(yanked)
+}
+
+/// Returns the check of both findings; the warning is ignored too.
+fn check<'a>(
+    alloc: Global,
+    advisories: &'a [Advisory],
+    packages: &'a [Package],
+) -> Result<Option<Check<'a>>, Fail> {
+    let ([critical, unmaintained], [_, http, quillpack]) = (advisories, packages) else {
+        return Ok(None);
+    };
+    let mut findings = Vec::new(alloc);
+    findings.push(warning(alloc, unmaintained, http))?;
+    findings.push(vulnerability(alloc, critical, quillpack)?)?;
+    let mut ignored = Vec::new(alloc);
+    ignored.push(IgnoredPair {
+        kind: Some(WarningKind::Unmaintained),
+        advisory: unmaintained,
+        package: http,
+    })?;
+    Ok(Some(Check {
+        findings,
+        ignored,
+        unused: Vec::new(alloc),
+        unknown: Vec::new(alloc),
+        below_threshold: 4,
+    }))
+}
+
+/// Returns whether the page ends as the row above says.
+fn ends_with_body(alloc: Global, written: &Written<'_, '_>) -> Result<bool, Fail> {
+    let page = page_text(alloc, written)?;
+    Ok(match page.as_str().split_once("</style>\n") {
+        Some((_, rest)) => rest == BODY,
+        None => false,
+    })
+}
+
+/// A check, and notes.
+#[derive(Drop)]
+struct Case<'a> {
+    check: Check<'a>,
+    notes: Vec<Text>,
+}
+
+/// Returns whether a case is written as the row above says.
+fn is_case_written<'c, 'a>(
+    alloc: Global,
+    database: &'c Database,
+    lockfile: &'c Lockfile,
+    entries: &'c [Ignored],
+    case: &'c Case<'a>,
+) -> Result<bool, Fail> {
+    let written = Written {
+        database,
+        lockfile,
+        check: &case.check,
+        entries,
+        notes: case.notes.as_slice(),
+        yanked: None,
+    };
+    ends_with_body(alloc, &written)
+}
+
+/// Returns the check with a note.
+fn whole_case<'a>(
+    alloc: Global,
+    advisories: &'a [Advisory],
+    packages: &'a [Package],
+) -> Result<Option<Case<'a>>, Fail> {
+    let Some(check) = check(alloc, advisories, packages)? else {
+        return Ok(None);
+    };
+    let mut notes = Vec::new(alloc);
+    notes.push(Text::from_str(alloc, "one\n<b>two")?)?;
+    Ok(Some(Case { check, notes }))
+}
+
+/// Returns whether the check of the database and the lockfile is written as the row above says.
+fn is_written_of(
+    alloc: Global,
+    database: &Database,
+    lockfile: &Lockfile,
+    entries: &[Ignored],
+) -> Result<bool, Fail> {
+    let packages = lockfile.packages.as_slice();
+    let loaded = database.iter();
+    let Some(case) = whole_case(alloc, loaded.as_slice(), packages)? else {
+        return Ok(false);
+    };
+    is_case_written(alloc, database, lockfile, entries, &case)
+}
+
+/// Returns whether the whole is written as the row above says.
+fn is_whole(alloc: Global) -> Result<bool, Fail> {
+    let database = database(alloc)?;
+    let lockfile = Lockfile::from_str(alloc, LOCKFILE)?;
+    let policy = Policy::from_str(alloc, POLICY)?;
+    is_written_of(
+        alloc,
+        &database,
+        &lockfile,
+        policy.advisories.ignore.as_slice(),
+    )
+}
+
+/// Returns whether the section of the yanked package is written as the row above says.
+fn is_section(alloc: Global, packages: &[Package]) -> Result<bool, Fail> {
+    let all = yanked(alloc, packages)?;
+    let mut text = String::new(alloc);
+    push_yanked_list(alloc, &mut text, packages, all.as_slice())?;
+    Ok(text.as_str() == YANKED)
+}
+
+/// Returns whether the section of the lockfile's yanked package is written as the row above says.
+fn is_section_of(alloc: Global) -> Result<bool, Fail> {
+    let lockfile = Lockfile::from_str(alloc, LOCKFILE)?;
+    is_section(alloc, lockfile.packages.as_slice())
+}
+
+/// Asserts that the page is written as the row above says.
+fn expect_page<R: Abort>(rt: &R, alloc: Global) -> Result<(), Fail> {
+    assert!(rt;
+        is_whole(alloc)? && is_section_of(alloc)?,
+        "as written by hand"
+    );
+    Ok(())
+}
+
+#[test]
+fn a_page(rt: HostRuntime) -> Result<(), Fail> {
+    expect_page(&rt, rt.alloc())
+}

@@ -1,0 +1,3 @@
+pub mod DoubledTexts
+pub mod NoFloats
+pub mod OnceEach

@@ -1,0 +1,10 @@
+use Rattle.std.proofs.Common.{◌≡◌, ◌++◌, string_bytes}
+use Rattle.std.specs.Str.Iter.{chars_rest}
+use Rattle.std.specs.Str.{IsUtf8}
+use Rattle.rustsec_sarif.specs.SarifWords.{doubled}
+use Rattle.rustsec_sarif.proofs.messages.push_doubled.Given as goal
+
+-- the text so far and then the rest of the characters give the whole
+abbrev pub invariant-loop-c : goal.invariant-loop-c
+invariant-loop-c l =
+    IsUtf8 (chars_rest l.c-iterator) × (string_bytes l.note ++ doubled (chars_rest l.c-iterator) ≡ string_bytes l.fn.note ++ doubled l.text)

@@ -1,0 +1,6 @@
+use Rattle.std.proofs.Common.{◌≡◌, string_bytes, take}
+use Rattle.rustsec_sarif.specs.SarifWords.{path_uri}
+use Rattle.rustsec_sarif.proofs.uri.path_uri.Given as goal
+
+abbrev pub invariant-loop-byte : goal.invariant-loop-byte
+invariant-loop-byte l = string_bytes l.text ≡ path_uri (take l.byte-index l.byte-items)

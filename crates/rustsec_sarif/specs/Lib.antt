@@ -1,0 +1,2 @@
+pub mod SarifTree
+pub mod SarifWords
