@@ -64,7 +64,7 @@ pub(crate) enum Frame {
     ParagraphEnd,
     /// Ends the summary's part, and starts the findings.
     MainStart,
-    /// Says that there is no finding.
+    /// Says that nothing was found.
     NoFindings,
     /// Ends the page.
     PageEnd,

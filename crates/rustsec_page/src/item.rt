@@ -30,9 +30,9 @@ pub(crate) enum Item {
     PathStart,
     /// Ends a path.
     PathEnd,
-    /// Says that there is no path.
+    /// Says that no path leads from a root to the package.
     NoPath,
-    /// Says that there is no package at a place.
+    /// Takes the place of a missing package.
     Unknown,
     /// Starts a link to an address.
     LinkStart,
