@@ -5,9 +5,10 @@ use Rattle.rustsec_lock.specs.Package.{PackageValue}
 use Rattle.rustsec_check.specs.Values.{FindingValue}
 use Rattle.rustsec_check_output.specs.CheckText.{is_vulnerability}
 use Rattle.rustsec_check_output.specs.CheckTree.{WrittenValue}
+use Rattle.rustsec_page.specs.Escaped.{is_mark}
 use Rattle.rustsec_page.specs.Findings.{AreDrawn, DrawnValue, by_rank}
 use Rattle.rustsec_page.specs.Lists.{lists}
-use Rattle.rustsec_page.specs.Pieces.{Piece, frame, number, style, text_of}
+use Rattle.rustsec_page.specs.Pieces.{Piece, frame, marks, number, style, text_of}
 use Rattle.rustsec_page.specs.declared.frame.Frame.{Frame}
 use Rattle.rustsec_page.specs.declared.frame.Frame.TheVariants as part
 use Rattle.rustsec_page.specs.declared.style.Style.TheVariants as look
@@ -72,3 +73,9 @@ pub record IsPage (w : WrittenValue) (text : List ℕ) : Type 0 where
   pub drawn : List DrawnValue
   pub are_drawn : AreDrawn w.check.findings drawn
   pub is : text ≡ text_of (page w drawn)
+
+-- the bytes `<`, `>`, `"` and `'` of a text are those of the markup of a check's page, in their order
+pub record HasOwnMarks (w : WrittenValue) (text : List ℕ) : Type 0 where
+  pub drawn : List DrawnValue
+  pub are_drawn : AreDrawn w.check.findings drawn
+  pub own : filter is_mark text ≡ marks (page w drawn)

@@ -4,7 +4,7 @@ ghost use Rattle.std.specs.Prelude.{◌≡◌, ◌++◌, List, ℕ, IfErr, IfOk,
 ghost use Rattle.std.specs.List.{filter};
 ghost use Rattle.rustsec_versions.specs.Failure.{IsMemory};
 ghost use Rattle.rustsec_page.specs.Escaped.{HasNoMarks, escaped, is_mark};
-ghost use Rattle.rustsec_page.specs.Page.{IsPage, findings, page};
+ghost use Rattle.rustsec_page.specs.Page.{HasOwnMarks, IsPage, findings, page};
 ghost use Rattle.rustsec_page.specs.Pieces.{Piece, marks, text_of};
 
 use crate::drawn::{Drawn, all_drawn};
@@ -67,8 +67,11 @@ pub fn page_text(alloc: Global, written: &Written<'_, '_>) -> Result<String>
     // A text of a file is written without `<`, `>`, `"` and `'`.
     ensures escaped { (t : List ℕ) → HasNoMarks (escaped t) }
 
-    // So these bytes of the page are those of its own markup, in their order.
+    // So these bytes of any pieces are those of their markup, in their order.
     ensures marks { (ps : List Piece) → filter is_mark (text_of ps) ≡ marks ps }
+
+    // And these bytes of this page are those of its own markup.
+    ensures own { IfOk result (λ t. HasOwnMarks written.now (string_bytes t)) }
     ensures err { IfErr result IsMemory }
 {
     let check = written.check;
