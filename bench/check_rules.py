@@ -12,7 +12,7 @@ DEFAULT_REGISTRIES = (REGISTRY, SPARSE)
 SEVERITIES = ["none", "low", "medium", "high", "critical"]
 KINDS = ["notice", "unmaintained", "unsound"]
 UNKNOWN = "`{}` at `informational_warnings` is not a kind that gives warnings"
-YANKED = "`yanked` at `deny` in [output] denies nothing: no package is reported as yanked here"
+YANKED = "`yanked` at `deny` in [output] denies nothing without an index: no package is looked up"
 
 
 # ---- paths

@@ -3,9 +3,14 @@ where these rules can't tell, as for addresses."""
 import datetime
 import json
 import re
+import sys
 import tomllib
 
 import rules
+
+if hasattr(sys, "set_int_max_str_digits"):
+    # a long number may be one of many zeros
+    sys.set_int_max_str_digits(0)
 
 OK, PARSE = "ok", "parse error"
 WHITE = "".join(map(chr, [*range(9, 14), 32, 0x85, 0xA0, 0x1680, *range(0x2000, 0x200B), 0x2028, 0x2029, 0x202F, 0x205F, 0x3000]))

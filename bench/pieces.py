@@ -67,7 +67,20 @@ KNOWN = {
     "path": advisories.PATHS, "source": advisories.SOURCES, "warning": (["notice", "yanked"], []),
 }
 # How often an input is a large one, and the most that it has: the sizes of "Large inputs" in docs/TESTING.md.
-LARGE, REQUIREMENTS, DESCRIPTION, PACKAGES, FUNCTIONS = 0.001, 300, 1 << 20, 10_000, 2_000
+LARGE, REQUIREMENTS, DESCRIPTION, PACKAGES, FUNCTIONS, FILES, LONG = 0.001, 300, 1 << 20, 10_000, 10_000, 10_000, 1 << 16
+# How long texts begin, and what they repeat after that.
+LONG_TEXTS = {
+    "address": [("https://example.com/", "a"), ("https://example.com/", "%20"), ("", "a")], "arch": [("x86", "6")],
+    "category": [("x", "a"), ("memory-corruption", "n")], "collection": [("crates", "s")],
+    "cvss": [("CVSS:4.0/", "a"), ("CVSS:3.1/", "AV:N/"), ("CVSS:3.1/AV:", "N")], "date": [("2001-02-03", "0")],
+    "id": [("X-", "a"), ("RUSTSEC-2001-", "0"), ("RUSTSEC-2001-", "9"), ("CVE-2001-", "1-"), ("GHSA-", "é")],
+    "identifier": [("a", "a"), ("<", "A,"), ("0", "a")], "informational": [("x", "a"), ("notice", "e")],
+    "interval": [(">=1.2.3-", "a"), (">=1.2.3-a", ".a"), ("1.2.", "9"), (">=1", " ")], "keyword": [("x", "a")],
+    "license": [("CC0-1.0", " ")], "name": [("base-", "a")], "os": [("windows", "s")],
+    "path": [("base::", "a"), ("base", "::a"), ("base::", "0"), ("base::a", ":")],
+    "source": [("git+https://example.com/", "a"), ("registry+https://example.com/", "a"), ("git+https://example.com/a#", "0"), ("git", "a")],
+    "warning": [("notice", "e")],
+}
 # Each reader, and how often it is asked.
 READERS = {reader: 3 for reader in KNOWN} | {"advisory": 6, "lint": 6, "parts": 5, "lockfile": 8, "osv": 14}
 
@@ -200,15 +213,26 @@ def disjoint(r):
     return unaffected, patched
 
 
+def long_text(r, reader):
+    """A long text that a reader may take."""
+    front, filler = r.choice(LONG_TEXTS[reader])
+    return front + filler * size(r, LONG)
+
+
 def large_advisory(r):
-    """An advisory with many requirements, a long description or many functions."""
-    kind = r.choice(["requirements", "description", "functions"])
+    """An advisory with many requirements, a long description or many functions, or with a long ID, package, address or path
+    of a function."""
+    kind = r.choice(["requirements", "description", "functions", "texts"])
+    texts = {reader: long_text(r, reader) for reader in ("id", "name", "path", "address")} if kind == "texts" else {}
+    id_, name, path, url = (json.dumps(texts.get(*given), ensure_ascii=False) for given in (
+        ("id", "RUSTSEC-2021-0001"), ("name", "base"), ("path", "base::f"), ("address", "https://example.com/")))
     unaffected, patched = disjoint(r) if kind == "requirements" else ([], [">= 1.2.3"])
     words = ["chance ", "é", "``", "\n", "# T\n"]
     description = r.choice(words) * (size(r, DESCRIPTION) // 7) if kind == "description" else "D"
     functions = "".join(f'"base::f{i}" = ["< 1.2.3"]\n' for i in range(size(r, FUNCTIONS))) if kind == "functions" else ""
+    functions += f'{path} = ["< 1.2.3"]\n' if texts else ""
     return (
-        f'{advisories.FENCE}toml\n[advisory]\nid = "RUSTSEC-2021-0001"\npackage = "base"\ndate = "2021-02-03"\n'
+        f'{advisories.FENCE}toml\n[advisory]\nid = {id_}\npackage = {name}\ndate = "2021-02-03"\nurl = {url}\n'
         f"[versions]\npatched = {json.dumps(patched)}\nunaffected = {json.dumps(unaffected)}\n"
         f"[affected.functions]\n{functions}{advisories.FENCE}\n\n# T\n\n{description}\n"
     )
@@ -224,12 +248,21 @@ def large_lines(r, command):
     return "\n".join(found).encode() + b"\n"
 
 
+def large_lockfile(r):
+    """A lockfile with many packages, or with one whose name, version and source are long."""
+    if r.random() < 0.5:
+        return databases.large_lockfile(r, size(r, PACKAGES)).decode()
+    return databases.package(long_text(r, "name"), "1.2.3-" + "a" * size(r, LONG), long_text(r, "source"))
+
+
 def text_for(r, reader):
     """A text that a reader may take."""
+    if r.random() < LARGE and reader in LONG_TEXTS:
+        return long_text(r, reader)
     if r.random() < LARGE and reader in ("advisory", "lint", "parts"):
         return large_advisory(r)
     if r.random() < LARGE and reader == "lockfile":
-        return databases.large_lockfile(r, size(r, PACKAGES)).decode()
+        return large_lockfile(r)
     kind = r.random()
     if reader in KNOWN:
         return r.choice(SHORT) if kind < 0.3 else r.choice(r.choice([v for v in KNOWN[reader] if v]))
@@ -247,6 +280,12 @@ def reader_input(r):
     if reader != "osv" or r.random() < 0.3:
         data = changed(r, data, text_for(r, reader).encode())
     return reader, data.decode(errors="replace")
+
+
+def small_advisory(identifier, package):
+    """The text of an advisory with the least keys."""
+    keys = f'id = "{identifier}"\npackage = "{package}"\ndate = "2019-01-01"\n'
+    return f"```toml\n[advisory]\n{keys}\n[versions]\npatched = [\">= 1.0.0\"]\n```\n\n# Title\n\nText\n"
 
 
 def file_input(r):

@@ -2,7 +2,7 @@
 # ~/.local/share/bash-completion/completions under the name rustsec_audit.
 _rustsec_audit() {
     local word=${COMP_WORDS[COMP_CWORD]}
-    local commands="audit report check check-many explain lint osv affected ranges"
+    local commands="audit report check check-many explain lint lint-database stats osv osv-database query-osv affected ranges"
     local options=""
     COMPREPLY=()
     if [ "$COMP_CWORD" -eq 1 ]; then
@@ -16,6 +16,10 @@ _rustsec_audit() {
         check-many) options="--policy --today --baseline --index --ignore --deny --severity --arch --os --format --color --allow-empty --null --progress" ;;
         explain) options="--policy --today --ignore --severity --arch --os --format" ;;
         lint) options="" ;;
+        lint-database) options="--format --upstream --progress" ;;
+        stats) options="--format" ;;
+        osv-database) options="--skip-withdrawn --normalized" ;;
+        query-osv) options="" ;;
         osv) options="" ;;
         *) return ;;
     esac

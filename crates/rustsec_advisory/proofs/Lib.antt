@@ -2,6 +2,9 @@ pub mod Documents
 pub mod FileRefusals
 pub mod Functions
 pub mod Insertion
+pub mod KnownKeys
+pub mod LintRefusals
 pub mod Members
+pub mod ReadKeys
 pub mod Rows
 pub mod Unique

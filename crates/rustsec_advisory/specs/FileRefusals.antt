@@ -7,13 +7,17 @@ use Rattle.rustsec_advisory.specs.declared.advisory.Advisory.{Advisory}
 use Rattle.rustsec_files.specs.Paths.{is_draft, is_markdown}
 use Rattle.rustsec_files.specs.ReadFailures.{IsReadFailure}
 use Rattle.rustsec_folders.specs.Allowed.{Allowed}
-use Rattle.rustsec_versions.specs.Failure.{Failure, IsRefusal}
+use Rattle.rustsec_versions.specs.Failure.{Failure, IsMemory, IsRefusal}
 use Rattle.rustsec_versions.specs.Refusals.{of_file}
 use Rattle.rustsec_versions.specs.declared.error.ErrorKind.TheVariants as kind
 
+-- the error of a file's text, as that of the file; or out of memory
+abbrev pub IsOfFile : List ℕ → Failure → Type 0
+IsOfFile path e = ((refusal : Failure) × (e ≡ of_file path refusal)) ⊎ IsMemory e
+
 -- a file that cannot be read, with its path; or the error of its text, as that of the file; or out of memory
 abbrev pub NamesFile : List ℕ → Failure → Type 0
-NamesFile path e = IsReadFailure path e ⊎ ((refusal : Failure) × (e ≡ of_file path refusal))
+NamesFile path e = IsReadFailure path e ⊎ IsOfFile path e
 
 -- the advisory of a text that folders allow to be read at a path
 abbrev pub IsAdvisoryAt : Allowed → List ℕ → Advisory → Type 0
@@ -39,3 +43,8 @@ AreLintsAt allowed path a errors =
 abbrev pub IsLintRefusal : Allowed → List ℕ → Failure → Type 0
 IsLintRefusal allowed path e =
     IsRefusal kind.Parse (is_markdown path ≡ false) e ⊎ ((is_markdown path ≡ true) × IsAdvisoryRefusal allowed path e)
+
+-- how no text is read of a file for the linter: the path is not a Markdown file's, or the file cannot be read there
+abbrev pub IsNoText : Allowed → List ℕ → Failure → Type 0
+IsNoText allowed path e =
+    IsRefusal kind.Parse (is_markdown path ≡ false) e ⊎ ((is_markdown path ≡ true) × IsRefusal kind.Io (allowed.reads path None) e)

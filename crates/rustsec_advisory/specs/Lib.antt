@@ -7,4 +7,5 @@ pub mod Metadata
 pub mod Advisory
 pub mod LintErrors
 pub mod Lints
+pub mod KnownKeys
 pub mod EqualityLaws

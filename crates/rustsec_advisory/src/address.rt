@@ -86,7 +86,8 @@ impl Address {
 
     /// Returns the address as the type of `url`.
     pub fn as_url(&self) -> &Url
-        ensures { serialize result.now ≡ self.now }
+        ensures text { serialize result.now ≡ self.now }
+        ensures parsed { parse_url None self.now ≡ Ok result.now }
     {
         &self.url
     }

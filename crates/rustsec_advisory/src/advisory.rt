@@ -1,12 +1,13 @@
 //! Advisories, and the reader of their files.
 
-ghost use Rattle.std.specs.Prelude.{◌≡◌, ◌⊎◌, ℕ, IfErr, IfOk, List, None, Some, is_some, option_and_then, string_bytes};
+ghost use Rattle.std.specs.Prelude.{◌≡◌, ◌⊎◌, ℕ, IfErr, IfOk, List, None, Some, is_some, nat_eq, option_and_then, string_bytes};
+ghost use Rattle.std.specs.List.{starts_with};
 ghost use Rattle.rustsec_lock.specs.Cvss.{cvss_severity};
 ghost use Rattle.toml.specs.Parse.{parse_document};
 ghost use Rattle.toml.specs.View.{table_view};
 ghost use Rattle.rustsec_folders.specs.Allowed.{AllowSame, real_folders};
-ghost use Rattle.rustsec_advisory.specs.Advisory.{IsAdvisory, IsAdvisoryWith, IsOfDocument, document_text};
-ghost use Rattle.rustsec_advisory.specs.FileRefusals.{IsAdvisoryAt, IsAdvisoryRefusal, IsTextRefusal, NamesFile};
+ghost use Rattle.rustsec_advisory.specs.Advisory.{IsAdvisory, IsAdvisoryWith, IsOfDocument, document_text, header};
+ghost use Rattle.rustsec_advisory.specs.FileRefusals.{IsAdvisoryAt, IsAdvisoryRefusal, IsOfFile, IsTextRefusal, NamesFile};
 ghost use Rattle.rustsec_files.specs.Paths.{is_draft};
 ghost use Rattle.rustsec_advisory.specs.declared.advisory.Advisory as given;
 ghost use Rattle.rustsec_versions.specs.Failure.{IsMemory, IsOfKind, IsRefusal, out_of_memory};
@@ -18,8 +19,8 @@ use rustsec_files::path;
 use rustsec_folders::{Folders, RealFolders};
 use rustsec_lock::Severity;
 use rustsec_texts::{Date, Id, Parts};
-use rustsec_toml::Section;
-use rustsec_values::{ExactClone, ExactEq};
+use rustsec_toml::{Section, TablePlace, document, key_at};
+use rustsec_values::{ExactClone, ExactEq, beginning_of};
 use rustsec_versions::{Error, ErrorKind, Result, Versions, refused_file};
 use std::alloc::{AllocError, Global};
 use std::rt::Files;
@@ -48,42 +49,77 @@ impl Drop for Advisory {
     }
 }
 
+/// Returns whether a front matter begins with the header of the table `advisory`.
+fn has_header(front: &str) -> bool
+    ensures { result ≡ starts_with nat_eq front.now header }
+{
+    front.starts_with("[advisory]")
+}
+
 /// Returns the text of the document: the front matter, with the line `[advisory]` before it unless it begins so.
 fn document_text(alloc: Global, front: &str) -> std::result::Result<String, AllocError>
     ensures { IfOk result (λ s. string_bytes s ≡ document_text front.now) }
 {
     let mut text = String::new(alloc);
-    if !front.starts_with("[advisory]") {
+    if !has_header(front) {
         text.push_str("[advisory]\n")?;
     }
     text.push_str(front)?;
     Ok(text)
 }
 
-/// Returns the error for a front matter that is not a TOML document, with the reason of the TOML reader.
-fn no_document(alloc: Global, why: &str) -> Error
-    ensures { IsOfKind ErrorKind.Parse result }
-{
-    match format!(in alloc; "the front matter is no TOML document: {why}") {
-        Ok(message) => Error::new(alloc, ErrorKind::Parse, &message),
-        Err(refused) => Error::from(refused),
+/// Returns the keys that lead to the table `advisory` in a front matter, which may leave out its header.
+pub(crate) fn header_keys(front: &str) -> &'static [&'static str] {
+    if has_header(front) {
+        &["advisory"]
+    } else {
+        &[]
     }
 }
 
-/// Parses the document of a front matter.
-fn document(alloc: Global, front: &str) -> Result<Table>
+/// Returns the line of the file in which the front matter begins, from 1 on.
+pub(crate) fn first_line(text: &str) -> usize {
+    let body = text.strip_prefix("```toml").unwrap_or(text);
+    let blank = body.len().saturating_sub(body.trim_start().len());
+    let line_feeds = beginning_of(body, blank).matches('\n').count();
+    line_feeds.saturating_add(1)
+}
+
+/// Returns the error for a front matter with this header further below, before which it was added, or the given error if
+/// there is no such header.
+fn late_header(alloc: Global, front: TablePlace<'_>, error: Error) -> Error
+    ensures kind { IsOfKind ErrorKind.Parse error → IsOfKind ErrorKind.Parse result }
+    ensures memory { IsMemory error → IsMemory result }
+{
+    let is_late = !has_header(front.text) && key_at(alloc, front.text, &["advisory"]).is_some();
+    if !is_late || error.kind() == ErrorKind::OutOfMemory {
+        return error;
+    }
+    let message = "the header `[advisory]` is not the first line of the front matter";
+    let late = Error::new(alloc, ErrorKind::Parse, message);
+    front.refused_at(alloc, "advisory", late)
+}
+
+/// Returns the place of a front matter that begins in this line of a file.
+pub(crate) fn front_place(front: &str, line: usize) -> TablePlace<'_> {
+    TablePlace {
+        text: front,
+        path: &[],
+        index: None,
+        line,
+    }
+}
+
+/// Parses the document of a front matter that begins in this line of a file.
+fn document_of(alloc: Global, front: &str, line: usize) -> Result<Table>
     ensures ok { IfOk result (λ t. parse_document (document_text front.now) ≡ Some (table_view t)) }
     ensures err { IfErr result (IsRefusal ErrorKind.Parse (parse_document (document_text front.now) ≡ None)) }
 {
     let text = document_text(alloc, front)?;
-    match toml::table_from_str(alloc, &text) {
+    let place = front_place(front, line);
+    match document(alloc, &text, place, "the front matter") {
         Ok(table) => Ok(table),
-        Err(e) => {
-            if e.is_memory() {
-                return Err(Error::from(AllocError));
-            }
-            Err(no_document(alloc, e.message()))
-        }
+        Err(e) => Err(late_header(alloc, place, e)),
     }
 }
 
@@ -104,6 +140,7 @@ fn of_document(
         Section {
             table,
             name: "[advisory]",
+            place: document.place.at(header_keys(document.place.text)),
         },
         title,
         description,
@@ -114,6 +151,7 @@ fn of_document(
         Section {
             table,
             name: "[versions]",
+            place: document.place.at(&["versions"]),
         },
     )?;
     let affected = front_matter::affected_at(alloc, document, "affected")?;
@@ -130,10 +168,12 @@ pub(crate) fn read(alloc: Global, text: &str) -> Result<(Advisory, Table)>
     ensures err { IfErr result (IsRefusal ErrorKind.Parse ((a : given.Advisory) → ¬ IsAdvisory text.now a)) }
 {
     let parts = Parts::parse(alloc, text)?;
-    let document = document(alloc, parts.front_matter)?;
+    let line = first_line(text);
+    let document = document_of(alloc, parts.front_matter, line)?;
     let whole = Section {
         table: &document,
         name: "the front matter",
+        place: front_place(parts.front_matter, line),
     };
     let advisory = of_document(alloc, whole, parts.title, parts.description)?;
     Ok((advisory, document))
@@ -160,7 +200,7 @@ impl Advisory {
     fn of_file(alloc: Global, path: &str, text: &str) -> Result<Advisory>
         ensures ok { IfOk result (IsAdvisory text.now) }
         ensures err { IfErr result (IsTextRefusal text.now) }
-        ensures names { IfErr result (NamesFile path.now) }
+        ensures names { IfErr result (IsOfFile path.now) }
     {
         match Advisory::from_str(alloc, text) {
             Ok(advisory) => Ok(advisory),
@@ -182,6 +222,7 @@ impl Advisory {
         ensures ok { IfOk result (IsAdvisoryAt (F.allowed folders.old) path.now) }
         ensures err { IfErr result (IsAdvisoryRefusal (F.allowed folders.old) path.now) }
         ensures same { AllowSame (F.allowed folders.old) (F.allowed folders.new) }
+        ensures names { IfErr result (λ e. F.refuses folders.old path.now e ⊎ IsOfFile path.now e) }
     {
         let text = folders.read(alloc, path)?;
         Advisory::of_file(alloc, path, text.as_str())
@@ -197,8 +238,7 @@ impl Advisory {
         ensures err { IfErr result (IsAdvisoryRefusal real_folders path.now) }
         ensures names { IfErr result (NamesFile path.now) }
     {
-        let text = RealFolders::new(rt).read(alloc, path)?;
-        Advisory::of_file(alloc, path, text.as_str())
+        Advisory::load_file_with(alloc, &mut RealFolders::new(rt), path)
     }
 
     /// Returns the ID.

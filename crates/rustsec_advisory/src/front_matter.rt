@@ -115,7 +115,7 @@ pub fn metadata(
     Ok(Metadata::of_groups(subject, kinds, origin, terms, title, description))
 }
 
-/// Turns an error about lists of requirements into the error of the table that holds them.
+/// Turns an error about lists of requirements into the error of the table that holds them, at the key `patched`.
 fn as_parse(alloc: Global, section: Section<'_>, error: Error) -> Error
     ensures memory { error ≡ out_of_memory → result ≡ out_of_memory }
     ensures kind { IsOfKind ErrorKind.Parse result }
@@ -124,13 +124,11 @@ fn as_parse(alloc: Global, section: Section<'_>, error: Error) -> Error
         return Error::from(AllocError);
     }
     let (name, message) = (section.name, error.message());
-    match format!(in alloc; "{name}: {message}") {
-        Ok(message) => match error.cause() {
-            Some(cause) => Error::with_source(alloc, ErrorKind::Parse, &message, cause),
-            None => Error::new(alloc, ErrorKind::Parse, &message),
-        },
+    let error = match format!(in alloc; "{name}: {message}") {
+        Ok(message) => Error::with_cause(alloc, ErrorKind::Parse, &message, error.cause()),
         Err(refused) => Error::from(refused),
-    }
+    };
+    section.place.refused_at(alloc, "patched", error)
 }
 
 /// Reads the lists of the table `versions`.
@@ -146,34 +144,37 @@ pub fn versions(alloc: Global, section: Section<'_>) -> Result<Versions>
     }
 }
 
-/// Returns the table of functions, with its name for errors.
-fn functions_section(table: &Table) -> Section<'_>
-    ensures { table_view result.table.now ≡ table_view table.now }
-{
+/// Returns the section of the table of functions, below the section `affected`.
+fn functions_section<'a>(affected: Section<'a>, table: &'a Table) -> Section<'a> {
     Section {
         table,
         name: "[affected.functions]",
+        place: affected.place.at(&["affected", "functions"]),
     }
 }
 
 /// Parses a key of the table of functions as a path.
-fn function_path(alloc: Global, table: &Table, key: &str) -> Result<FunctionPath>
+fn function_path(alloc: Global, section: Section<'_>, key: &str) -> Result<FunctionPath>
     ensures ok { IfOk result (λ p. path_of key.now ≡ Some p) }
     ensures err { IfErr result (IsRefusal ErrorKind.Parse (path_of key.now ≡ None)) }
 {
-    functions_section(table).read(alloc, key, key)
+    section.read(alloc, key, key)
 }
 
-/// Reads the functions of a table, by their paths.
-fn functions(alloc: Global, table: &Table) -> Result<SortedMap<FunctionPath, Requirements>>
+/// Reads the functions of a table, by their paths. `section` is for messages.
+fn functions(
+    alloc: Global,
+    section: Section<'_>,
+    table: &Table,
+) -> Result<SortedMap<FunctionPath, Requirements>>
     ensures ok { IfOk result (AreFunctions (table_view table.now)) }
     ensures err { IfErr result (IsRefusal ErrorKind.Parse ((fs : List Function) → ¬ AreFunctions (table_view table.now) fs)) }
 {
     let mut functions = SortedMap::new(alloc);
     for (key, value) in table.iter() {
         let name = key.as_str();
-        let path = function_path(alloc, table, name)?;
-        let reqs = requirements(alloc, functions_section(table), name, value)?;
+        let path = function_path(alloc, section, name)?;
+        let reqs = requirements(alloc, section, name, value)?;
         functions.insert(path, Requirements::from(reqs))?;
     }
     Ok(functions)
@@ -193,7 +194,7 @@ fn functions_at(
         return Ok(SortedMap::new(alloc));
     };
     match value.as_table() {
-        Some(inner) => functions(alloc, inner),
+        Some(inner) => functions(alloc, functions_section(section, inner), inner),
         None => Err(section.unexpected(alloc, key, value, "a table")),
     }
 }
@@ -230,6 +231,7 @@ pub fn affected_at(alloc: Global, section: Section<'_>, key: &str) -> Result<Opt
         Section {
             table,
             name: "[affected]",
+            place: section.place.at(&["affected"]),
         },
     )?;
     Ok(Some(affected))

@@ -4,7 +4,9 @@ ghost use Rattle.std.specs.Prelude.{◌≡◌, ◌⊎◌, ℕ, List, IfErr, IfOk
 ghost use Rattle.std.specs.Fmt.{DisplaysOnOk};
 ghost use Rattle.std.specs.Option.{option_copied};
 ghost use Rattle.rustsec_advisory.specs.Advisory.{IsAdvisory};
-ghost use Rattle.rustsec_advisory.specs.FileRefusals.{AreLintsAt, IsLintRefusal};
+ghost use Rattle.rustsec_advisory.specs.FileRefusals.{AreLintsAt, IsLintRefusal, IsNoText, IsOfFile, IsTextRefusal, NamesFile};
+ghost use Rattle.rustsec_advisory.specs.KnownKeys.{AreKeysKnown};
+ghost use Rattle.rustsec_files.specs.Paths.{is_draft, is_markdown};
 ghost use Rattle.rustsec_advisory.specs.LintErrors.{LintError, lint_error_text, kind_text, message_text, section_text};
 ghost use Rattle.rustsec_advisory.specs.Lints.{Lints};
 ghost use Rattle.rustsec_folders.specs.Allowed.{AllowSame, real_folders};
@@ -18,7 +20,7 @@ use crate::lint_rules;
 use rustsec_files::path;
 use rustsec_folders::{Folders, RealFolders};
 use rustsec_values::{ExactClone, ExactEq, Items, Text};
-use rustsec_versions::{Result, refused_text};
+use rustsec_versions::{Result, refused_file, refused_text};
 use std::alloc::{AllocError, Global};
 use std::fmt;
 use std::marker::Model;
@@ -305,6 +307,8 @@ impl Linter {
         ensures ok { IfOk result (λ l. Lints text.now draft l.advisory l.errors) }
         ensures only { IfOk result (λ l. (b : given.Advisory) (fs : List LintError)
             → Lints text.now draft b fs → (b ≡ l.advisory) × (fs ≡ l.errors)) }
+        // A key is called unknown exactly if no reader asks for it.
+        ensures keys { IfOk result (λ l. AreKeysKnown draft l.advisory) }
         ensures err { IfErr result (IsRefusal failure.Parse ((a : given.Advisory) → ¬ IsAdvisory text.now a)) }
     {
         let (advisory, document) = advisory::read(alloc, text)?;
@@ -312,33 +316,62 @@ impl Linter {
         Ok(Linter { advisory, errors })
     }
 
+    /// Returns the text of a Markdown file at a path of any folders.
+    ///
+    /// # Errors
+    ///
+    /// `Parse` where the path is not a Markdown file's; then `Io` where the file cannot be read or is not
+    /// UTF-8; else `OutOfMemory`.
+    pub fn file_text_with<F: Folders>(alloc: Global, folders: &mut F, path: &str) -> Result<Text>
+        ensures ok { IfOk result (λ text. (is_markdown path.now ≡ true) × (F.allowed folders.old).reads path.now (Some text)) }
+        ensures err { IfErr result (IsNoText (F.allowed folders.old) path.now) }
+        ensures same { AllowSame (F.allowed folders.old) (F.allowed folders.new) }
+        ensures names { IfErr result (λ e. is_markdown path.now ≡ true → F.refuses folders.old path.now e) }
+    {
+        if !path::is_markdown(path) {
+            return Err(refused_text(alloc, "not a Markdown file", path, "the extension `md`"));
+        }
+        folders.read(alloc, path)
+    }
+
+    /// Lints the text of the file at a path, as `lint_string`. It is a draft's where its path says so.
+    fn of_file(alloc: Global, path: &str, text: &str) -> Result<Linter>
+        ensures ok { IfOk result (λ l. Lints text.now (Some (is_draft path.now)) l.advisory l.errors) }
+        ensures err { IfErr result (IsTextRefusal text.now) }
+        ensures names { IfErr result (IsOfFile path.now) }
+    {
+        match Linter::lint_string(alloc, text, Some(path::is_draft(path))) {
+            Ok(linter) => Ok(linter),
+            Err(e) => Err(refused_file(alloc, path, &e)),
+        }
+    }
+
     /// Lints the file at a path of any folders, as `lint_string` does its text. It is a draft's where its
     /// path says so.
     ///
     /// # Errors
     ///
-    /// `Parse` where the path is not a Markdown file's; then `Io` where the file cannot be read or is not
-    /// UTF-8; then as `lint_string`.
+    /// As `file_text_with`; then as `lint_string`. The message of a refused text names the path; the cause is what
+    /// `lint_string` says, followed by its own cause.
     pub fn lint_file_with<F: Folders>(alloc: Global, folders: &mut F, path: &str) -> Result<Linter>
         ensures ok { IfOk result (λ l. AreLintsAt (F.allowed folders.old) path.now l.advisory l.errors) }
         ensures err { IfErr result (IsLintRefusal (F.allowed folders.old) path.now) }
         ensures same { AllowSame (F.allowed folders.old) (F.allowed folders.new) }
+        ensures names { IfErr result (λ e. is_markdown path.now ≡ true → F.refuses folders.old path.now e ⊎ IsOfFile path.now e) }
     {
-        if !path::is_markdown(path) {
-            return Err(refused_text(alloc, "not a Markdown file", path, "the extension `md`"));
-        }
-        let text = folders.read(alloc, path)?;
-        Linter::lint_string(alloc, text.as_str(), Some(path::is_draft(path)))
+        let text = Linter::file_text_with(alloc, folders, path)?;
+        Linter::of_file(alloc, path, text.as_str())
     }
 
     /// Lints the file at a path of the disk, as `lint_file_with`.
     ///
     /// # Errors
     ///
-    /// As `lint_file_with`.
+    /// As `lint_file_with`. For a Markdown file's path every message but that of out of memory names the path.
     pub fn lint_file<R: Files>(rt: &R, alloc: Global, path: &str) -> Result<Linter>
         ensures ok { IfOk result (λ l. AreLintsAt real_folders path.now l.advisory l.errors) }
         ensures err { IfErr result (IsLintRefusal real_folders path.now) }
+        ensures names { IfErr result (λ e. is_markdown path.now ≡ true → NamesFile path.now e) }
     {
         Linter::lint_file_with(alloc, &mut RealFolders::new(rt), path)
     }

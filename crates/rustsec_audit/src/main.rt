@@ -1,8 +1,8 @@
-//! The program `rustsec_audit`: `rustsec_program` over its arguments, its input, its output and its error output.
+//! The program `rustsec_audit`: `rustsec_database_commands` over its arguments, its input, its output and its error output.
 #![tactic(auto)]
 
 use rustsec_commands::Fault;
-use rustsec_program::run_with_notes;
+use rustsec_database_commands::run_with_notes;
 use std::alloc::Global;
 use std::env::VarError;
 use std::io::{ErrorKind, IsTerminal};

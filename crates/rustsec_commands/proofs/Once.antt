@@ -48,14 +48,19 @@ use Rattle.rustsec_commands.specs.Words.{Command, affected, audit, command_of, l
 
 -- ---- refusals that are not out of memory
 
-no-memory : {P : Type 0} (e : Failure) → e.kind ≢ kind.OutOfMemory → IsMemory e → P
+pub no-memory : {P : Type 0} (e : Failure) → e.kind ≢ kind.OutOfMemory → IsMemory e → P
 no-memory e other memory = absurd (other (ap (λ (f : Failure). f.kind) memory))
 
 real : {P : Type 0} (k : ErrorKind) (e : Failure) → e.kind ≢ kind.OutOfMemory → IsRefusal k P e → (e.kind ≡ k) × P
 real k e other (inl h) = h
 real k e other (inr memory) = no-memory e other memory
 
-same-output : (e f : Failure) (o p : Output) → e.kind ≡ f.kind → o ≡ refused_as e.kind → p ≡ refused_as f.kind → o ≡ p
+pub kinds-of : (e f : Failure) → e.kind ≢ kind.OutOfMemory → f.kind ≢ kind.OutOfMemory → (e.kind ≡ f.kind) ⊎ (IsMemory e ⊎ IsMemory f) → e.kind ≡ f.kind
+kinds-of e f u v (inl same) = same
+kinds-of e f u v (inr (inl memory)) = no-memory e u memory
+kinds-of e f u v (inr (inr memory)) = no-memory f v memory
+
+pub same-output : (e f : Failure) (o p : Output) → e.kind ≡ f.kind → o ≡ refused_as e.kind → p ≡ refused_as f.kind → o ≡ p
 same-output e f o p same h k = h ∙ (ap refused_as same ∙ sym k)
 
 some-same : {A : Type 0} (a b : A) → Some a ≡ Some b → a ≡ b
@@ -64,7 +69,7 @@ some-same a b h = cc h
 one-value : {A : Type 0} (o : Option A) (a b : A) → o ≡ Some a → o ≡ Some b → a ≡ b
 one-value o a b h k = some-same a b (sym h ∙ k)
 
-none-or-some : {A P : Type 0} (o : Option A) (a : A) → o ≡ None → o ≡ Some a → P
+pub none-or-some : {A P : Type 0} (o : Option A) (a : A) → o ≡ None → o ≡ Some a → P
 none-or-some o a h k = absurd (cc (sym h ∙ k))
 
 -- ---- documents
@@ -76,7 +81,7 @@ range-once ls r q h k =
     let events = h.events ∙ (ap events_of (sym same) ∙ sym k.events) in
     λ i. record { kind = kinds i; events = events i }
 
-document-once : (a : Advisory) (modified : List ℕ) (d e : Document) → IsDocument a modified d → IsDocument a modified e → d ≡ e
+pub document-once : (a : Advisory) (modified : List ℕ) (d e : Document) → IsDocument a modified d → IsDocument a modified e → d ≡ e
 document-once a modified d e h k =
     let range = range-once a.versions h.range k.range h.is_range k.is_range in
     let references = one-value _ h.references k.references h.are_references k.are_references in
@@ -84,12 +89,12 @@ document-once a modified d e h k =
     λ i. document_with a.metadata a.affected modified (references i) (range i) in
     h.is ∙ (step ∙ sym k.is)
 
-document-or-refused : {P : Type 0} (a : Advisory) (modified : List ℕ) (d : Document) (e : Failure) → e.kind ≢ kind.OutOfMemory
+pub document-or-refused : {P : Type 0} (a : Advisory) (modified : List ℕ) (d : Document) (e : Failure) → e.kind ≢ kind.OutOfMemory
     → IsDocument a modified d → IsExportRefusal a e → P
 document-or-refused a modified d e other h (inl k) = absurd (h.is_range.some (real kind.BadParam e other k).1)
 document-or-refused a modified d e other h (inr k) = none-or-some _ h.references (real kind.Parse e other k).1.1 h.are_references
 
-export-refused-once : (a : Advisory) (e f : Failure) → e.kind ≢ kind.OutOfMemory → f.kind ≢ kind.OutOfMemory → IsExportRefusal a e → IsExportRefusal a f
+pub export-refused-once : (a : Advisory) (e f : Failure) → e.kind ≢ kind.OutOfMemory → f.kind ≢ kind.OutOfMemory → IsExportRefusal a e → IsExportRefusal a f
     → e.kind ≡ f.kind
 export-refused-once a e f u v (inl h) (inl k) = (real kind.BadParam e u h).0 ∙ sym (real kind.BadParam f v k).0
 export-refused-once a e f u v (inl h) (inr k) = absurd ((real kind.Parse f v k).1.0 (real kind.BadParam e u h).1)
@@ -216,11 +221,6 @@ module _ (allowed : Allowed) (once : AnswersOnce allowed) where
   lockfile-refused-once lock e f u v (inl h) (inr (text, (read, k))) = read-or-not allowed once lock text read (real kind.Io e u h).1
   lockfile-refused-once lock e f u v (inr (text, (read, h))) (inl k) = read-or-not allowed once lock text read (real kind.Io f v k).1
   lockfile-refused-once lock e f u v (inr (text, (read, h))) (inr (other, (again, k))) = (real kind.Parse e u h).0 ∙ sym (real kind.Parse f v k).0
-
-  kinds-of : (e f : Failure) → e.kind ≢ kind.OutOfMemory → f.kind ≢ kind.OutOfMemory → (e.kind ≡ f.kind) ⊎ (IsMemory e ⊎ IsMemory f) → e.kind ≡ f.kind
-  kinds-of e f u v (inl same) = same
-  kinds-of e f u v (inr (inl memory)) = no-memory e u memory
-  kinds-of e f u v (inr (inr memory)) = no-memory f v memory
 
   report-refused-once : (root lock : List ℕ) (e f : Failure) → e.kind ≢ kind.OutOfMemory → f.kind ≢ kind.OutOfMemory
       → IsReportRefusal allowed root lock e → IsReportRefusal allowed root lock f → e.kind ≡ f.kind

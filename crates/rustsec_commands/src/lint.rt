@@ -4,9 +4,11 @@ ghost use Rattle.std.specs.Prelude.{◌≡◌, IfOk, flat_map, string_bytes};
 ghost use Rattle.rustsec_folders.specs.Allowed.{AllowSame};
 ghost use Rattle.rustsec_commands.specs.Lint.{IsLintOutput, error_line, errors_output};
 
+use crate::lint_notes::lint_note;
 use crate::output::Output;
 use crate::refusal::refusal_of_file;
 use rustsec_advisory::linter::{self, Linter};
+use rustsec_files::path::is_draft;
 use rustsec_folders::Folders;
 use std::alloc::{AllocError, Global};
 use std::fmt::Write as _;
@@ -32,6 +34,14 @@ fn errors_output(alloc: Global, linter: &Linter) -> Result<Output, AllocError>
     Ok(Output::new(text, status))
 }
 
+/// Makes the output for the lint errors of an advisory's text, with the note about them.
+fn noted_output(alloc: Global, text: &str, linter: &Linter) -> Result<Output, AllocError>
+    ensures { IfOk result (λ o. o ≡ errors_output linter.now.errors) }
+{
+    let output = errors_output(alloc, linter)?;
+    Ok(output.with_note(lint_note(alloc, text, linter).ok()))
+}
+
 /// Makes the output of `lint` for the file at a path.
 pub fn lint_output<F: Folders>(
     alloc: Global,
@@ -41,8 +51,12 @@ pub fn lint_output<F: Folders>(
     ensures ok { IfOk result (IsLintOutput (F.allowed folders.old) path.now) }
     ensures same { AllowSame (F.allowed folders.old) (F.allowed folders.new) }
 {
-    match Linter::lint_file_with(alloc, folders, path) {
-        Ok(linter) => errors_output(alloc, &linter),
+    let text = match Linter::file_text_with(alloc, folders, path) {
+        Ok(text) => text,
+        Err(error) => return refusal_of_file(alloc, path, &error),
+    };
+    match Linter::lint_string(alloc, text.as_str(), Some(is_draft(path))) {
+        Ok(linter) => noted_output(alloc, text.as_str(), &linter),
         Err(error) => refusal_of_file(alloc, path, &error),
     }
 }

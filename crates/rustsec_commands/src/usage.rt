@@ -37,6 +37,9 @@ advisory database. It reads files and its input alone: fetch the database first,
       status 0
       example: rustsec_audit ranges < lists.txt
 
+Further commands: check, check-many, explain, lint-database, stats, osv-database and query-osv. Each one shows
+its page if no word comes after it.
+
 Status 2: the words name no command, or something is refused; the error output says why. Status 3: memory,
 reading or writing failed.
 ";

@@ -140,6 +140,7 @@ impl Entries {
         ensures kept { OnErr result (self.new ≡ self.old) }
         ensures err { IfErr result (IsFaultAt (F.allowed folders.old) path.now self.old) }
         ensures same { AllowSame (F.allowed folders.old) (F.allowed folders.new) }
+        ensures names { IfErr result (λ e. F.refuses folders.old path.now e ⊎ ((text : List ℕ) × IsFault self.old path.now text e)) }
     {
         let text = folders.read(alloc, path)?;
         self.load_text(alloc, path, text.as_str())
@@ -156,8 +157,7 @@ impl Entries {
         ensures err { IfErr result (IsFaultAt real_folders path.now self.old) }
         ensures names { IfErr result (λ e. IsReadFailure path.now e ⊎ ((text : List ℕ) × IsFault self.old path.now text e)) }
     {
-        let text = RealFolders::new(rt).read(alloc, path)?;
-        self.load_text(alloc, path, text.as_str())
+        self.load_file_with(alloc, &mut RealFolders::new(rt), path)
     }
 
     /// Returns the stored advisory with an ID, or `None` if no stored advisory has it.

@@ -13,7 +13,7 @@ use std::alloc::{AllocError, Global};
 
 /// A check that the path of an advisory's file fails.
 #[derive(Clone, Copy, Debug)]
-pub enum Misfit {
+pub(crate) enum Misfit {
     /// The extension is not `md`.
     Extension,
     /// The file is not named after the ID, and is not a draft.
@@ -27,14 +27,14 @@ pub enum Misfit {
 }
 
 /// Returns whether the file is named after an ID, or is a draft.
-fn is_named(path: &str, id: &str) -> bool
+pub fn is_named(path: &str, id: &str) -> bool
     ensures { result ≡ is_named path.now id.now }
 {
     path::is_markdown_file_of(path, id) || path::is_draft(path)
 }
 
 /// Returns whether the file is in a folder of this name.
-fn is_in_folder(path: &str, name: &str) -> bool
+pub fn is_in_folder(path: &str, name: &str) -> bool
     ensures { result ≡ is_in_folder path.now name.now }
 {
     match path::folder(path) {
@@ -43,8 +43,8 @@ fn is_in_folder(path: &str, name: &str) -> bool
     }
 }
 
-/// Returns the collection whose name the parent of the file's folder has, or `None` if it has another name.
-fn collection_at(path: &str) -> Option<Collection>
+/// Returns the collection whose name the parent of the file's folder has, if any.
+pub fn collection_at(path: &str) -> Option<Collection>
     ensures { result ≡ collection_at path.now }
 {
     match path::folder_parent(path) {
@@ -54,7 +54,7 @@ fn collection_at(path: &str) -> Option<Collection>
 }
 
 /// Returns whether an advisory names this collection or none.
-fn agrees(named: Option<Collection>, collection: Collection) -> bool
+pub fn agrees(named: Option<Collection>, collection: Collection) -> bool
     ensures { result ≡ agrees named collection }
 {
     match named {

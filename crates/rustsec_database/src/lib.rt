@@ -3,7 +3,7 @@
 
 mod database;
 mod entries;
-mod filing;
+pub mod filing;
 mod index;
 mod open;
 mod slot;

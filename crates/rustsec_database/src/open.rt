@@ -55,8 +55,9 @@ impl Database {
         load_paths(alloc, folders, paths.as_slice())
     }
 
-    /// Opens the database of the files under a root of the disk. Nothing that waits is opened there: a
-    /// pipe, a device or a socket where a file is expected is refused.
+    /// Opens the database of the files under a root of the disk. A pipe, a device or a socket where a file
+    /// is expected is refused, and not opened, unless another program puts it there after the path was
+    /// looked at.
     ///
     /// # Errors
     ///

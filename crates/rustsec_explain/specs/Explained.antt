@@ -6,6 +6,7 @@ use Rattle.rustsec_lock.specs.Package.{PackageValue}
 use Rattle.rustsec_texts.specs.IdOrder.{id_eq}
 use Rattle.rustsec_texts.specs.Ids.{IdValue}
 use Rattle.rustsec_advisory.specs.declared.advisory.Advisory.{Advisory}
+use Rattle.rustsec_report.specs.Report.{is_among}
 use Rattle.rustsec_report.specs.declared.settings.Settings.{Settings}
 use Rattle.rustsec_explain.specs.Pair.{ExplainedPair}
 use Rattle.rustsec_explain.specs.Reasons.{reasons_of}
@@ -30,15 +31,27 @@ is_about name a = pointwise nat_eq a.metadata.«package» name
 abbrev pub explained_by_name : Settings → List Advisory → List PackageValue → List ℕ → List ExplainedPair
 explained_by_name s advisories packages name = explained_pairs s (filter (is_about name) advisories) (filter (is_named name) packages)
 
--- the packages with the name that an advisory is about; none for a missing advisory
-abbrev pub explained_by : Settings → Option Advisory → List PackageValue → List ExplainedPair
-explained_by s None packages = []
-explained_by s (Some a) packages = explained_pairs s (a ∷ []) (filter (is_named a.metadata.«package») packages)
+-- the packages with the name that an advisory is about
+abbrev pub explained_by : Settings → List PackageValue → Advisory → List ExplainedPair
+explained_by s packages a = explained_pairs s (a ∷ []) (filter (is_named a.metadata.«package») packages)
 
--- whether an advisory has an ID
+-- whether an ID is an advisory's own
 abbrev pub has_id : IdValue → Advisory → Bool
 has_id id a = id_eq a.metadata.id id
 
--- the same for the first advisory with an ID
+-- whether an ID is among an advisory's aliases
+abbrev pub has_alias : IdValue → Advisory → Bool
+has_alias id a = is_among a.metadata.aliases id
+
+-- one advisory, or without it some others
+abbrev pub one_or : Option Advisory → List Advisory → List Advisory
+one_or (Some a) others = a ∷ []
+one_or None others = others
+
+-- the advisories that an ID means: the first whose own ID it is, or without one those that list it among their aliases
+abbrev pub advisories_with : List Advisory → IdValue → List Advisory
+advisories_with advisories id = one_or (find (has_id id) advisories) (filter (has_alias id) advisories)
+
+-- advisory by advisory that an ID means, the packages with the name that it is about
 abbrev pub explained_by_id : Settings → List Advisory → List PackageValue → IdValue → List ExplainedPair
-explained_by_id s advisories packages id = explained_by s (find (has_id id) advisories) packages
+explained_by_id s advisories packages id = flat_map (explained_by s packages) (advisories_with advisories id)

@@ -1,10 +1,10 @@
 //! Explanations: pairs of packages and advisories with the reasons why they are not findings.
 
-ghost use Rattle.std.specs.Prelude.{◌≡◌, ◌++◌, IfErr, IfOk, OnOk, Some, map};
-ghost use Rattle.std.specs.List.{filter, find};
+ghost use Rattle.std.specs.Prelude.{◌≡◌, ◌++◌, ◌∷◌, [], IfErr, IfOk, OnOk, map};
+ghost use Rattle.std.specs.List.{filter, find, flat_map};
 ghost use Rattle.std.specs.Option.{option_copied};
 ghost use Rattle.rustsec_versions.specs.Failure.{IsMemory};
-ghost use Rattle.rustsec_explain.specs.Explained.{explained, explained_by, explained_by_id, explained_by_name, explained_pairs, has_id, is_about, is_named};
+ghost use Rattle.rustsec_explain.specs.Explained.{advisories_with, explained, explained_by, explained_by_id, explained_by_name, explained_pairs, has_alias, has_id, is_about, is_named};
 
 use crate::pairs::reasons;
 use crate::reason::Reason;
@@ -92,35 +92,21 @@ fn add_pairs<'a>(
     Ok(())
 }
 
-/// Returns the pairs of each package with each advisory.
-fn all_pairs<'a>(
+/// Appends the pairs of each package with each advisory.
+fn add_all_pairs<'a>(
     alloc: Global,
+    pairs: &mut Items<Explained<'a>>,
     settings: &Settings,
     advisories: &[&'a Advisory],
     packages: &[&'a Package],
-) -> Result<Items<Explained<'a>>>
-    ensures ok { IfOk result (λ pairs. pairs ≡ explained_pairs settings.now (map (λ a. a.now) advisories.now) (map (λ p. p.now) packages.now)) }
+) -> Result<()>
+    ensures ok { OnOk result (pairs.new ≡ pairs.old ++ explained_pairs settings.now (map (λ a. a.now) advisories.now) (map (λ p. p.now) packages.now)) }
     ensures err { IfErr result IsMemory }
 {
-    let mut pairs = Items::new(alloc);
     for package in packages {
-        add_pairs(alloc, &mut pairs, settings, advisories, package)?;
+        add_pairs(alloc, pairs, settings, advisories, package)?;
     }
-    Ok(pairs)
-}
-
-/// Returns the pairs of an advisory with each package of the name that it is about.
-fn pairs_of<'a>(
-    alloc: Global,
-    settings: &Settings,
-    advisory: &'a Advisory,
-    packages: &'a [Package],
-) -> Result<Items<Explained<'a>>>
-    ensures ok { IfOk result (λ pairs. pairs ≡ explained_by settings.now (Some advisory.now) packages.now) }
-    ensures err { IfErr result IsMemory }
-{
-    let named = named(alloc, packages, advisory.metadata.package.as_str())?;
-    all_pairs(alloc, settings, &[advisory], &named)
+    Ok(())
 }
 
 /// Returns each package with a name, and each advisory about a package with this name, with the reasons why they are
@@ -142,7 +128,8 @@ pub fn explain<'a>(
 {
     let about = about(alloc, advisories, name)?;
     let named = named(alloc, packages, name)?;
-    let pairs = all_pairs(alloc, settings, &about, &named)?;
+    let mut pairs = Items::new(alloc);
+    add_all_pairs(alloc, &mut pairs, settings, &about, &named)?;
     Ok(Vec::from(pairs))
 }
 
@@ -158,9 +145,92 @@ fn with_id<'a>(advisories: &'a [Advisory], id: &Id) -> Option<&'a Advisory>
     None
 }
 
+/// Returns whether an ID is among an advisory's aliases.
+fn has_alias(advisory: &Advisory, id: &Id) -> bool
+    ensures { result ≡ has_alias id.now advisory.now }
+{
+    advisory.metadata.aliases.as_slice().contains(id)
+}
+
+/// Returns the advisories that list an ID among their aliases, in order.
+fn with_alias<'a>(
+    alloc: Global,
+    advisories: &'a [Advisory],
+    id: &Id,
+) -> std::result::Result<Vec<&'a Advisory>, AllocError>
+    ensures { IfOk result (λ v. map (λ a. a.now) v.items ≡ filter (has_alias id.now) advisories.now) }
+{
+    let mut found = Vec::new(alloc);
+    for advisory in advisories {
+        if has_alias(advisory, id) {
+            found.push(advisory)?;
+        }
+    }
+    Ok(found)
+}
+
+/// Returns a list of one advisory.
+fn only<'a>(
+    alloc: Global,
+    advisory: &'a Advisory,
+) -> std::result::Result<Vec<&'a Advisory>, AllocError>
+    ensures { IfOk result (λ v. map (λ a. a.now) v.items ≡ advisory.now ∷ []) }
+{
+    let mut list = Vec::new(alloc);
+    list.push(advisory)?;
+    Ok(list)
+}
+
+/// Returns the advisories that an ID means: the first whose own ID it is, or without one those that list it among their
+/// aliases, in order.
+fn meant_by<'a>(
+    alloc: Global,
+    advisories: &'a [Advisory],
+    id: &Id,
+) -> std::result::Result<Vec<&'a Advisory>, AllocError>
+    ensures { IfOk result (λ v. map (λ a. a.now) v.items ≡ advisories_with advisories.now id.now) }
+{
+    match with_id(advisories, id) {
+        Some(advisory) => only(alloc, advisory),
+        None => with_alias(alloc, advisories, id),
+    }
+}
+
+/// Appends the pairs of an advisory with each package of the name that it is about.
+fn add_pairs_of<'a>(
+    alloc: Global,
+    pairs: &mut Items<Explained<'a>>,
+    settings: &Settings,
+    advisory: &'a Advisory,
+    packages: &'a [Package],
+) -> Result<()>
+    ensures ok { OnOk result (pairs.new ≡ pairs.old ++ explained_by settings.now packages.now advisory.now) }
+    ensures err { IfErr result IsMemory }
+{
+    let named = named(alloc, packages, advisory.metadata.package.as_str())?;
+    add_all_pairs(alloc, pairs, settings, &[advisory], &named)
+}
+
+/// Returns the pairs of each advisory with each package of the name that it is about, advisory by advisory.
+fn pairs_of<'a>(
+    alloc: Global,
+    settings: &Settings,
+    advisories: &[&'a Advisory],
+    packages: &'a [Package],
+) -> Result<Items<Explained<'a>>>
+    ensures ok { IfOk result (λ pairs. pairs ≡ flat_map (explained_by settings.now packages.now) (map (λ a. a.now) advisories.now)) }
+    ensures err { IfErr result IsMemory }
+{
+    let mut pairs = Items::new(alloc);
+    for advisory in advisories {
+        add_pairs_of(alloc, &mut pairs, settings, advisory, packages)?;
+    }
+    Ok(pairs)
+}
+
 /// Returns each package with the name that the advisory with an ID is about, with the reasons why the two are not a
-/// finding, in the order of the packages. If several advisories have the ID, the first one counts; if none has it, the
-/// list is empty.
+/// finding, in the order of the packages. If several advisories have the ID, the first one counts. If none has it as
+/// its own, those that list it among their aliases are explained, one after the other; the list is empty if none does.
 ///
 /// # Errors
 ///
@@ -175,11 +245,7 @@ pub fn explain_id<'a>(
     ensures ok { IfOk result (λ v. v.items ≡ explained_by_id settings.now advisories.now packages.now id.now) }
     ensures err { IfErr result IsMemory }
 {
-    match with_id(advisories, id) {
-        Some(advisory) => {
-            let pairs = pairs_of(alloc, settings, advisory, packages)?;
-            Ok(Vec::from(pairs))
-        }
-        None => Ok(Vec::new(alloc)),
-    }
+    let meant = meant_by(alloc, advisories, id)?;
+    let pairs = pairs_of(alloc, settings, &meant, packages)?;
+    Ok(Vec::from(pairs))
 }

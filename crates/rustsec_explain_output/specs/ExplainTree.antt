@@ -6,14 +6,14 @@ use Rattle.serde_json.specs.Data.{Data, boolean, null, string}
 use Rattle.rustsec_versions.specs.RequirementText.{requirement_text}
 use Rattle.rustsec_lock.specs.Package.{PackageValue}
 use Rattle.rustsec_lock.specs.Source.{source_text}
-use Rattle.rustsec_advisory.specs.declared.advisory.Advisory.{Advisory}
-use Rattle.rustsec_json.specs.Trees.{list_tree, optional_tree}
+use Rattle.rustsec_json.specs.Trees.{list_tree, optional_tree, text_tree}
+use Rattle.rustsec_policy.specs.declared.ignored.Ignored.{Ignored}
 use Rattle.rustsec_report.specs.Trees.{Entry, object_of}
-use Rattle.rustsec_report.specs.declared.settings.Settings.{Settings}
 use Rattle.rustsec_explain.specs.Pair.{ExplainedPair}
-use Rattle.rustsec_explain.specs.Wording.{reason_text}
 use Rattle.rustsec_explain.specs.declared.reason.Reason.{Reason}
 use Rattle.rustsec_explain.specs.declared.reason.Reason.TheVariants as reason
+use Rattle.rustsec_explain_output.specs.ReasonWords.{reason_words}
+use Rattle.rustsec_explain_output.specs.Rules.{RulesValue, entry_of}
 
 -- the name of a reason
 abbrev pub reason_name : Reason → List ℕ
@@ -37,19 +37,32 @@ abbrev pub requirement_tree : Option (List Held) → Data
 requirement_tree None = null
 requirement_tree (Some r) = string (requirement_text r)
 
--- the requirement that holds the version, by its place in its list; the other reasons have no such key
-abbrev pub requirement_entries : Advisory → Reason → List Entry
-requirement_entries a (reason.HeldByPatched place) = (codes "requirement", requirement_tree (slice_get a.versions.patched place)) ∷ []
-requirement_entries a (reason.HeldByUnaffected place) = (codes "requirement", requirement_tree (slice_get a.versions.unaffected place)) ∷ []
-requirement_entries a other = []
+-- an entry of a policy: its ID, and its reason and its last day, which may be missing
+abbrev pub entry_entries : Ignored → List Entry
+entry_entries e =
+    (codes "id", string e.id.text)
+    ∷ (codes "reason", optional_tree text_tree e.reason)
+    ∷ (codes "until", optional_tree text_tree e.until)
+    ∷ []
 
--- a reason of a pair: its name, its words and its requirement
-abbrev pub reason_entries : Settings → ExplainedPair → Reason → List Entry
-reason_entries s e r =
-    (codes "reason", string (reason_name r)) ∷ (codes "text", string (reason_text s e.by e.of r)) ∷ requirement_entries e.by r
+unfoldable pub entry_tree : Ignored → Data
+entry_tree e = object_of (entry_entries e)
 
-unfoldable pub reason_tree : Settings → ExplainedPair → Reason → Data
-reason_tree s e r = object_of (reason_entries s e r)
+-- what some reasons have beside their words: the requirement that holds the version, by its place in its list; the entry
+-- that ignores the advisory, or null if the command line does
+abbrev pub further_entries : RulesValue → ExplainedPair → Reason → List Entry
+further_entries rules e (reason.HeldByPatched place) = (codes "requirement", requirement_tree (slice_get e.by.versions.patched place)) ∷ []
+further_entries rules e (reason.HeldByUnaffected place) = (codes "requirement", requirement_tree (slice_get e.by.versions.unaffected place)) ∷ []
+further_entries rules e reason.Ignored = (codes "entry", optional_tree entry_tree (entry_of rules e)) ∷ []
+further_entries rules e other = []
+
+-- a reason of a pair: its name, its words, and what it has beside them
+abbrev pub reason_entries : RulesValue → ExplainedPair → Reason → List Entry
+reason_entries rules e r =
+    (codes "reason", string (reason_name r)) ∷ (codes "text", string (reason_words rules e r)) ∷ further_entries rules e r
+
+unfoldable pub reason_tree : RulesValue → ExplainedPair → Reason → Data
+reason_tree rules e r = object_of (reason_entries rules e r)
 
 -- the package of a pair
 abbrev pub package_entries : PackageValue → List Entry
@@ -66,17 +79,17 @@ package_tree p = object_of (package_entries p)
 abbrev pub has_no_reason : ExplainedPair → Bool
 has_no_reason e = length e.reasons == 0
 
-abbrev pub pair_entries : Settings → ExplainedPair → List Entry
-pair_entries s e =
+abbrev pub pair_entries : RulesValue → ExplainedPair → List Entry
+pair_entries rules e =
     (codes "advisory", string e.by.metadata.id.text)
     ∷ (codes "finding", boolean (has_no_reason e))
     ∷ (codes "package", package_tree e.of)
-    ∷ (codes "reasons", list_tree (reason_tree s e) e.reasons)
+    ∷ (codes "reasons", list_tree (reason_tree rules e) e.reasons)
     ∷ []
 
-unfoldable pub pair_tree : Settings → ExplainedPair → Data
-pair_tree s e = object_of (pair_entries s e)
+unfoldable pub pair_tree : RulesValue → ExplainedPair → Data
+pair_tree rules e = object_of (pair_entries rules e)
 
 -- the pairs in order
-abbrev pub explain_tree : Settings → List ExplainedPair → Data
-explain_tree s pairs = list_tree (pair_tree s) pairs
+abbrev pub explain_tree : RulesValue → List ExplainedPair → Data
+explain_tree rules pairs = list_tree (pair_tree rules) pairs

@@ -1,3 +1,4 @@
 pub mod ExplainText
 pub mod ExplainTree
-pub mod Shown
+pub mod ReasonWords
+pub mod Rules

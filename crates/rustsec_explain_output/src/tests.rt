@@ -3,40 +3,65 @@
 mod makers;
 mod rows;
 
-use crate::{explain_text, explain_tree};
-use makers::{advisory, package, reasons};
+use crate::{Rules, explain_text, explain_tree};
+use makers::{advisory, entries, package, reasons};
 use rows::{LOCAL, ROWS, Row, SPARSE};
 use rustsec_advisory::Advisory;
 use rustsec_explain::{Explained, Reason};
 use rustsec_lock::package::Package;
+use rustsec_policy::Ignored;
 use rustsec_report::Settings;
 use std::alloc::Global;
 use std::process::Abort;
 use std::test::Fail;
 
 /// Returns whether the JSON of some pairs is this.
-fn has_json(alloc: Global, pairs: &[Explained<'_>], json: &str) -> Result<bool, Fail> {
-    let settings = Settings::new(alloc);
-    let tree = explain_tree(alloc, &settings, pairs)?;
+fn has_json(
+    alloc: Global,
+    rules: &Rules<'_>,
+    pairs: &[Explained<'_>],
+    json: &str,
+) -> Result<bool, Fail> {
+    let tree = explain_tree(alloc, rules, pairs)?;
     let found = tree.to_string(alloc)?;
     Ok(found.as_str() == json)
 }
 
 /// Returns whether the text of some pairs is this.
-fn has_text(alloc: Global, pairs: &[Explained<'_>], text: &str) -> Result<bool, Fail> {
-    let settings = Settings::new(alloc);
-    let found = explain_text(alloc, &settings, pairs)?;
+fn has_text(
+    alloc: Global,
+    rules: &Rules<'_>,
+    pairs: &[Explained<'_>],
+    text: &str,
+) -> Result<bool, Fail> {
+    let found = explain_text(alloc, rules, pairs)?;
     Ok(found.as_str() == text)
 }
 
-/// Returns whether this is written of some pairs.
+/// Returns whether this is written of some pairs, by the entries of a policy.
+fn is_written_by(
+    alloc: Global,
+    entries: &[Ignored],
+    pairs: &[Explained<'_>],
+    json: &str,
+    text: &str,
+) -> Result<bool, Fail> {
+    let settings = Settings::new(alloc);
+    let rules = Rules {
+        settings: &settings,
+        entries,
+    };
+    Ok(has_json(alloc, &rules, pairs, json)? && has_text(alloc, &rules, pairs, text)?)
+}
+
+/// Returns whether this is written of some pairs, without a policy.
 fn is_written(
     alloc: Global,
     pairs: &[Explained<'_>],
     json: &str,
     text: &str,
 ) -> Result<bool, Fail> {
-    Ok(has_json(alloc, pairs, json)? && has_text(alloc, pairs, text)?)
+    is_written_by(alloc, &[], pairs, json, text)
 }
 
 /// Returns the pair of an advisory and a package with these reasons.
@@ -61,8 +86,9 @@ fn holds_for(
     package: &Package,
     row: &Row,
 ) -> Result<bool, Fail> {
+    let entries = entries(alloc, row.entries)?;
     let pair = pair(alloc, advisory, package, row.reasons)?;
-    is_written(alloc, &[pair], row.json, row.text)
+    is_written_by(alloc, &entries, &[pair], row.json, row.text)
 }
 
 /// Returns whether a row holds.

@@ -2,12 +2,13 @@
 
 ghost use Rattle.std.specs.Prelude.{◌≡◌, ◌++◌, IfErr, IfOk, OnOk, flat_map, string_bytes};
 ghost use Rattle.rustsec_versions.specs.Failure.{IsMemory};
-ghost use Rattle.rustsec_explain.specs.Wording.{reason_text};
 ghost use Rattle.rustsec_explain_output.specs.ExplainText.{explain_text, further_words, pair_line, pair_words, told_by};
+ghost use Rattle.rustsec_explain_output.specs.ReasonWords.{reason_words};
 
-use crate::shown::push_shown;
+use crate::rules::Rules;
+use crate::words::reason_words;
 use rustsec_explain::{Explained, Reason};
-use rustsec_report::Settings;
+use rustsec_shown::push_shown;
 use rustsec_versions::Result;
 use std::alloc::Global;
 use std::fmt::Write as _;
@@ -16,14 +17,14 @@ use std::fmt::Write as _;
 fn push_reason(
     alloc: Global,
     words: &mut String,
-    settings: &Settings,
+    rules: &Rules<'_>,
     pair: &Explained<'_>,
     reason: &Reason,
 ) -> Result<()>
-    ensures ok { OnOk result (string_bytes words.new ≡ string_bytes words.old ++ reason_text settings.now pair.now.by pair.now.of reason.now) }
+    ensures ok { OnOk result (string_bytes words.new ≡ string_bytes words.old ++ reason_words rules.now pair.now reason.now) }
     ensures err { IfErr result IsMemory }
 {
-    let text = reason.text(alloc, settings, pair.advisory, pair.package)?;
+    let text = reason_words(alloc, rules, pair, reason)?;
     words.push_str(&text)?;
     Ok(())
 }
@@ -32,16 +33,16 @@ fn push_reason(
 fn push_further(
     alloc: Global,
     words: &mut String,
-    settings: &Settings,
+    rules: &Rules<'_>,
     pair: &Explained<'_>,
     reasons: &[Reason],
 ) -> Result<()>
-    ensures ok { OnOk result (string_bytes words.new ≡ string_bytes words.old ++ further_words settings.now pair.now reasons.now) }
+    ensures ok { OnOk result (string_bytes words.new ≡ string_bytes words.old ++ further_words rules.now pair.now reasons.now) }
     ensures err { IfErr result IsMemory }
 {
     for reason in reasons {
         words.push_str("; ")?;
-        push_reason(alloc, words, settings, pair, reason)?;
+        push_reason(alloc, words, rules, pair, reason)?;
     }
     Ok(())
 }
@@ -50,23 +51,23 @@ fn push_further(
 fn push_told(
     alloc: Global,
     words: &mut String,
-    settings: &Settings,
+    rules: &Rules<'_>,
     pair: &Explained<'_>,
 ) -> Result<()>
-    ensures ok { OnOk result (string_bytes words.new ≡ string_bytes words.old ++ told_by settings.now pair.now pair.now.reasons) }
+    ensures ok { OnOk result (string_bytes words.new ≡ string_bytes words.old ++ told_by rules.now pair.now pair.now.reasons) }
     ensures err { IfErr result IsMemory }
 {
     let Some((first, others)) = pair.reasons.as_slice().split_first() else {
         words.push_str("affected")?;
         return Ok(());
     };
-    push_reason(alloc, words, settings, pair, first)?;
-    push_further(alloc, words, settings, pair, others)
+    push_reason(alloc, words, rules, pair, first)?;
+    push_further(alloc, words, rules, pair, others)
 }
 
 /// Returns the words of a pair, not escaped.
-fn pair_words(alloc: Global, settings: &Settings, pair: &Explained<'_>) -> Result<String>
-    ensures ok { IfOk result (λ t. string_bytes t ≡ pair_words settings.now pair.now) }
+fn pair_words(alloc: Global, rules: &Rules<'_>, pair: &Explained<'_>) -> Result<String>
+    ensures ok { IfOk result (λ t. string_bytes t ≡ pair_words rules.now pair.now) }
     ensures err { IfErr result IsMemory }
 {
     let package = pair.package;
@@ -75,7 +76,7 @@ fn pair_words(alloc: Global, settings: &Settings, pair: &Explained<'_>) -> Resul
     let version = &package.version;
     let id = advisory.metadata.id.as_str();
     let mut words = format!(in alloc; "{name} {version} {id}: ")?;
-    push_told(alloc, &mut words, settings, pair)?;
+    push_told(alloc, &mut words, rules, pair)?;
     Ok(words)
 }
 
@@ -83,26 +84,26 @@ fn pair_words(alloc: Global, settings: &Settings, pair: &Explained<'_>) -> Resul
 fn push_line(
     alloc: Global,
     text: &mut String,
-    settings: &Settings,
+    rules: &Rules<'_>,
     pair: &Explained<'_>,
 ) -> Result<()>
-    ensures ok { OnOk result (string_bytes text.new ≡ string_bytes text.old ++ pair_line settings.now pair.now) }
+    ensures ok { OnOk result (string_bytes text.new ≡ string_bytes text.old ++ pair_line rules.now pair.now) }
     ensures err { IfErr result IsMemory }
 {
-    let words = pair_words(alloc, settings, pair)?;
+    let words = pair_words(alloc, rules, pair)?;
     push_shown(text, &words)?;
     text.push_str("\n")?;
     Ok(())
 }
 
 /// Returns the lines of the pairs.
-fn lines(alloc: Global, settings: &Settings, pairs: &[Explained<'_>]) -> Result<String>
-    ensures ok { IfOk result (λ t. string_bytes t ≡ flat_map (pair_line settings.now) pairs.now) }
+fn lines(alloc: Global, rules: &Rules<'_>, pairs: &[Explained<'_>]) -> Result<String>
+    ensures ok { IfOk result (λ t. string_bytes t ≡ flat_map (pair_line rules.now) pairs.now) }
     ensures err { IfErr result IsMemory }
 {
     let mut text = String::new(alloc);
     for pair in pairs {
-        push_line(alloc, &mut text, settings, pair)?;
+        push_line(alloc, &mut text, rules, pair)?;
     }
     Ok(text)
 }
@@ -110,20 +111,21 @@ fn lines(alloc: Global, settings: &Settings, pairs: &[Explained<'_>]) -> Result<
 /// Returns the text of an explanation: a line for each pair, in order. A line has the name and the version of the
 /// package, the ID of the advisory, a colon, and the words of the reasons, joined by semicolons, or the word
 /// `affected` if the pair has no reason, as
-/// "quillpack 2.3.1 RUSTSEC-2022-9003: patched `>=2.3.1` holds 2.3.1; the ID `RUSTSEC-2022-9003` is ignored". Control
-/// characters and invisible ones are written as their Unicode escapes, so that no name makes a further line. Without a
-/// pair, one line says that there is none. The settings are those of the explanation.
+/// "quillpack 2.3.1 RUSTSEC-2022-9003: patched `>=2.3.1` holds 2.3.1; the ID `RUSTSEC-2022-9003` is ignored by the
+/// policy until 2027-01-31: not called". An ignored advisory that no entry of the policy has is ignored by the command
+/// line. Control characters and invisible ones are written as their Unicode escapes, so that no name makes a further
+/// line. Without a pair, one line says that there is none. The settings are those of the explanation.
 ///
 /// # Errors
 ///
 /// `OutOfMemory` alone.
-pub fn explain_text(alloc: Global, settings: &Settings, pairs: &[Explained<'_>]) -> Result<String>
-    ensures ok { IfOk result (λ t. string_bytes t ≡ explain_text settings.now pairs.now) }
+pub fn explain_text(alloc: Global, rules: &Rules<'_>, pairs: &[Explained<'_>]) -> Result<String>
+    ensures ok { IfOk result (λ t. string_bytes t ≡ explain_text rules.now pairs.now) }
     ensures err { IfErr result IsMemory }
 {
     if pairs.is_empty() {
         let none = "no pair of a package and an advisory with this name or ID\n";
         return Ok(String::from_str(alloc, none)?);
     }
-    lines(alloc, settings, pairs)
+    lines(alloc, rules, pairs)
 }

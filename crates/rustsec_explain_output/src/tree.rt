@@ -10,22 +10,21 @@ ghost use Rattle.rustsec_versions.specs.RequirementText.{requirement_text};
 ghost use Rattle.rustsec_versions.specs.Views.{comparators_of};
 ghost use Rattle.rustsec_lock.specs.Source.{source_text};
 ghost use Rattle.rustsec_report.specs.Trees.{object_of, with_members};
-ghost use Rattle.rustsec_explain.specs.Wording.{reason_text};
-ghost use Rattle.rustsec_explain_output.specs.ExplainTree.{explain_tree, package_entries, package_tree, pair_entries, pair_tree, reason_entries, reason_name, reason_tree, requirement_entries, requirement_tree};
+ghost use Rattle.rustsec_explain_output.specs.ExplainTree.{explain_tree, further_entries, package_entries, package_tree, pair_entries, pair_tree, reason_entries, reason_name, reason_tree, requirement_tree};
+ghost use Rattle.rustsec_explain_output.specs.ReasonWords.{reason_words};
 
-use rustsec_advisory::Advisory;
+use crate::entry_tree::tree_of_entry;
+use crate::object::{Members, put_tree};
+use crate::rules::{Rules, entry_of};
+use crate::words::reason_words;
 use rustsec_explain::{Explained, Reason};
 use rustsec_json::ToTree;
 use rustsec_lock::SourceId;
 use rustsec_lock::package::Package;
-use rustsec_report::Settings;
 use rustsec_versions::{Result, requirement_text};
 use semver::VersionReq;
-use serde_json::{Map, Value};
+use serde_json::Value;
 use std::alloc::{AllocError, Global};
-
-/// The members of an object.
-type Members = Map<String, Value>;
 
 /// Returns the name of a reason in JSON: the words of its variant in lower case, joined by hyphens.
 pub fn reason_name(reason: &Reason) -> &'static str
@@ -47,20 +46,6 @@ pub fn reason_name(reason: &Reason) -> &'static str
         Reason::KindWithoutWarnings => "kind-without-warnings",
         Reason::Ignored => "ignored",
     }
-}
-
-/// Sets a key to a tree.
-#[tactic(auto, unfolding(rustsec_report::specs::Trees::with_members))]
-fn put_tree(
-    alloc: Global,
-    members: &mut Members,
-    key: &str,
-    tree: Value,
-) -> std::result::Result<(), AllocError>
-    ensures { OnOk result (members_view members.new.entries
-        ≡ with_members (members_view members.old.entries) ((key.now, view tree) ∷ [])) }
-{
-    serde_json::put(members, alloc, key, tree)
 }
 
 /// Returns the requirement at a place of a list, if any.
@@ -97,36 +82,47 @@ fn tree_at(
     requirement_tree(alloc, requirement_at(requirements, place))
 }
 
-/// Sets the key of the requirement that holds the version, for the two reasons that have one.
+/// Sets the key of the requirement that holds the version, or of the entry that ignores the advisory, for the reasons
+/// that have one.
 #[tactic(auto, unfolding(rustsec_report::specs::Trees::with_members))]
-fn put_requirement(
+fn put_further(
     alloc: Global,
     members: &mut Members,
-    advisory: &Advisory,
+    rules: &Rules<'_>,
+    pair: &Explained<'_>,
     reason: &Reason,
 ) -> std::result::Result<(), AllocError>
     ensures { OnOk result (members_view members.new.entries
-        ≡ with_members (members_view members.old.entries) (requirement_entries advisory.now reason.now)) }
+        ≡ with_members (members_view members.old.entries) (further_entries rules.now pair.now reason.now)) }
 {
-    let versions = &advisory.versions;
-    let tree = match *reason {
-        Reason::HeldByPatched(place) => tree_at(alloc, versions.patched(), place)?,
-        Reason::HeldByUnaffected(place) => tree_at(alloc, versions.unaffected(), place)?,
-        _ => return Ok(()),
-    };
-    put_tree(alloc, members, "requirement", tree)
+    let versions = &pair.advisory.versions;
+    match *reason {
+        Reason::HeldByPatched(place) => {
+            let tree = tree_at(alloc, versions.patched(), place)?;
+            put_tree(alloc, members, "requirement", tree)
+        }
+        Reason::HeldByUnaffected(place) => {
+            let tree = tree_at(alloc, versions.unaffected(), place)?;
+            put_tree(alloc, members, "requirement", tree)
+        }
+        Reason::Ignored => {
+            let tree = tree_of_entry(alloc, entry_of(rules, pair))?;
+            put_tree(alloc, members, "entry", tree)
+        }
+        _ => Ok(()),
+    }
 }
 
 /// Builds the tree of the words of a reason.
 fn words_tree(
     alloc: Global,
-    settings: &Settings,
+    rules: &Rules<'_>,
     pair: &Explained<'_>,
     reason: &Reason,
 ) -> std::result::Result<Value, AllocError>
-    ensures { IfOk result (λ v. view v ≡ string (reason_text settings.now pair.now.by pair.now.of reason.now)) }
+    ensures { IfOk result (λ v. view v ≡ string (reason_words rules.now pair.now reason.now)) }
 {
-    match reason.text(alloc, settings, pair.advisory, pair.package) {
+    match reason_words(alloc, rules, pair, reason) {
         Ok(text) => Ok(Value::from(text)),
         Err(_) => Err(AllocError),
     }
@@ -137,46 +133,46 @@ fn words_tree(
 fn put_reason(
     alloc: Global,
     members: &mut Members,
-    settings: &Settings,
+    rules: &Rules<'_>,
     pair: &Explained<'_>,
     reason: &Reason,
 ) -> std::result::Result<(), AllocError>
     ensures { OnOk result (members_view members.new.entries
-        ≡ with_members (members_view members.old.entries) (reason_entries settings.now pair.now reason.now)) }
+        ≡ with_members (members_view members.old.entries) (reason_entries rules.now pair.now reason.now)) }
 {
     let name = Value::try_from_str(alloc, reason_name(reason))?;
     put_tree(alloc, members, "reason", name)?;
-    let words = words_tree(alloc, settings, pair, reason)?;
+    let words = words_tree(alloc, rules, pair, reason)?;
     put_tree(alloc, members, "text", words)?;
-    put_requirement(alloc, members, pair.advisory, reason)
+    put_further(alloc, members, rules, pair, reason)
 }
 
 /// Builds the tree of a reason of a pair.
 #[tactic(auto, unfolding(crate::specs::ExplainTree::reason_tree))]
 fn reason_tree(
     alloc: Global,
-    settings: &Settings,
+    rules: &Rules<'_>,
     pair: &Explained<'_>,
     reason: &Reason,
 ) -> std::result::Result<Value, AllocError>
-    ensures { IfOk result (λ v. view v ≡ reason_tree settings.now pair.now reason.now) }
+    ensures { IfOk result (λ v. view v ≡ reason_tree rules.now pair.now reason.now) }
 {
     let mut members = Members::new(alloc);
-    put_reason(alloc, &mut members, settings, pair, reason)?;
+    put_reason(alloc, &mut members, rules, pair, reason)?;
     Ok(Value::from(members))
 }
 
 /// Builds the tree of the reasons of a pair.
 fn reasons_tree(
     alloc: Global,
-    settings: &Settings,
+    rules: &Rules<'_>,
     pair: &Explained<'_>,
 ) -> std::result::Result<Value, AllocError>
-    ensures { IfOk result (λ v. view v ≡ list_tree (reason_tree settings.now pair.now) pair.now.reasons) }
+    ensures { IfOk result (λ v. view v ≡ list_tree (reason_tree rules.now pair.now) pair.now.reasons) }
 {
     let mut trees = Vec::new(alloc);
     for reason in pair.reasons.as_slice() {
-        trees.push(reason_tree(alloc, settings, pair, reason)?)?;
+        trees.push(reason_tree(alloc, rules, pair, reason)?)?;
     }
     Ok(Value::from(trees))
 }
@@ -224,11 +220,11 @@ fn package_tree(alloc: Global, package: &Package) -> std::result::Result<Value, 
 fn put_pair(
     alloc: Global,
     members: &mut Members,
-    settings: &Settings,
+    rules: &Rules<'_>,
     pair: &Explained<'_>,
 ) -> std::result::Result<(), AllocError>
     ensures { OnOk result (members_view members.new.entries
-        ≡ with_members (members_view members.old.entries) (pair_entries settings.now pair.now)) }
+        ≡ with_members (members_view members.old.entries) (pair_entries rules.now pair.now)) }
 {
     let advisory = pair.advisory;
     let id = advisory.metadata.id.to_tree(alloc)?;
@@ -237,7 +233,7 @@ fn put_pair(
     put_tree(alloc, members, "finding", finding)?;
     let package = package_tree(alloc, pair.package)?;
     put_tree(alloc, members, "package", package)?;
-    let reasons = reasons_tree(alloc, settings, pair)?;
+    let reasons = reasons_tree(alloc, rules, pair)?;
     put_tree(alloc, members, "reasons", reasons)
 }
 
@@ -249,42 +245,43 @@ fn put_pair(
 #[tactic(auto, unfolding(crate::specs::ExplainTree::pair_tree))]
 pub fn pair_tree(
     alloc: Global,
-    settings: &Settings,
+    rules: &Rules<'_>,
     pair: &Explained<'_>,
 ) -> std::result::Result<Value, AllocError>
-    ensures { IfOk result (λ v. view v ≡ pair_tree settings.now pair.now) }
+    ensures { IfOk result (λ v. view v ≡ pair_tree rules.now pair.now) }
 {
     let mut members = Members::new(alloc);
-    put_pair(alloc, &mut members, settings, pair)?;
+    put_pair(alloc, &mut members, rules, pair)?;
     Ok(Value::from(members))
 }
 
 /// Builds the tree of the pairs.
 fn list_tree(
     alloc: Global,
-    settings: &Settings,
+    rules: &Rules<'_>,
     pairs: &[Explained<'_>],
 ) -> std::result::Result<Value, AllocError>
-    ensures { IfOk result (λ v. view v ≡ explain_tree settings.now pairs.now) }
+    ensures { IfOk result (λ v. view v ≡ explain_tree rules.now pairs.now) }
 {
     let mut trees = Vec::new(alloc);
     for pair in pairs {
-        trees.push(pair_tree(alloc, settings, pair)?)?;
+        trees.push(pair_tree(alloc, rules, pair)?)?;
     }
     Ok(Value::from(trees))
 }
 
 /// Builds the JSON list of an explanation: for each pair, in order, an object with the ID of its advisory, whether it
 /// is a finding, its package and its reasons. A pair is a finding if it has no reason. A reason is an object with its
-/// name and its words; if a requirement holds the version, it has the requirement's text too. The settings are those of
-/// the explanation.
+/// name and its words; if a requirement holds the version, it has the requirement's text too; if the advisory is ignored,
+/// the entry of the policy that has its ID, with its reason and its last day, or null if the command line ignores it. The
+/// settings are those of the explanation.
 ///
 /// # Errors
 ///
 /// `OutOfMemory` alone.
-pub fn explain_tree(alloc: Global, settings: &Settings, pairs: &[Explained<'_>]) -> Result<Value>
-    ensures ok { IfOk result (λ v. view v ≡ explain_tree settings.now pairs.now) }
+pub fn explain_tree(alloc: Global, rules: &Rules<'_>, pairs: &[Explained<'_>]) -> Result<Value>
+    ensures ok { IfOk result (λ v. view v ≡ explain_tree rules.now pairs.now) }
     ensures err { IfErr result IsMemory }
 {
-    Ok(list_tree(alloc, settings, pairs)?)
+    Ok(list_tree(alloc, rules, pairs)?)
 }

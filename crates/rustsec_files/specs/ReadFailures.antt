@@ -1,5 +1,8 @@
 -- The failures of a reader of files, for a file that cannot be opened or read.
-use Rattle.std.specs.Prelude.{◌≡◌, ◌⊎◌, ◌++◌, ℕ, IsSome, List, Some, codes}
+use Rattle.std.specs.Prelude.{◌≡◌, ◌⊎◌, ◌++◌, ℕ, Err, IfErr, IsSome, List, Result, Some, codes}
+use Rattle.std.specs.IoError.{error_kind}
+use Rattle.std.specs.declared.io.Error.{Error}
+use Rattle.std.specs.declared.io.ErrorKind.TheVariants as io_kind
 use Rattle.std.specs.Fmt.{decimal}
 use Rattle.rustsec_versions.specs.Failure.{Failure, out_of_memory}
 use Rattle.rustsec_versions.specs.declared.error.ErrorKind.TheVariants as kind
@@ -27,3 +30,7 @@ IsReadFailure path e = IsIoFailure (open_message path) e ⊎ IsIoFailure (read_m
 -- the reason that bytes are not UTF-8 from this offset on
 abbrev pub not_utf8_from : ℕ → List ℕ
 not_utf8_from offset = codes "it is not UTF-8 from byte offset " ++ (decimal offset ++ codes " on")
+
+-- refused memory stays that: an answer of the system that is an error of memory gives out of memory
+abbrev pub KeepsMemory : {A B : Type 0} → Result A Error → Result B Failure → Type 0
+KeepsMemory answer result = IfErr answer (λ e. error_kind e ≡ io_kind.OutOfMemory → result ≡ Err out_of_memory)

@@ -1,16 +1,17 @@
 //! The text of a file, and the bytes of any reader, to their end; the failure of a path that cannot be opened, listed or
 //! read.
 
-ghost use Rattle.std.specs.Prelude.{◌≡◌, ◌⊎◌, ◌↔◌, IfErr, IfOk, IfSome, IsErr, IsUtf8, codes, string_bytes, true};
+ghost use Rattle.std.specs.Prelude.{◌≡◌, ◌⊎◌, ◌↔◌, IfErr, IfOk, IfSome, IsErr, IsOkAnd, IsUtf8, Ok, OnErr, OnOk, codes, string_bytes, true};
+ghost use Rattle.std.specs.Fs.{file_type, IsFile};
 ghost use Rattle.std.specs.IoError.{error_kind};
 ghost use Rattle.std.specs.Str.Lossy.{utf8_valid_len};
 ghost use Rattle.std.specs.Io.KnownBytes.{Consumes, IsAtEnd, Keeps};
-ghost use Rattle.rustsec_files.specs.ReadFailures.{IsIoFailure, IsReadFailure, io_failure, not_utf8_from, open_message, read_message};
+ghost use Rattle.rustsec_files.specs.ReadFailures.{IsIoFailure, IsReadFailure, KeepsMemory, io_failure, not_utf8_from, open_message, read_message};
 ghost use Rattle.rustsec_versions.specs.Failure.{IsMemory, IsOfKind, IsRefusal, out_of_memory};
 
 use rustsec_versions::{Error, ErrorKind, Result};
 use std::alloc::{AllocError, Global};
-use std::fs::OpenFile;
+use std::fs::{Metadata, OpenFile};
 use std::io::{ErrorKind as IoErrorKind, Read};
 use std::rt::Files;
 use std::{fs, io};
@@ -96,7 +97,7 @@ fn reason(alloc: Global, error: &io::Error) -> Result<String>
 
 /// Returns the failure of a file that was found and cannot be read, for this error. An error of memory
 /// stays that.
-pub fn failed(alloc: Global, path: &str, error: io::Error) -> Error
+fn failed(alloc: Global, path: &str, error: io::Error) -> Error
     ensures memory { error_kind error ≡ IoErrorKind.OutOfMemory → result ≡ out_of_memory }
     ensures kind { IsOfKind ErrorKind.Io result }
     ensures names { IsIoFailure (read_message path.now) result }
@@ -109,7 +110,7 @@ pub fn failed(alloc: Global, path: &str, error: io::Error) -> Error
 
 /// Returns the failure of a path that cannot be opened or listed, for this error. An error of memory
 /// stays that.
-pub fn open_failed(alloc: Global, path: &str, error: io::Error) -> Error
+fn open_failed(alloc: Global, path: &str, error: io::Error) -> Error
     ensures memory { error_kind error ≡ IoErrorKind.OutOfMemory → result ≡ out_of_memory }
     ensures kind { IsOfKind ErrorKind.Io result }
     ensures names { IsIoFailure (open_message path.now) result }
@@ -117,6 +118,42 @@ pub fn open_failed(alloc: Global, path: &str, error: io::Error) -> Error
     match reason(alloc, &error) {
         Ok(why) => open_failure(alloc, path, &why),
         Err(refused) => refused,
+    }
+}
+
+/// Returns what reading a file gave. `path` is for the message alone.
+///
+/// # Errors
+///
+/// `Io` for an error, which the cause tells; else `OutOfMemory`, for an error of memory or for the message.
+pub fn read_answer<T>(alloc: Global, answer: io::Result<T>, path: &str) -> Result<T>
+    ensures ok { IfOk answer (λ x. result ≡ Ok x) }
+    ensures refused { IsErr answer → IsErr result }
+    ensures memory { KeepsMemory answer result }
+    ensures kind { IfErr result (IsOfKind ErrorKind.Io) }
+    ensures names { IfErr result (IsIoFailure (read_message path.now)) }
+{
+    match answer {
+        Ok(value) => Ok(value),
+        Err(e) => Err(failed(alloc, path, e)),
+    }
+}
+
+/// Returns what opening a path gave, or asking the system about it. `path` is for the message alone.
+///
+/// # Errors
+///
+/// As `read_answer`. The message says that the path couldn't be opened.
+pub fn open_answer<T>(alloc: Global, answer: io::Result<T>, path: &str) -> Result<T>
+    ensures ok { IfOk answer (λ x. result ≡ Ok x) }
+    ensures refused { IsErr answer → IsErr result }
+    ensures memory { KeepsMemory answer result }
+    ensures kind { IfErr result (IsOfKind ErrorKind.Io) }
+    ensures names { IfErr result (IsIoFailure (open_message path.now)) }
+{
+    match answer {
+        Ok(value) => Ok(value),
+        Err(e) => Err(open_failed(alloc, path, e)),
     }
 }
 
@@ -141,6 +178,7 @@ fn not_utf8(alloc: Global, path: &str, offset: usize) -> Error
 pub fn text_of_bytes(alloc: Global, bytes: Vec<u8>, path: &str) -> Result<String>
     ensures ok { IfOk result (λ s. string_bytes s ≡ bytes.items) }
     ensures err { IfErr result (IsRefusal ErrorKind.Io (¬ IsUtf8 bytes.items)) }
+    ensures none { IfErr result (λ e. ¬ IsUtf8 bytes.items) }
     ensures exact { IfErr result (λ e. (e ≡ io_failure (read_message path.now) (not_utf8_from (utf8_valid_len bytes.items))) ⊎ (e ≡ out_of_memory)) }
     ensures kind { IfErr result (IsOfKind ErrorKind.Io) }
     ensures names { IfErr result (IsIoFailure (read_message path.now)) }
@@ -149,6 +187,22 @@ pub fn text_of_bytes(alloc: Global, bytes: Vec<u8>, path: &str) -> Result<String
         Ok(text) => Ok(text),
         Err(e) => Err(not_utf8(alloc, path, e.utf8_error().valid_up_to())),
     }
+}
+
+/// Returns the text of the bytes that reading a file gave. `path` is for the message alone.
+///
+/// # Errors
+///
+/// As `read_answer`; then as `text_of_bytes`.
+fn text_of_answer(alloc: Global, answer: io::Result<Vec<u8>>, path: &str) -> Result<String>
+    ensures ok { IfOk result (λ s. IsOkAnd answer (λ bytes. string_bytes s ≡ bytes.items)) }
+    ensures memory { KeepsMemory answer result }
+    ensures none { IfErr result (λ e. IfOk answer (λ bytes. ¬ IsUtf8 bytes.items)) }
+    ensures kind { IfErr result (IsOfKind ErrorKind.Io) }
+    ensures names { IfErr result (IsIoFailure (read_message path.now)) }
+{
+    let bytes = read_answer(alloc, answer, path)?;
+    text_of_bytes(alloc, bytes, path)
 }
 
 /// Returns the text of a file's reader: all bytes that it has left. `path` is for the message alone.
@@ -162,31 +216,26 @@ pub fn text_of<R: Read>(alloc: Global, reader: &mut R, path: &str) -> Result<Str
     ensures kind { IfErr result (IsOfKind ErrorKind.Io) }
     ensures names { IfErr result (IsIoFailure (read_message path.now)) }
 {
-    match bytes_of(alloc, reader) {
-        Ok(bytes) => text_of_bytes(alloc, bytes, path),
-        Err(e) => Err(failed(alloc, path, e)),
-    }
+    text_of_answer(alloc, bytes_of(alloc, reader), path)
 }
 
-/// Returns whether a path leads to a regular file. A link is followed.
-fn is_regular<R: Files>(rt: &R, path: &str) -> io::Result<bool> {
-    let metadata = fs::metadata(rt, path)?;
-    Ok(metadata.is_file())
-}
-
-/// Returns whether an open file is a regular one.
-fn is_open_regular<T: OpenFile>(file: &T) -> io::Result<bool> {
-    let metadata = file.metadata()?;
-    Ok(metadata.is_file())
-}
-
-/// Returns the failure of a path that leads to a folder, a pipe, a device or a socket.
-fn irregular(alloc: Global, path: &str) -> Error
-    ensures exact { (result ≡ io_failure (read_message path.now) (codes "it is not a regular file")) ⊎ (result ≡ out_of_memory) }
-    ensures kind { IsOfKind ErrorKind.Io result }
-    ensures names { IsIoFailure (read_message path.now) result }
+/// Refuses a path that leads to a folder, a pipe, a device or a socket.
+///
+/// # Errors
+///
+/// `Io` where the system says so; else `OutOfMemory`, for the message.
+fn expect_regular(alloc: Global, metadata: &Metadata, path: &str) -> Result<()>
+    ensures ok { OnOk result (IsFile (file_type metadata.now)) }
+    ensures none { OnErr result (¬ IsFile (file_type metadata.now)) }
+    ensures exact { IfErr result (λ e. (e ≡ io_failure (read_message path.now) (codes "it is not a regular file")) ⊎ (e ≡ out_of_memory)) }
+    ensures kind { IfErr result (IsOfKind ErrorKind.Io) }
+    ensures names { IfErr result (IsIoFailure (read_message path.now)) }
 {
-    failure(alloc, path, "it is not a regular file")
+    if metadata.is_file() {
+        Ok(())
+    } else {
+        Err(failure(alloc, path, "it is not a regular file"))
+    }
 }
 
 /// Returns the text of an open file, which must be a regular one.
@@ -195,11 +244,9 @@ fn text_of_open<T: Read + OpenFile>(alloc: Global, file: &mut T, path: &str) -> 
     ensures kind { IfErr result (IsOfKind ErrorKind.Io) }
     ensures names { IfErr result (IsIoFailure (read_message path.now)) }
 {
-    match is_open_regular(file) {
-        Ok(true) => text_of(alloc, file, path),
-        Ok(false) => Err(irregular(alloc, path)),
-        Err(e) => Err(failed(alloc, path, e)),
-    }
+    let metadata = read_answer(alloc, file.metadata(), path)?;
+    expect_regular(alloc, &metadata, path)?;
+    text_of(alloc, file, path)
 }
 
 /// Opens a file and returns its text.
@@ -207,10 +254,8 @@ fn text_of_regular<R: Files>(rt: &R, alloc: Global, path: &str) -> Result<String
     ensures kind { IfErr result (IsOfKind ErrorKind.Io) }
     ensures names { IfErr result (IsReadFailure path.now) }
 {
-    match fs::File::open(rt, path) {
-        Ok(mut file) => text_of_open(alloc, &mut file, path),
-        Err(e) => Err(open_failed(alloc, path, e)),
-    }
+    let mut file = open_answer(alloc, fs::File::open(rt, path), path)?;
+    text_of_open(alloc, &mut file, path)
 }
 
 /// Returns the text of a file. What is not a regular file is not opened, so a path that leads to a pipe,
@@ -225,9 +270,7 @@ pub fn text_of_file<R: Files>(rt: &R, alloc: Global, path: &str) -> Result<Strin
     ensures kind { IfErr result (IsOfKind ErrorKind.Io) }
     ensures names { IfErr result (IsReadFailure path.now) }
 {
-    match is_regular(rt, path) {
-        Ok(true) => text_of_regular(rt, alloc, path),
-        Ok(false) => Err(irregular(alloc, path)),
-        Err(e) => Err(open_failed(alloc, path, e)),
-    }
+    let metadata = open_answer(alloc, fs::metadata(rt, path), path)?;
+    expect_regular(alloc, &metadata, path)?;
+    text_of_regular(rt, alloc, path)
 }

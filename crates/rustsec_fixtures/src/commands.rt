@@ -19,21 +19,23 @@ pub fn writes<T: Files + AllocGlobal>(
     Ok(found == status && written.as_slice() == text)
 }
 
-/// Advisories for `base`, by their paths under a root: one with a vulnerability, one that was withdrawn, and one
-/// about a package that nobody maintains.
+/// An advisory for `base` with a vulnerability.
+pub const VULNERABLE: &str =
+    "```toml\n[advisory]\nid = \"RUSTSEC-2001-0001\"\npackage = \"base\"\ndate = \"2001-02-03\"\n\n[versions]\npatched = [\">= 2.0.0\"]\n```\n\n# T\n\nD\n";
+
+/// An advisory for `base` that was withdrawn.
+pub const WITHDRAWN: &str =
+    "```toml\n[advisory]\nid = \"RUSTSEC-2001-0002\"\npackage = \"base\"\ndate = \"2001-02-03\"\nwithdrawn = \"2001-02-04\"\n\n[versions]\npatched = [\">= 2.0.0\"]\n```\n\n# T\n\nD\n";
+
+/// An advisory that nobody maintains `base`.
+pub const UNMAINTAINED: &str =
+    "```toml\n[advisory]\nid = \"RUSTSEC-2001-0003\"\npackage = \"base\"\ndate = \"2001-02-03\"\ninformational = \"unmaintained\"\n\n[versions]\npatched = [\">= 2.0.0\"]\n```\n\n# T\n\nD\n";
+
+/// The three advisories, by their paths under a root.
 pub const ADVISORIES: &[(&str, &str)] = &[
-    (
-        "crates/base/RUSTSEC-2001-0001.md",
-        "```toml\n[advisory]\nid = \"RUSTSEC-2001-0001\"\npackage = \"base\"\ndate = \"2001-02-03\"\n\n[versions]\npatched = [\">= 2.0.0\"]\n```\n\n# T\n\nD\n",
-    ),
-    (
-        "crates/base/RUSTSEC-2001-0002.md",
-        "```toml\n[advisory]\nid = \"RUSTSEC-2001-0002\"\npackage = \"base\"\ndate = \"2001-02-03\"\nwithdrawn = \"2001-02-04\"\n\n[versions]\npatched = [\">= 2.0.0\"]\n```\n\n# T\n\nD\n",
-    ),
-    (
-        "crates/base/RUSTSEC-2001-0003.md",
-        "```toml\n[advisory]\nid = \"RUSTSEC-2001-0003\"\npackage = \"base\"\ndate = \"2001-02-03\"\ninformational = \"unmaintained\"\n\n[versions]\npatched = [\">= 2.0.0\"]\n```\n\n# T\n\nD\n",
-    ),
+    ("crates/base/RUSTSEC-2001-0001.md", VULNERABLE),
+    ("crates/base/RUSTSEC-2001-0002.md", WITHDRAWN),
+    ("crates/base/RUSTSEC-2001-0003.md", UNMAINTAINED),
 ];
 
 /// A lockfile of four packages: one of the default source, one without a source, one of a repository, and one of

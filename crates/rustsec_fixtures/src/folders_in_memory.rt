@@ -1,7 +1,10 @@
 //! Folders in memory: a table of paths, with one answer for each path; a call can be made to fail.
 
-ghost use Rattle.std.specs.Prelude.{IfErr};
-ghost use Rattle.rustsec_versions.specs.Failure.{IsOfKind};
+ghost use Rattle.std.specs.Option.{option_copied};
+ghost use Rattle.std.specs.Prelude.{◌≡◌, ◌≢◌, IfErr, IfOk, None, Some, map, true};
+ghost use Rattle.rustsec_folders.specs.Allowed.{AllowSame, AnswersOnce};
+ghost use Rattle.rustsec_versions.specs.Failure.{IsMemory, IsOfKind, IsRefusal};
+ghost use Rattle.rustsec_fixtures.specs.FoldersInMemory.{IsHeld, answers_of, entry_of, held_at, listed, read};
 
 use rustsec_folders::{FolderEntry, Folders};
 use rustsec_values::{Items, Text};
@@ -9,6 +12,7 @@ use rustsec_versions::{Error, ErrorKind, Result};
 use std::alloc::{AllocError, Global};
 
 /// The contents of a path: a folder with these entries, each a folder or not, or a file with this text.
+#[derive(Clone, Copy)]
 pub enum Holds<'a> {
     Entries(&'a [(&'a str, bool)]),
     Text(&'a str),
@@ -36,7 +40,10 @@ pub struct MemoryFolders<'a> {
 
 impl<'a> MemoryFolders<'a> {
     /// Returns folders with these contents.
-    pub fn new(paths: Paths<'a>, failing: Failing) -> MemoryFolders<'a> {
+    #[tactic(auto, using(crate::proofs::FoldersInMemory::answers_once))]
+    pub fn new(paths: Paths<'a>, failing: Failing) -> MemoryFolders<'a>
+        ensures once { failing.at ≡ 0 → AnswersOnce (answers_of result) }
+    {
         MemoryFolders {
             paths,
             later: paths,
@@ -61,22 +68,32 @@ impl<'a> MemoryFolders<'a> {
     }
 
     /// Returns the contents of a path at the call that is made now.
-    fn held_now(&self, path: &str) -> Option<&'a Holds<'a>> {
-        let has_turned = self.turns_at != 0 && self.calls >= self.turns_at;
-        let paths = if has_turned { self.later } else { self.paths };
-        held_at(paths, path)
+    fn held_now(&self, path: &str) -> Option<&'a Holds<'a>>
+        ensures { IsHeld self.now path.now (option_copied result) }
+    {
+        if self.turns_at != 0 && self.calls >= self.turns_at {
+            held_at(self.later, path)
+        } else {
+            held_at(self.paths, path)
+        }
     }
 
     /// Returns whether the call that is made now fails.
-    fn fails_now(&mut self) -> bool {
+    fn fails_now(&mut self) -> bool
+        ensures fails { result ≡ true → self.new.failing.at ≢ 0 }
+        ensures same { AllowSame (answers_of self.old) (answers_of self.new) }
+    {
         self.calls = self.calls.saturating_add(1);
         self.calls == self.failing.at
     }
 }
 
 /// Returns the contents of a path.
-fn held_at<'a>(paths: Paths<'a>, path: &str) -> Option<&'a Holds<'a>> {
-    for (at, holds) in paths {
+fn held_at<'a>(paths: Paths<'a>, path: &str) -> Option<&'a Holds<'a>>
+    ensures { option_copied result ≡ held_at paths.now path.now }
+{
+    for row in paths {
+        let (at, holds) = row;
         if *at == path {
             return Some(holds);
         }
@@ -94,43 +111,66 @@ fn failure(alloc: Global, kind: ErrorKind) -> Error
     Error::new(alloc, ErrorKind::Io, "the folders fail")
 }
 
+/// Returns an entry with a name.
+fn entry(alloc: Global, name: &str, folder: bool) -> Result<FolderEntry>
+    ensures ok { IfOk result (λ e. e ≡ record { name = name.now; folder = folder }) }
+    ensures err { IfErr result IsMemory }
+{
+    let name = Text::from_str(alloc, name)?;
+    Ok(FolderEntry { name, folder })
+}
+
 /// Returns the entries of rows.
 fn entries(alloc: Global, rows: &[(&str, bool)]) -> Result<Items<FolderEntry>>
-    ensures { IfErr result (IsOfKind ErrorKind.Io) }
+    ensures ok { IfOk result (λ entries. entries ≡ map entry_of rows.now) }
+    ensures err { IfErr result IsMemory }
 {
     let mut entries = Items::new(alloc);
-    for (name, folder) in rows {
-        let name = Text::from_str(alloc, name)?;
-        entries.push(FolderEntry {
-            name,
-            folder: *folder,
-        })?;
+    for row in rows {
+        let entry = entry(alloc, row.0, row.1)?;
+        entries.push(entry)?;
     }
     Ok(entries)
 }
 
-impl<'a> Folders for MemoryFolders<'a> {
-    ghost use Rattle.rustsec_folders.specs.Allowed.{every_answer};
+/// Returns the answer to a listing of a path with these contents.
+fn listed(alloc: Global, held: Option<&Holds<'_>>) -> Result<Items<FolderEntry>>
+    ensures ok { IfOk result (λ entries. listed (option_copied held.entry) ≡ Some entries) }
+    ensures err { IfErr result (IsRefusal ErrorKind.Io (listed (option_copied held.entry) ≡ None)) }
+{
+    match held {
+        Some(Holds::Entries(rows)) => entries(alloc, rows),
+        _ => Err(failure(alloc, ErrorKind::Io)),
+    }
+}
 
-    ghost allowed = { λ _. every_answer };
+/// Returns the answer to a reading of a path with these contents.
+fn read(alloc: Global, held: Option<&Holds<'_>>) -> Result<Text>
+    ensures ok { IfOk result (λ text. read (option_copied held.entry) ≡ Some text) }
+    ensures err { IfErr result (IsRefusal ErrorKind.Io (read (option_copied held.entry) ≡ None)) }
+{
+    match held {
+        Some(Holds::Text(text)) => Ok(Text::from_str(alloc, text)?),
+        _ => Err(failure(alloc, ErrorKind::Io)),
+    }
+}
+
+impl<'a> Folders for MemoryFolders<'a> {
+    ghost use Rattle.rustsec_fixtures.specs.FoldersInMemory.{answers_of};
+
+    ghost allowed = { answers_of };
 
     fn list(&mut self, alloc: Global, path: &str) -> Result<Items<FolderEntry>> {
         if self.fails_now() {
             return Err(failure(alloc, self.failing.kind));
         }
-        match self.held_now(path) {
-            Some(Holds::Entries(rows)) => entries(alloc, rows),
-            _ => Err(failure(alloc, ErrorKind::Io)),
-        }
+        listed(alloc, self.held_now(path))
     }
 
     fn read(&mut self, alloc: Global, path: &str) -> Result<Text> {
         if self.fails_now() {
             return Err(failure(alloc, self.failing.kind));
         }
-        match self.held_now(path) {
-            Some(Holds::Text(text)) => Ok(Text::from_str(alloc, text)?),
-            _ => Err(failure(alloc, ErrorKind::Io)),
-        }
+        read(alloc, self.held_now(path))
     }
 }

@@ -13,7 +13,9 @@ mod warnings;
 pub use crate::advisory_texts::{
     INVALID, INVALID_ERRORS, SHORT, SHORT_DOCUMENT, VALID, acceptance, acceptance_with, changed,
 };
-pub use crate::commands::{ADVISORIES, FOUR_PACKAGES, make_root, writes};
+pub use crate::commands::{
+    ADVISORIES, FOUR_PACKAGES, UNMAINTAINED, VULNERABLE, WITHDRAWN, make_root, writes,
+};
 pub use crate::cvss::{base_of, is_printed, prints, score};
 pub use crate::fakes::{ByteReader, ByteWriter};
 pub use crate::folders_in_memory::{Failing, Holds, MemoryFolders, Paths};

@@ -1,5 +1,6 @@
 -- The names in a folder's listing, and the failure of a folder that cannot be listed.
-use Rattle.std.specs.Prelude.{◌==◌, ◌||◌, ◌⊎◌, ℕ, Bool, List, codes, filter, length, not}
+use Rattle.std.specs.Prelude.{◌≡◌, ◌++◌, ◌==◌, ◌||◌, ◌⊎◌, ℕ, Bool, IfSome, List, Option, codes, filter, length, not}
+use Rattle.std.specs.Fmt.{decimal}
 use Rattle.std.specs.List.{slice_split}
 use Rattle.std.specs.Str.{bytes_eq}
 use Rattle.rustsec_files.specs.ReadFailures.{IsReadFailure}
@@ -13,6 +14,14 @@ is_entry_name name = not (length name == 0 || (bytes_eq name (codes ".") || byte
 -- the names of the entries in a listing, which has a NUL after each name
 abbrev pub entry_names : List ℕ → List (List ℕ)
 entry_names listing = filter is_entry_name (slice_split (λ b. b == 0) listing)
+
+-- the names of a listing that has these bytes left, if they are known
+abbrev pub ListsNames : Option (List ℕ) → List (List ℕ) → Type 0
+ListsNames left names = IfSome left (λ bytes. names ≡ entry_names bytes)
+
+-- the reason that a listing is not UTF-8 from this offset on
+abbrev pub name_not_utf8_at : ℕ → List ℕ
+name_not_utf8_at offset = codes "the name of an entry is not UTF-8, at byte offset " ++ (decimal offset ++ codes " of the listing")
 
 -- the failure of a folder that cannot be listed, or of an entry of it that cannot be looked at
 abbrev pub IsListFailure : List ℕ → Failure → Type 0

@@ -1,9 +1,9 @@
 //! Where folders are listed and files are read.
 
-ghost use Rattle.std.specs.Prelude.{IfErr, IfOk, None, Some};
+ghost use Rattle.std.specs.Prelude.{ℕ, ⊤, IfErr, IfOk, List, None, Some};
 ghost use Rattle.rustsec_folders.specs.Allowed.{Allowed, AllowSame};
 ghost use Rattle.rustsec_folders.specs.Names.{AreNames};
-ghost use Rattle.rustsec_versions.specs.Failure.{IsRefusal};
+ghost use Rattle.rustsec_versions.specs.Failure.{Failure, IsRefusal};
 
 use crate::entry::FolderEntry;
 use crate::names::names_of;
@@ -16,6 +16,9 @@ pub trait Folders {
     /// Which answers may be given about each path. No call changes that, though another of them may be
     /// given at each asking.
     ghost allowed: { Self → Allowed };
+
+    /// Which errors may be the answer where the file at a path cannot be read: any, unless folders say more.
+    ghost refuses: { Self → List ℕ → Failure → Type 0 } = { λ _ _ _. ⊤ };
 
     /// Returns the entries of a folder, in any order.
     ///
@@ -51,5 +54,6 @@ pub trait Folders {
     fn read(&mut self, alloc: Global, path: &str) -> Result<Text>
         ensures ok { IfOk result (λ text. (allowed self.old).reads path.now (Some text)) }
         ensures err { IfErr result (IsRefusal ErrorKind.Io ((allowed self.old).reads path.now None)) }
-        ensures same { AllowSame (allowed self.old) (allowed self.new) };
+        ensures same { AllowSame (allowed self.old) (allowed self.new) }
+        ensures refused { IfErr result (refuses self.old path.now) };
 }

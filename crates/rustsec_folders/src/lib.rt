@@ -14,4 +14,4 @@ pub use crate::folders::Folders;
 pub use crate::listing::{source_files, source_paths};
 pub use crate::real::RealFolders;
 pub use crate::source_file::SourceFile;
-pub use crate::split::{entry_names, listed_names};
+pub use crate::split::{entry_names, listed_names, opened_names};

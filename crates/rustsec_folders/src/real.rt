@@ -1,20 +1,22 @@
 //! The folders and files of a runtime.
 
-ghost use Rattle.std.specs.Prelude.{◌≡◌, IfErr, IfOk};
-ghost use Rattle.rustsec_files.specs.ReadFailures.{IsIoFailure, IsReadFailure, open_message};
+ghost use Rattle.std.specs.Prelude.{◌≡◌, ◌↔◌, IfErr, IfOk, IsOkAnd, IsTrue};
+ghost use Rattle.std.specs.Fs.{IsDir, file_type};
+ghost use Rattle.rustsec_files.specs.ReadFailures.{IsIoFailure, IsReadFailure, KeepsMemory, open_message};
 ghost use Rattle.rustsec_folders.specs.Allowed.{AllowSame, every_answer};
-ghost use Rattle.rustsec_folders.specs.Entries.{IsListFailure};
+ghost use Rattle.rustsec_folders.specs.Entries.{IsListFailure, ListsNames};
 ghost use Rattle.rustsec_folders.specs.Names.{AreNames, names_of};
 ghost use Rattle.rustsec_versions.specs.Failure.{IsOfKind, IsRefusal};
 
 use crate::entry::FolderEntry;
 use crate::folders::Folders;
 use crate::names::joined;
-use crate::split::listed_names;
+use crate::split::opened_names;
 use rustsec_files::reading;
 use rustsec_values::{Items, Text};
 use rustsec_versions::{ErrorKind, Result};
 use std::alloc::Global;
+use std::fs::Metadata;
 use std::rt::Files;
 use std::{fs, io};
 
@@ -27,18 +29,21 @@ fn open_folder<R: Files>(rt: &R, alloc: Global, path: &str) -> io::Result<R::Dir
 
 /// Returns the names of a folder's entries.
 fn names<R: Files>(rt: &R, alloc: Global, path: &str) -> Result<Items<Text>>
+    ensures ok { IfOk result (λ names. (listing : R.Dir) × ListsNames (R.Dir.remaining listing) names) }
     ensures kind { IfErr result (IsOfKind ErrorKind.Io) }
     ensures names { IfErr result (IsReadFailure path.now) }
 {
-    match open_folder(rt, alloc, path) {
-        Ok(mut listing) => listed_names(alloc, &mut listing, path),
-        Err(e) => Err(reading::open_failed(alloc, path, e)),
-    }
+    opened_names(alloc, open_folder(rt, alloc, path), path)
 }
 
-/// Returns whether the system says that a path is a folder's, and not that of a link to one.
-fn is_folder<R: Files>(rt: &R, path: &str) -> io::Result<bool> {
-    let metadata = fs::symlink_metadata(rt, path)?;
+/// Returns whether the system's answer about a path is that of a folder. `path` is for the message alone.
+fn is_folder_answer(alloc: Global, answer: io::Result<Metadata>, path: &str) -> Result<bool>
+    ensures ok { IfOk result (λ is. IsOkAnd answer (λ m. IsTrue is ↔ IsDir (file_type m))) }
+    ensures memory { KeepsMemory answer result }
+    ensures kind { IfErr result (IsOfKind ErrorKind.Io) }
+    ensures names { IfErr result (IsIoFailure (open_message path.now)) }
+{
+    let metadata = reading::open_answer(alloc, answer, path)?;
     Ok(metadata.is_dir())
 }
 
@@ -47,10 +52,7 @@ fn is_folder_at<R: Files>(rt: &R, alloc: Global, path: &str) -> Result<bool>
     ensures kind { IfErr result (IsOfKind ErrorKind.Io) }
     ensures names { IfErr result (IsIoFailure (open_message path.now)) }
 {
-    match is_folder(rt, path) {
-        Ok(is) => Ok(is),
-        Err(e) => Err(reading::open_failed(alloc, path, e)),
-    }
+    is_folder_answer(alloc, fs::symlink_metadata(rt, path), path)
 }
 
 /// Returns whether an entry of a folder is a folder itself. The message of a failure names the entry's own path.
@@ -84,6 +86,7 @@ fn entries_of<R: Files>(
 
 /// Returns the entries of a folder.
 fn entries<R: Files>(rt: &R, alloc: Global, path: &str) -> Result<Items<FolderEntry>>
+    ensures ok { IfOk result (λ entries. (listing : R.Dir) × ListsNames (R.Dir.remaining listing) (names_of entries)) }
     ensures kind { IfErr result (IsOfKind ErrorKind.Io) }
     ensures names { IfErr result (IsListFailure path.now) }
 {
@@ -91,7 +94,8 @@ fn entries<R: Files>(rt: &R, alloc: Global, path: &str) -> Result<Items<FolderEn
     entries_of(rt, alloc, path, names)
 }
 
-/// The folders and files of a runtime. Nothing is known of what they hold, so every answer is allowed.
+/// The folders and files of a runtime. Nothing is known of what they hold, so every answer is allowed. The
+/// names of a folder are all that its listing has, in the listing's order, except `.` and `..`.
 ///
 /// A link in a folder is not listed as a folder, and is read as the file that it leads to. A path that leads to
 /// a pipe, a device or a socket is not opened, and so does not keep a call waiting; opening may wait only where
@@ -112,14 +116,18 @@ impl<'a, R: Files> RealFolders<'a, R> {
 }
 
 impl<'a, R: Files> Folders for RealFolders<'a, R> {
+    ghost use Rattle.rustsec_files.specs.ReadFailures.{IsReadFailure};
     ghost use Rattle.rustsec_folders.specs.Allowed.{every_answer};
 
     ghost allowed = { λ _. every_answer };
+
+    ghost refuses = { λ _ path e. IsReadFailure path e };
 
     fn list(&mut self, alloc: Global, path: &str) -> Result<Items<FolderEntry>>
         ensures ok { IfOk result (λ entries. every_answer.lists path.now (Some entries)) }
         ensures err { IfErr result (IsRefusal ErrorKind.Io (every_answer.lists path.now None)) }
         ensures same { AllowSame every_answer every_answer }
+        ensures listed { IfOk result (λ entries. (listing : R.Dir) × ListsNames (R.Dir.remaining listing) (names_of entries)) }
         ensures names { IfErr result (IsListFailure path.now) }
     {
         entries(self.files, alloc, path)
@@ -130,6 +138,7 @@ impl<'a, R: Files> Folders for RealFolders<'a, R> {
         ensures ok { IfOk result (AreNames every_answer path.now) }
         ensures err { IfErr result (IsRefusal ErrorKind.Io (every_answer.lists path.now None)) }
         ensures same { AllowSame every_answer every_answer }
+        ensures listed { IfOk result (λ names. (listing : R.Dir) × ListsNames (R.Dir.remaining listing) names) }
         ensures names { IfErr result (IsReadFailure path.now) }
     {
         names(self.files, alloc, path)
@@ -139,7 +148,7 @@ impl<'a, R: Files> Folders for RealFolders<'a, R> {
         ensures ok { IfOk result (λ text. every_answer.reads path.now (Some text)) }
         ensures err { IfErr result (IsRefusal ErrorKind.Io (every_answer.reads path.now None)) }
         ensures same { AllowSame every_answer every_answer }
-        ensures names { IfErr result (IsReadFailure path.now) }
+        ensures refused { IfErr result (IsReadFailure path.now) }
     {
         let text = reading::text_of_file(self.files, alloc, path)?;
         Ok(Text::from(text))

@@ -5,7 +5,7 @@ ghost use Rattle.toml.specs.View.{table_view};
 ghost use Rattle.rustsec_graph.specs.Candidates.{candidate_of, in_entries, is_old, texts_of, with_source, with_version, without_master, without_precise};
 
 use rustsec_lock::package::Package;
-use rustsec_toml::Section;
+use rustsec_toml::{Section, TablePlace};
 use rustsec_values::{Items, Text};
 use std::alloc::{AllocError, Global};
 use toml::Table;
@@ -50,7 +50,11 @@ fn in_entries(old: bool, source: &str) -> &str
 pub(crate) fn is_old(table: &Table) -> bool
     ensures { result ≡ is_old (table_view table.now) }
 {
-    let root = Section { table, name: "" };
+    let root = Section {
+        table,
+        name: "",
+        place: TablePlace::unknown(),
+    };
     root.get("version").is_none()
 }
 

@@ -7,7 +7,7 @@ ghost use Rattle.rustsec_graph.specs.Edges.{replaced, targets_of, unreplaced, un
 ghost use Rattle.rustsec_graph.specs.Entries.{fits, fits_at, fitting, found, is_local_at, is_same_release, named, named_by, next_found, only, only_local, packages_in, release_at, table_at, value_at};
 
 use crate::candidates::Candidate;
-use rustsec_toml::Section;
+use rustsec_toml::{Section, TablePlace};
 use rustsec_values::Items;
 use std::alloc::{AllocError, Global};
 use toml::{Table, Value};
@@ -204,7 +204,11 @@ pub(crate) fn resolve_more(
 fn packages_in(table: &Table) -> Option<&[Value]>
     ensures { option_map (λ vs. map view vs.now) result ≡ packages_in (table_view table.now) }
 {
-    let root = Section { table, name: "" };
+    let root = Section {
+        table,
+        name: "",
+        place: TablePlace::unknown(),
+    };
     match root.get("package") {
         Some(value) => match value.as_array() {
             Some(array) => Some(array.as_slice()),
@@ -229,6 +233,10 @@ pub(crate) fn value_at<'a>(table: &'a Table, key: &str, place: usize) -> Option<
     ensures { option_map (λ d. view d.now) result ≡ value_at key.now (table_view table.now) place }
 {
     let table = table_at(packages_in(table)?, place)?;
-    let package = Section { table, name: "" };
+    let package = Section {
+        table,
+        name: "",
+        place: TablePlace::unknown(),
+    };
     package.get(key)
 }

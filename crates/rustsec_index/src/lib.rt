@@ -10,8 +10,6 @@ mod place;
 #[cfg(test)]
 mod tests;
 mod yanked;
-#[cfg(test)]
-mod yanked_tests;
 
 pub use crate::file::versions_in;
 pub use crate::folder::IndexFolder;

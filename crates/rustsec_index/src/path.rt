@@ -1,6 +1,6 @@
 //! Where an index has the file of a package.
 
-ghost use Rattle.std.specs.Prelude.{◌≡◌, ◌<◌, ◌∷◌, [], IfErr, IfOk, Some, length, option_map, string_bytes};
+ghost use Rattle.std.specs.Prelude.{◌≡◌, ◌<◌, ◌∷◌, [], IfErr, IfOk, OnErr, Some, length, option_map, string_bytes};
 ghost use Rattle.std.specs.List.{list_all};
 ghost use Rattle.std.specs.Str.{IsAscii};
 ghost use Rattle.rustsec_values.specs.Reading.{only_if};
@@ -83,6 +83,9 @@ fn folders_of(alloc: Global, name: &str) -> std::result::Result<Items<Text>, All
 pub fn index_path(alloc: Global, name: &str) -> Result<Option<Items<Text>>>
     ensures ok { IfOk result (λ path. path ≡ index_path name.now) }
     ensures err { IfErr result IsMemory }
+
+    // The empty text takes no memory.
+    ensures none { OnErr result (0 < length name.now) }
 {
     if name.is_empty() {
         return Ok(None);

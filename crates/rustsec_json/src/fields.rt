@@ -21,6 +21,7 @@ use std::alloc::Global;
 pub fn fields_of(alloc: Global, tree: &Value) -> Result<&Map<String, Value>>
     ensures ok { IfOk result (λ m. as_object (view tree.now) ≡ Some (members_view m.now.entries)) }
     ensures err { IfErr result (IsRefusal ErrorKind.Parse (as_object (view tree.now) ≡ None)) }
+    ensures none { IfErr result (λ e. as_object (view tree.now) ≡ None) }
 {
     match tree.as_object() {
         Some(fields) => Ok(fields),

@@ -10,4 +10,4 @@ mod texts;
 pub use crate::fields::{fields_of, list_at, member, optional_at, required_at};
 pub use crate::make::ToTree;
 pub use crate::read::FromTree;
-pub use crate::refusal::{at_key, refused, unexpected};
+pub use crate::refusal::{at_index, at_key, refused, unexpected};

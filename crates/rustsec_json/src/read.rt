@@ -7,7 +7,7 @@ ghost use Rattle.rustsec_json.specs.Fields.{list_of, text};
 ghost use Rattle.rustsec_values.specs.Reading.{read_all};
 ghost use Rattle.rustsec_versions.specs.Failure.{IsRefusal};
 
-use crate::refusal::unexpected;
+use crate::refusal::{at_index, unexpected};
 use rustsec_values::Items;
 use rustsec_versions::{ErrorKind, FromText, Result};
 use serde_json::Value;
@@ -27,6 +27,17 @@ pub trait FromTree: Drop + Sized {
         ensures err { IfErr result (IsRefusal ErrorKind.Parse (Self.reads (view tree.now) ≡ None)) };
 }
 
+/// Reads the value of a tree at a position in a list.
+fn element<T: FromTree>(alloc: Global, tree: &Value, index: usize) -> Result<T>
+    ensures ok { IfOk result (λ x. T.reads (view tree.now) ≡ Some x) }
+    ensures err { IfErr result (IsRefusal ErrorKind.Parse (T.reads (view tree.now) ≡ None)) }
+{
+    match T::from_tree(alloc, tree) {
+        Ok(value) => Ok(value),
+        Err(e) => Err(at_index(alloc, index, &e)),
+    }
+}
+
 /// Reads the values of trees, in order.
 fn list<T: FromTree>(alloc: Global, trees: &Vec<Value>) -> Result<Items<T>>
     ensures ok { IfOk result (λ xs. read_all T.reads (list_of (items_view trees.now.items)) ≡ Some xs) }
@@ -34,7 +45,7 @@ fn list<T: FromTree>(alloc: Global, trees: &Vec<Value>) -> Result<Items<T>>
 {
     let mut read = Items::new(alloc);
     for tree in trees {
-        match T::from_tree(alloc, tree) {
+        match element::<T>(alloc, tree, read.len()) {
             Ok(value) => read.push(value)?,
             Err(e) => return Err(e),
         }

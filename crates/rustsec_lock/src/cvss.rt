@@ -1,8 +1,9 @@
 //! CVSS vectors: CVSS 3.1, section 6, and version 4 as a text.
 
-ghost use Rattle.std.specs.Prelude.{◌≡◌, ◌==◌, Some, None, IfErr, IfOk, IfSome, length, map, option_map};
+ghost use Rattle.std.specs.Prelude.{◌≡◌, ◌==◌, ℕ, List, OnErr, Some, None, IfErr, IfOk, IfSome, length, map, option_map};
 ghost use Rattle.std.specs.Fmt.{DisplaysOnOk};
 ghost use Rattle.rustsec_versions.specs.Failure.{IsMemory, IsRefusal};
+ghost use Rattle.rustsec_lock.specs.declared.cvss.Cvss.TheVariants as cvss;
 ghost use Rattle.rustsec_lock.specs.Cvss.{base_of, base_text, behind, cvss_of, cvss_severity, cvss_text, given, metric, metrics_of, parts_of};
 
 use crate::metrics::Base;
@@ -149,6 +150,9 @@ impl Cvss {
     pub fn clone(&self, _alloc: Global) -> Result<Cvss>
         ensures ok { IfOk result (λ v. v ≡ self.now) }
         ensures err { IfErr result IsMemory }
+
+        // A vector of version 3 takes no memory.
+        ensures none { OnErr result ((text : List ℕ) × (self.now ≡ cvss.CvssV40 text)) }
     {
         let copy = Clone::clone(self)?;
         Ok(copy)
@@ -168,7 +172,11 @@ impl FromText for Cvss {
 impl Clone for Cvss {
     ghost is_clone = { λ a b. b ≡ a };
 
-    fn clone(&self) -> std::result::Result<Cvss, AllocError> {
+    // A vector of version 3 takes no memory.
+    fn clone(&self) -> std::result::Result<Cvss, AllocError>
+        ensures ok { IfOk result (λ c. c ≡ self.now) }
+        ensures none { OnErr result ((text : List ℕ) × (self.now ≡ cvss.CvssV40 text)) }
+    {
         match self {
             Cvss::CvssV30(base) => Ok(Cvss::CvssV30(*base)),
             Cvss::CvssV31(base) => Ok(Cvss::CvssV31(*base)),

@@ -1,36 +1,49 @@
 //! Lockfiles (`Cargo.lock`).
 
 ghost use Rattle.std.specs.Prelude.{◌≡◌, ◌++◌, ◌∷◌, ◌⊎◌, [], ℕ, IfErr, IfOk, List, None, OnOk, Some, option_map};
+ghost use Rattle.semver.specs.Identifiers.{parts_of};
 ghost use Rattle.toml.specs.View.{array_view, table_view, view};
 ghost use Rattle.rustsec_values.specs.Reading.{read_all, read_optional};
 ghost use Rattle.rustsec_folders.specs.Allowed.{AllowSame, real_folders};
 ghost use Rattle.rustsec_versions.specs.Failure.{IsMemory, IsOfKind, IsRefusal};
 ghost use Rattle.rustsec_toml.specs.Fields.{list_of};
-ghost use Rattle.rustsec_lock.specs.Lockfile.{AreValid, IsLockfileAt, IsLockfileRefusal, IsParseFailure, NamesLockfile, lockfile_of, package_in, package_of, packages_of};
+ghost use Rattle.rustsec_lock.specs.Lockfile.{AreValid, IsLockfileAt, IsLockfileRefusal, IsParseFailure, NamesLockfile, lockfile_of, package_in, package_of, packages_of, version_of};
 ghost use Rattle.rustsec_lock.specs.Source.{source_id_of};
 
 use crate::names::Name;
 use crate::packages::Package;
 use crate::source::SourceId;
 use rustsec_folders::{Folders, RealFolders};
-use rustsec_toml::Section;
+use rustsec_toml::{Section, TablePlace, document};
 use rustsec_values::{ExactClone, ExactEq, Items, Text, beginning_of};
 use rustsec_versions::{
     Error, ErrorKind, Result, read_version, refused_at, refused_file, refused_text,
 };
+use semver::Version;
 use std::alloc::{AllocError, Global};
 use std::rt::Files;
 use toml::value::Array;
 use toml::{Table, Value};
 
-/// Parses a source that may be missing.
-fn source_of(alloc: Global, text: Option<&str>) -> Result<Option<SourceId>>
+/// Parses the version of a package.
+fn version_in(alloc: Global, section: Section<'_>, text: &str) -> Result<Version>
+    ensures ok { IfOk result (λ v. version_of text.now ≡ Some (parts_of v)) }
+    ensures err { IfErr result (IsRefusal ErrorKind.Parse (version_of text.now ≡ None)) }
+{
+    match read_version(alloc, text, text) {
+        Ok(version) => Ok(version),
+        Err(e) => Err(section.refused_at(alloc, "version", &e)),
+    }
+}
+
+/// Parses the source of a package, which may be missing.
+fn source_in(alloc: Global, section: Section<'_>, text: Option<&str>) -> Result<Option<SourceId>>
     ensures ok { IfOk result (λ s. read_optional source_id_of (option_map (λ t. t.now) text.entry) ≡ Some s) }
     ensures err { IfErr result (IsRefusal ErrorKind.Parse (read_optional source_id_of (option_map (λ t. t.now) text.entry) ≡ None)) }
 {
     match text {
         Some(text) => {
-            let source = SourceId::from_url(alloc, text)?;
+            let source = section.read(alloc, "source", text)?;
             Ok(Some(source))
         }
         None => Ok(None),
@@ -38,18 +51,18 @@ fn source_of(alloc: Global, text: Option<&str>) -> Result<Option<SourceId>>
 }
 
 /// Reads the package of a table.
-fn package_in(alloc: Global, table: &Table) -> Result<Package>
+fn package_in(alloc: Global, table: &Table, place: TablePlace<'_>) -> Result<Package>
     ensures ok { IfOk result (λ p. package_in (table_view table.now) ≡ Some p) }
     ensures err { IfErr result (IsRefusal ErrorKind.Parse (package_in (table_view table.now) ≡ None)) }
 {
     let section = Section {
         table,
         name: "[[package]]",
+        place,
     };
-    let name = Name::from_str(alloc, section.string_at(alloc, "name")?)?;
-    let version = section.string_at(alloc, "version")?;
-    let version = read_version(alloc, version, version)?;
-    let source = source_of(alloc, section.optional_string_at(alloc, "source")?)?;
+    let name: Name = section.read(alloc, "name", section.string_at(alloc, "name")?)?;
+    let version = version_in(alloc, section, section.string_at(alloc, "version")?)?;
+    let source = source_in(alloc, section, section.optional_string_at(alloc, "source")?)?;
     let checksum = Text::from_option(alloc, section.optional_string_at(alloc, "checksum")?)?;
     Ok(Package {
         name,
@@ -60,13 +73,16 @@ fn package_in(alloc: Global, table: &Table) -> Result<Package>
 }
 
 /// Reads the package of a value, which must be a table.
-fn package_of(alloc: Global, value: &Value) -> Result<Package>
+fn package_of(alloc: Global, value: &Value, place: TablePlace<'_>) -> Result<Package>
     ensures ok { IfOk result (λ p. package_of (view value.now) ≡ Some p) }
     ensures err { IfErr result (IsRefusal ErrorKind.Parse (package_of (view value.now) ≡ None)) }
 {
     match value.as_table() {
-        Some(table) => package_in(alloc, table),
-        None => Err(refused_text(alloc, "not a package: found", value.type_str(), "a table")),
+        Some(table) => package_in(alloc, table, place),
+        None => {
+            let error = refused_text(alloc, "not a package: found", value.type_str(), "a table");
+            Err(place.refused_at(alloc, "", error))
+        }
     }
 }
 
@@ -93,12 +109,28 @@ fn in_package(alloc: Global, index: usize, value: &Value, error: &Error) -> Erro
     }
 }
 
-/// Appends the package of a value.
-fn add_package(alloc: Global, packages: &mut Items<Package>, value: &Value) -> Result<()>
+/// Returns the place of a package in the text of a lockfile.
+fn package_place(text: &str, index: usize) -> TablePlace<'_> {
+    TablePlace {
+        text,
+        path: &["package"],
+        index: Some(index),
+        line: 1,
+    }
+}
+
+/// Appends the package of a value in the text of a lockfile, which is empty if it is unknown.
+fn add_package(
+    alloc: Global,
+    packages: &mut Items<Package>,
+    value: &Value,
+    text: &str,
+) -> Result<()>
     ensures ok { OnOk result (option_map (λ p. packages.old ++ p ∷ []) (package_of (view value.now)) ≡ Some packages.new) }
     ensures err { IfErr result (IsRefusal ErrorKind.Parse (package_of (view value.now) ≡ None)) }
 {
-    match package_of(alloc, value) {
+    let place = package_place(text, packages.len());
+    match package_of(alloc, value, place) {
         Ok(package) => {
             packages.push(package)?;
             Ok(())
@@ -108,28 +140,34 @@ fn add_package(alloc: Global, packages: &mut Items<Package>, value: &Value) -> R
 }
 
 /// Reads the packages of an array, in order.
-fn packages_in(alloc: Global, array: &Array) -> Result<Items<Package>>
+fn packages_in(alloc: Global, array: &Array, text: &str) -> Result<Items<Package>>
     ensures ok { IfOk result (λ ps. read_all package_of (list_of (array_view array.now)) ≡ Some ps) }
     ensures err { IfErr result (IsRefusal ErrorKind.Parse (read_all package_of (list_of (array_view array.now)) ≡ None)) }
 {
     let mut packages = Items::new(alloc);
     for value in array {
-        add_package(alloc, &mut packages, value)?;
+        add_package(alloc, &mut packages, value, text)?;
     }
     Ok(packages)
 }
 
-/// Returns the error for a text that is not a TOML document; its cause is the reason of `toml`.
-fn no_document(alloc: Global, error: &toml::de::Error) -> Error
-    ensures { IsOfKind ErrorKind.Parse result }
+/// Reads the packages of a lockfile's table in this text, which is empty if it is unknown.
+#[tactic(auto, using(crate::proofs::ValidVersions::values_valid))]
+fn packages_at(alloc: Global, table: &Table, text: &str) -> Result<Items<Package>>
+    ensures ok { IfOk result (λ ps. packages_of (table_view table.now) ≡ Some ps) }
+    ensures valid { IfOk result AreValid }
+    ensures err { IfErr result (IsRefusal ErrorKind.Parse (packages_of (table_view table.now) ≡ None)) }
 {
-    match format!(in alloc; "{error}") {
-        Ok(cause) => {
-            let message = "the lockfile is no TOML document";
-            Error::with_source(alloc, ErrorKind::Parse, message, &cause)
-        }
-        Err(refused) => Error::from(refused),
-    }
+    let section = Section {
+        table,
+        name: "the lockfile",
+        place: TablePlace::whole(text),
+    };
+    let Some(value) = section.get("package") else {
+        return Ok(Items::new(alloc));
+    };
+    let array = section.array_of(alloc, "package", value, "an array of tables")?;
+    packages_in(alloc, array, text)
 }
 
 /// A lockfile: its packages, in order.
@@ -148,23 +186,12 @@ impl Lockfile {
     ///
     /// `Parse` if a value is of another type, a name or a version is missing, or a text is refused; else
     /// `OutOfMemory`. The message names the package, by its position from 1 on and its name.
-    #[tactic(auto, using(crate::proofs::ValidVersions::values_valid))]
     pub fn from_table(alloc: Global, table: &Table) -> Result<Lockfile>
         ensures ok { IfOk result (λ l. packages_of (table_view table.now) ≡ Some l.packages) }
         ensures valid { IfOk result (λ l. AreValid l.packages) }
         ensures err { IfErr result (IsRefusal ErrorKind.Parse (packages_of (table_view table.now) ≡ None)) }
     {
-        let section = Section {
-            table,
-            name: "the lockfile",
-        };
-        let Some(value) = section.get("package") else {
-            return Ok(Lockfile {
-                packages: Items::new(alloc),
-            });
-        };
-        let array = section.array_of(alloc, "package", value, "an array of tables")?;
-        let packages = packages_in(alloc, array)?;
+        let packages = packages_at(alloc, table, "")?;
         Ok(Lockfile { packages })
     }
 
@@ -172,22 +199,16 @@ impl Lockfile {
     ///
     /// # Errors
     ///
-    /// `Parse` if the text is not a TOML document, or `from_table` refuses its table; else
-    /// `OutOfMemory`.
+    /// `Parse` if the text is not a TOML document, or `from_table` refuses its table; else `OutOfMemory`. The message has
+    /// the line and the column of the fault, both from 1 on, and the beginning of that line.
     pub fn from_str(alloc: Global, text: &str) -> Result<Lockfile>
         ensures ok { IfOk result (λ l. lockfile_of text.now ≡ Some l.packages) }
         ensures valid { IfOk result (λ l. AreValid l.packages) }
         ensures err { IfErr result (IsRefusal ErrorKind.Parse (lockfile_of text.now ≡ None)) }
     {
-        match toml::table_from_str(alloc, text) {
-            Ok(table) => Lockfile::from_table(alloc, &table),
-            Err(e) => {
-                if e.is_memory() {
-                    return Err(Error::from(AllocError));
-                }
-                Err(no_document(alloc, &e))
-            }
-        }
+        let table = document(alloc, text, TablePlace::whole(text), "the lockfile")?;
+        let packages = packages_at(alloc, &table, text)?;
+        Ok(Lockfile { packages })
     }
 
     /// Reads the lockfile of a file's text. `path` is for the message alone.
@@ -214,6 +235,7 @@ impl Lockfile {
         ensures valid { IfOk result (λ l. AreValid l.packages) }
         ensures err { IfErr result (IsLockfileRefusal (F.allowed folders.old) path.now) }
         ensures same { AllowSame (F.allowed folders.old) (F.allowed folders.new) }
+        ensures names { IfErr result (λ e. IsParseFailure path.now e ⊎ F.refuses folders.old path.now e) }
     {
         let text = folders.read(alloc, path)?;
         Lockfile::of_file(alloc, path, text.as_str())
@@ -230,8 +252,7 @@ impl Lockfile {
         ensures err { IfErr result (IsLockfileRefusal real_folders path.now) }
         ensures names { IfErr result (NamesLockfile path.now) }
     {
-        let text = RealFolders::new(rt).read(alloc, path)?;
-        Lockfile::of_file(alloc, path, text.as_str())
+        Lockfile::load_with(alloc, &mut RealFolders::new(rt), path)
     }
 
     /// Returns an equal lockfile.

@@ -168,7 +168,11 @@ impl FromText for Arch {
 
     ghost reads = { arch_of };
 
-    fn from_text(alloc: Global, text: &str) -> Result<Arch> {
+    fn from_text(alloc: Global, text: &str) -> Result<Arch>
+        ensures ok { IfOk result (λ x. arch_of text.now ≡ Some x) }
+        ensures err { IfErr result (IsRefusal ErrorKind.Parse (arch_of text.now ≡ None)) }
+        ensures none { IfErr result (λ e. arch_of text.now ≡ None) }
+    {
         Arch::from_str(alloc, text)
     }
 }
@@ -399,7 +403,11 @@ impl FromText for OS {
 
     ghost reads = { os_of };
 
-    fn from_text(alloc: Global, text: &str) -> Result<OS> {
+    fn from_text(alloc: Global, text: &str) -> Result<OS>
+        ensures ok { IfOk result (λ x. os_of text.now ≡ Some x) }
+        ensures err { IfErr result (IsRefusal ErrorKind.Parse (os_of text.now ≡ None)) }
+        ensures none { IfErr result (λ e. os_of text.now ≡ None) }
+    {
         OS::from_str(alloc, text)
     }
 }

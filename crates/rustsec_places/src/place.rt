@@ -1,7 +1,11 @@
 //! Lines and columns.
 
-ghost use Rattle.std.specs.Prelude.{◌≡◌, ◌≤◌, ◌<◌, ◌+◌, ◌^◌, length};
-ghost use Rattle.rustsec_places.specs.Places.{after_byte, goes_on, place_after};
+ghost use Rattle.std.specs.Prelude.{◌≡◌, ◌≤◌, ◌<◌, ◌+◌, ◌-◌, ◌^◌, ℕ, List, length};
+ghost use Rattle.rustsec_values.specs.Beginnings.{IsBeginning};
+ghost use Rattle.rustsec_places.specs.Places.{after_byte, beginning, goes_on, place_after};
+
+use rustsec_values::beginning_of;
+use std::alloc::{AllocError, Global};
 
 /// A place in a text. Both numbers are from 1 on, and a column counts characters.
 #[derive(Clone, Copy, Debug, PartialEq, Eq)]
@@ -56,4 +60,40 @@ pub(crate) fn place_after(place: Place, bytes: &[u8]) -> Place
         after = after_byte(after, *byte);
     }
     after
+}
+
+impl Place {
+    /// Returns the place of an offset in a text. An offset within a character is that of the character's first byte.
+    pub fn of_offset(text: &str, offset: usize) -> Place
+        ensures { (before : List ℕ) × (IsBeginning offset text.now before × (result ≡ place_after beginning before)) }
+    {
+        let start = Place { line: 1, column: 1 };
+        place_after(start, beginning_of(text, offset).as_bytes())
+    }
+
+    /// Returns the place at which the end of a text begins.
+    pub fn of_end(text: &str, end: &str) -> Place
+        ensures { (before : List ℕ) × (IsBeginning (length text.now - length end.now) text.now before × (result ≡ place_after beginning before)) }
+    {
+        Place::of_offset(text, text.len().saturating_sub(end.len()))
+    }
+
+    /// Returns the same place of a file in which the text begins at this line.
+    pub fn from_line(self, line: usize) -> Place {
+        let before = line.saturating_sub(1);
+        Place {
+            line: self.line.saturating_add(before),
+            column: self.column,
+        }
+    }
+
+    /// Returns the place in words.
+    ///
+    /// # Errors
+    ///
+    /// `AllocError` alone.
+    pub fn in_words(self, alloc: Global) -> Result<String, AllocError> {
+        let Place { line, column } = self;
+        format!(in alloc; "line {line}, column {column}")
+    }
 }

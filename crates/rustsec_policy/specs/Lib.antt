@@ -1,3 +1,4 @@
+pub mod Entries
 pub mod Keys
 pub mod Nearest
 pub mod Notes

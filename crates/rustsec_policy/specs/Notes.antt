@@ -50,7 +50,7 @@ is_yanked denied.Yanked = true
 -- the note on the denied word that fits no finding without an index
 abbrev pub yanked_note : Bool → Option (List ℕ)
 yanked_note false = None
-yanked_note true = Some (codes "`yanked` at `deny` in [output] denies nothing: no package is reported as yanked here")
+yanked_note true = Some (codes "`yanked` at `deny` in [output] denies nothing without an index: no package is looked up")
 
 -- ---- keys without effect
 

@@ -9,8 +9,9 @@ ghost use Rattle.rustsec_versions.specs.Failure.{IsOfKind, IsRefusal};
 ghost use Rattle.rustsec_policy.specs.Policies.{counts_until, id_on, ids_on, ignored_in, ignored_of, known_id};
 
 use crate::keys::{IgnoredKeys, expect_keys};
+use crate::nearest::{asking, with_nearest};
 use rustsec_texts::{Date, Id};
-use rustsec_toml::Section;
+use rustsec_toml::{Section, TablePlace};
 use rustsec_values::{Items, Text};
 use rustsec_versions::{Error, ErrorKind, Result, refused_text};
 use std::alloc::Global;
@@ -29,6 +30,40 @@ pub struct Ignored {
     pub until: Option<Date>,
 }
 
+/// The beginnings of known IDs.
+const BEGINNINGS: [&str; 4] = ["RUSTSEC-", "CVE-", "GHSA-", "TALOS-"];
+
+/// Returns the beginning of an ID up to the first hyphen, with it.
+fn beginning(text: &str) -> &str {
+    match text.split_once('-') {
+        Some((word, _)) => text.get(..word.len().saturating_add(1)).unwrap_or(word),
+        None => text,
+    }
+}
+
+/// Returns the known beginning of an ID that differs from a text in the case of letters alone, if any.
+fn other_case(beginning: &str) -> Option<&'static str> {
+    for known in &BEGINNINGS {
+        if known.eq_ignore_ascii_case(beginning) {
+            return Some(known);
+        }
+    }
+    None
+}
+
+/// Returns the error for an ID in an unknown form. It names the nearest known beginning, if one is near.
+fn unknown_form(alloc: Global, text: &str) -> Error
+    ensures { IsOfKind ErrorKind.Parse result }
+{
+    let expected = "`RUSTSEC-`, `CVE-`, `GHSA-` or `TALOS-` at its beginning";
+    let error = refused_text(alloc, "unknown form of ID", text, expected);
+    let beginning = beginning(text);
+    match other_case(beginning) {
+        Some(known) => asking(alloc, &error, known),
+        None => with_nearest(alloc, error, &BEGINNINGS, beginning),
+    }
+}
+
 /// Reads the ID of an advisory, whose beginning says who assigns it.
 fn known_id(alloc: Global, text: &str) -> Result<Id>
     ensures ok { IfOk result (λ id. known_id text.now ≡ Some id) }
@@ -36,8 +71,7 @@ fn known_id(alloc: Global, text: &str) -> Result<Id>
 {
     let id = Id::from_str(alloc, text)?;
     if id.is_other() {
-        let expected = "`RUSTSEC-`, `CVE-`, `GHSA-` or `TALOS-` at its beginning";
-        return Err(refused_text(alloc, "unknown form of ID", text, expected));
+        return Err(unknown_form(alloc, text));
     }
     Ok(id)
 }
@@ -62,6 +96,7 @@ fn ignored_in(alloc: Global, table: &Table) -> Result<Ignored>
     let section = Section {
         table,
         name: "an entry of `ignore`",
+        place: TablePlace::unknown(),
     };
     if let Err(refused) = expect_keys::<IgnoredKeys>(alloc, section) {
         return Err(refused.error);

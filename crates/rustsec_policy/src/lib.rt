@@ -2,6 +2,7 @@
 //! `audit.toml` of cargo-audit).
 #![tactic(auto)]
 
+mod entries;
 mod flags;
 mod ignored;
 mod keys;
@@ -11,15 +12,16 @@ mod places;
 mod policy;
 mod refused;
 mod sections;
-mod statements;
 #[cfg(test)]
 mod tests;
 mod threshold;
 mod unused;
 mod words;
 
+pub use crate::entries::entry_with;
 pub use crate::ignored::Ignored;
 pub use crate::nearest::nearest_word;
+pub use crate::notes::denies_yanked;
 pub use crate::policy::Policy;
 pub use crate::sections::{AdvisoryPolicy, OutputPolicy, TargetPolicy};
 pub use crate::threshold::read_severity;

@@ -47,7 +47,7 @@ pub fn nearest_word<'a>(
 }
 
 /// Returns an error whose message also asks whether a word is meant. Out of memory stays as it is.
-fn asking(alloc: Global, error: &Error, word: &str) -> Error
+pub(crate) fn asking(alloc: Global, error: &Error, word: &str) -> Error
     ensures kind { IsOfKind error.now.kind result }
     ensures memory { IsMemory error.now → IsMemory result }
 {

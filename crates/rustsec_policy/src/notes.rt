@@ -54,8 +54,8 @@ fn is_yanked(word: Denied) -> bool
     }
 }
 
-/// Returns whether one of some words denies yanked versions alone.
-fn some_yanked(words: &[Denied]) -> bool
+/// Returns whether one of some words is the one that denies yanked versions alone.
+pub fn denies_yanked(words: &[Denied]) -> bool
     ensures { result ≡ list_any is_yanked words.now }
 {
     words.iter().any(|word| is_yanked(*word))
@@ -66,7 +66,9 @@ fn yanked_note(is_denied: bool) -> Option<&'static str>
     ensures { option_map (λ note. note.now) result ≡ yanked_note is_denied }
 {
     if is_denied {
-        Some("`yanked` at `deny` in [output] denies nothing: no package is reported as yanked here")
+        Some(
+            "`yanked` at `deny` in [output] denies nothing without an index: no package is looked up",
+        )
     } else {
         None
     }
@@ -171,7 +173,7 @@ impl Policy {
             self.database.asks_for_network(),
             self.yanked.asks_for_network(has_index),
         );
-        let yanked = yanked_note(!has_index && some_yanked(self.output.deny.as_slice()));
+        let yanked = yanked_note(!has_index && denies_yanked(self.output.deny.as_slice()));
         let mut notes = Items::new(alloc);
         add(alloc, &mut notes, network)?;
         add(alloc, &mut notes, package_note(self.packages.source))?;

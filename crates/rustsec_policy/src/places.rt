@@ -1,78 +1,12 @@
 //! The places in a policy file at which it is refused: lines and columns, from 1 on. A column counts characters.
 
-ghost use Rattle.std.specs.Prelude.{◌≡◌};
 ghost use Rattle.rustsec_versions.specs.Failure.{IsMemory, IsOfKind};
 
 use crate::refused::Refused;
-use crate::statements::{element_at, key_at};
-use rustsec_values::beginning_of;
-use rustsec_versions::{Error, ErrorKind, refused_at};
-use std::alloc::{AllocError, Global};
-use std::fmt::Write as _;
-
-/// A place in a text.
-#[derive(Clone, Copy)]
-struct Place {
-    line: usize,
-    column: usize,
-}
-
-/// Returns the place of an offset in a text.
-fn place_of(text: &str, offset: usize) -> Place {
-    let mut place = Place { line: 1, column: 1 };
-    for c in beginning_of(text, offset).chars() {
-        if c == '\n' {
-            place.line = place.line.saturating_add(1);
-            place.column = 1;
-        } else {
-            place.column = place.column.saturating_add(1);
-        }
-    }
-    place
-}
-
-/// Returns a place in words.
-fn in_words(alloc: Global, place: Place) -> Result<String, AllocError> {
-    let Place { line, column } = place;
-    format!(in alloc; "line {line}, column {column}")
-}
-
-/// Returns the beginning of a line of a text, with its control characters escaped.
-fn shown_line(alloc: Global, text: &str, line: usize) -> Result<String, AllocError> {
-    let line = text.split('\n').nth(line.saturating_sub(1)).unwrap_or("");
-    let mut shown = String::new(alloc);
-    for c in beginning_of(line.trim_end_matches('\r'), 60).chars() {
-        if c.is_control() {
-            let escaped = c.escape_unicode();
-            write!(shown, "{escaped}")?;
-        } else {
-            shown.push(c)?;
-        }
-    }
-    Ok(shown)
-}
-
-/// Returns the message for a text that is not a TOML document from the offset of its fault.
-fn no_document_at(alloc: Global, text: &str, offset: usize) -> Result<String, AllocError> {
-    let place = place_of(text, offset);
-    let (words, line) = (
-        in_words(alloc, place)?,
-        shown_line(alloc, text, place.line)?,
-    );
-    format!(in alloc; "{words}: the policy file is not a TOML document, at `{line}`")
-}
-
-/// Returns the error for a text that is not a TOML document. Its message has the place of the fault and the line, and
-/// its cause is the reason of `toml`.
-pub(crate) fn no_document(alloc: Global, text: &str, error: &toml::de::Error) -> Error
-    ensures { IsOfKind ErrorKind.Parse result }
-{
-    let offset = error.span().map_or(0, |span| span.start);
-    match no_document_at(alloc, text, offset) {
-        Ok(message) => Error::with_source(alloc, ErrorKind::Parse, &message, error.message()),
-        Err(refused) => Error::from(refused),
-    }
-}
+use rustsec_places::Place;
+use rustsec_toml::{element_at, key_at};
+use rustsec_versions::{Error, refused_at};
+use std::alloc::Global;
 
 /// Returns the name of a table without its brackets, or `None` for the table of the whole document.
 fn bare_name(table: &str) -> Option<&str> {
@@ -110,8 +44,7 @@ pub(crate) fn refused_in_text(alloc: Global, text: &str, refused: Refused<'_>) -
     let Some(part) = refused_part(alloc, text, &refused) else {
         return refused.error;
     };
-    let place = place_of(text, text.len().saturating_sub(part.len()));
-    match in_words(alloc, place) {
+    match Place::of_end(text, part).in_words(alloc) {
         Ok(words) => refused_at(alloc, &words, &refused.error),
         Err(refused) => Error::from(refused),
     }

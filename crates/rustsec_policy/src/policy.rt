@@ -6,11 +6,11 @@ ghost use Rattle.rustsec_versions.specs.Failure.{IsRefusal};
 ghost use Rattle.rustsec_policy.specs.Policies.{advisories_in, database_in, no_advisories, no_database, no_output, no_packages, no_target, no_yanked, output_in, packages_in, policy_in, policy_of, section_at, target_in, yanked_in};
 
 use crate::keys::{SectionKeys, expect_keys};
-use crate::places::{no_document, refused_in_text};
+use crate::places::refused_in_text;
 use crate::refused::{Read, at_key};
 use crate::sections::{AdvisoryPolicy, OutputPolicy, TargetPolicy};
 use crate::unused::{DatabasePolicy, PackagePolicy, YankedPolicy};
-use rustsec_toml::Section;
+use rustsec_toml::{Section, TablePlace, document};
 use rustsec_versions::{Error, ErrorKind, Result};
 use std::alloc::{AllocError, Global};
 use toml::Table;
@@ -128,6 +128,7 @@ fn read_policy(alloc: Global, table: &Table) -> Read<'_, Policy>
     let file = Section {
         table,
         name: "the policy file",
+        place: TablePlace::unknown(),
     };
     expect_keys::<SectionKeys>(alloc, file)?;
     let advisories = advisories_at(alloc, file)?;
@@ -173,17 +174,10 @@ impl Policy {
         ensures ok { IfOk result (λ p. policy_of text.now ≡ Some p) }
         ensures err { IfErr result (IsRefusal ErrorKind.Parse (policy_of text.now ≡ None)) }
     {
-        match toml::table_from_str(alloc, text) {
-            Ok(table) => match read_policy(alloc, &table) {
-                Ok(policy) => Ok(policy),
-                Err(refused) => Err(refused_in_text(alloc, text, refused)),
-            },
-            Err(e) => {
-                if e.is_memory() {
-                    return Err(Error::from(AllocError));
-                }
-                Err(no_document(alloc, text, &e))
-            }
+        let table = document(alloc, text, TablePlace::whole(text), "the policy file")?;
+        match read_policy(alloc, &table) {
+            Ok(policy) => Ok(policy),
+            Err(refused) => Err(refused_in_text(alloc, text, refused)),
         }
     }
 }

@@ -19,7 +19,7 @@ use crate::words::{Denied, OutputFormat};
 use rustsec_lock::Severity;
 use rustsec_lock::platforms::{Arch, OS};
 use rustsec_texts::{Date, Id, Informational};
-use rustsec_toml::Section;
+use rustsec_toml::{Section, TablePlace};
 use rustsec_values::{Items, Named, value_named};
 use rustsec_versions::{Error, ErrorKind, FromText, Result};
 use std::alloc::Global;
@@ -145,6 +145,7 @@ impl AdvisoryPolicy {
         let section = Section {
             table,
             name: "[advisories]",
+            place: TablePlace::unknown(),
         };
         expect_keys::<AdvisoryKeys>(alloc, section)?;
         let ignore = entries_at(alloc, section)?;
@@ -187,6 +188,7 @@ impl OutputPolicy {
         let section = Section {
             table,
             name: "[output]",
+            place: TablePlace::unknown(),
         };
         expect_keys::<OutputKeys>(alloc, section)?;
         let deny = at_key(section, "deny", section.texts_at(alloc, "deny"))?;
@@ -271,6 +273,7 @@ impl TargetPolicy {
         let section = Section {
             table,
             name: "[target]",
+            place: TablePlace::unknown(),
         };
         expect_keys::<TargetKeys>(alloc, section)?;
         let arch = at_key(section, "arch", words_at(alloc, section, "arch"))?;

@@ -13,7 +13,7 @@ use crate::flags::flag_at;
 use crate::keys::{DatabaseKeys, PackageKeys, YankedKeys, expect_keys};
 use crate::refused::{Read, at_key};
 use crate::words::PackageSource;
-use rustsec_toml::Section;
+use rustsec_toml::{Section, TablePlace};
 use rustsec_values::Text;
 use rustsec_versions::{ErrorKind, Result};
 use std::alloc::Global;
@@ -89,6 +89,7 @@ impl DatabasePolicy {
         let section = Section {
             table,
             name: "[database]",
+            place: TablePlace::unknown(),
         };
         expect_keys::<DatabaseKeys>(alloc, section)?;
         let path = at_key(section, "path", optional_text(alloc, section, "path"))?;
@@ -120,6 +121,7 @@ impl PackagePolicy {
         let section = Section {
             table,
             name: "[packages]",
+            place: TablePlace::unknown(),
         };
         expect_keys::<PackageKeys>(alloc, section)?;
         let source = at_key(section, "source", section.optional_text_at(alloc, "source"))?;
@@ -165,6 +167,7 @@ impl YankedPolicy {
         let section = Section {
             table,
             name: "[yanked]",
+            place: TablePlace::unknown(),
         };
         expect_keys::<YankedKeys>(alloc, section)?;
         let enabled = flag_at(alloc, section, "enabled")?;

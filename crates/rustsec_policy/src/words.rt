@@ -112,7 +112,11 @@ impl FromText for Denied {
 
     ghost reads = { denied_of };
 
-    fn from_text(alloc: Global, text: &str) -> Result<Denied> {
+    fn from_text(alloc: Global, text: &str) -> Result<Denied>
+        ensures ok { IfOk result (λ x. denied_of text.now ≡ Some x) }
+        ensures err { IfErr result (IsRefusal ErrorKind.Parse (denied_of text.now ≡ None)) }
+        ensures none { IfErr result (λ e. denied_of text.now ≡ None) }
+    {
         Denied::from_str(alloc, text)
     }
 }
@@ -190,7 +194,11 @@ impl FromText for OutputFormat {
 
     ghost reads = { format_of };
 
-    fn from_text(alloc: Global, text: &str) -> Result<OutputFormat> {
+    fn from_text(alloc: Global, text: &str) -> Result<OutputFormat>
+        ensures ok { IfOk result (λ x. format_of text.now ≡ Some x) }
+        ensures err { IfErr result (IsRefusal ErrorKind.Parse (format_of text.now ≡ None)) }
+        ensures none { IfErr result (λ e. format_of text.now ≡ None) }
+    {
         OutputFormat::from_str(alloc, text)
     }
 }
@@ -273,7 +281,11 @@ impl FromText for PackageSource {
 
     ghost reads = { package_source_of };
 
-    fn from_text(alloc: Global, text: &str) -> Result<PackageSource> {
+    fn from_text(alloc: Global, text: &str) -> Result<PackageSource>
+        ensures ok { IfOk result (λ x. package_source_of text.now ≡ Some x) }
+        ensures err { IfErr result (IsRefusal ErrorKind.Parse (package_source_of text.now ≡ None)) }
+        ensures none { IfErr result (λ e. package_source_of text.now ≡ None) }
+    {
         PackageSource::from_str(alloc, text)
     }
 }

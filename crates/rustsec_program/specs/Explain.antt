@@ -13,16 +13,18 @@ use Rattle.rustsec_explain.specs.Explained.{explained_by_id, explained_by_name}
 use Rattle.rustsec_explain.specs.Pair.{ExplainedPair}
 use Rattle.rustsec_explain_output.specs.ExplainText.{explain_text}
 use Rattle.rustsec_explain_output.specs.ExplainTree.{explain_tree}
+use Rattle.rustsec_explain_output.specs.Rules.{RulesValue}
 use Rattle.rustsec_commands.specs.Output.{Output, refused_as, tree_line, usage}
 use Rattle.rustsec_program.specs.Check.{IsGround, IsGroundRefusal}
 use Rattle.rustsec_program.specs.CheckOptions.{CheckOption, options_of}
 use Rattle.rustsec_program.specs.Checked.{Ground}
+use Rattle.rustsec_program.specs.Plan.{PlanValue}
 use Rattle.rustsec_program.specs.declared.shapes.Shape.{Shape}
 use Rattle.rustsec_program.specs.declared.shapes.Shape.TheVariants as shape
 
 -- ---- pairs
 
--- the pairs of an advisory, if the text is an ID in a known form, else those of a package's name
+-- the pairs of the advisories that an ID means, if the text is an ID in a known form, else those of a package's name
 abbrev pub pairs_by : Settings → List Advisory → List PackageValue → List ℕ → Option IdValue → List ExplainedPair
 pairs_by s advisories packages text (Some id) = explained_by_id s advisories packages id
 pairs_by s advisories packages text None = explained_by_name s advisories packages text
@@ -30,17 +32,21 @@ pairs_by s advisories packages text None = explained_by_name s advisories packag
 abbrev pub pairs_of : Ground → List PackageValue → List ℕ → List ExplainedPair
 pairs_of g packages text = pairs_by g.plan.wanted.settings g.advisories packages text (known_id text)
 
+-- what an explanation goes by: the settings of a plan, and the entries of its policy that count
+abbrev pub rules_of : PlanValue → RulesValue
+rules_of p = record { settings = p.wanted.settings; entries = p.entries }
+
 -- the text for some pairs: for people, unless JSON is asked for
-abbrev pub pairs_text : Shape → Settings → List ExplainedPair → List ℕ
-pairs_text shape.Text s pairs = explain_text s pairs
-pairs_text shape.Json s pairs = tree_line (explain_tree s pairs)
-pairs_text shape.Sarif s pairs = explain_text s pairs
-pairs_text shape.Html s pairs = explain_text s pairs
-pairs_text shape.Markdown s pairs = explain_text s pairs
+abbrev pub pairs_text : Shape → RulesValue → List ExplainedPair → List ℕ
+pairs_text shape.Text rules pairs = explain_text rules pairs
+pairs_text shape.Json rules pairs = tree_line (explain_tree rules pairs)
+pairs_text shape.Sarif rules pairs = explain_text rules pairs
+pairs_text shape.Html rules pairs = explain_text rules pairs
+pairs_text shape.Markdown rules pairs = explain_text rules pairs
 
 -- the output for the packages of a lockfile
 abbrev pub pairs_output : Ground → List PackageValue → List ℕ → Output
-pairs_output g packages text = record { text = pairs_text g.plan.wanted.shape g.plan.wanted.settings (pairs_of g packages text); status = 0 }
+pairs_output g packages text = record { text = pairs_text g.plan.wanted.shape (rules_of g.plan) (pairs_of g packages text); status = 0 }
 
 -- ---- outputs
 

@@ -14,6 +14,7 @@ use crate::locked::{Loaded, Places, load};
 use crate::notes::notes_of;
 use crate::output::Output;
 use crate::plan::Plan;
+use crate::readings::readings_note;
 use crate::wanted::Wanted;
 use rustsec_check::{Check, Subject, Yanked, check, yanked_fail, yanked_packages};
 use rustsec_check_output::{Written, check_line, check_text, many_line};
@@ -124,6 +125,17 @@ fn status_of(found: &Found<'_>) -> u8
     }
 }
 
+/// Returns an output with the note about the requirements of the findings that Cargo's matching reads differently. The
+/// checks of a list of lockfiles have no such note.
+fn with_readings(alloc: Global, form: Form<'_>, found: &Found<'_>, output: Output) -> Output
+    ensures { result ≡ output }
+{
+    match form {
+        Form::Line(_) => output,
+        _ => output.with_note(readings_note(alloc, found.check.findings.as_slice()).ok()),
+    }
+}
+
 /// Makes the output for what is found.
 fn check_output<'x, 'c>(
     alloc: Global,
@@ -148,7 +160,8 @@ fn check_output<'x, 'c>(
     };
     let lock = loaded.locked.text.as_str();
     let text = written_text(alloc, form, lock, &written)?;
-    Ok(Output::new(text, status_of(found)))
+    let output = Output::new(text, status_of(found));
+    Ok(with_readings(alloc, form, found, output))
 }
 
 /// Returns what a check looks at.

@@ -43,7 +43,7 @@ fn read_all<R: Read>(alloc: Global, input: &mut R) -> Result<Vec<u8>, Fault>
 }
 
 /// Writes a note that says what failed. A note that cannot be written is lost.
-fn write_fault<N: Write>(fault: Fault, notes: &mut N) {
+pub fn write_fault<N: Write>(fault: Fault, notes: &mut N) {
     let note = match fault {
         Fault::Memory => "rustsec_audit: out of memory\n",
         Fault::Read => "rustsec_audit: the input cannot be read\n",
@@ -95,7 +95,11 @@ fn output_of<F: Folders, R: Read, N: Write>(
 }
 
 /// Writes the text of an output, then its note, and returns its status.
-fn finish<W: Write, N: Write>(made: &Output, output: &mut W, notes: &mut N) -> Result<u8, Fault>
+///
+/// # Errors
+///
+/// `Write`, after which it is unspecified how much was written. A note then says so.
+pub fn finish<W: Write, N: Write>(made: &Output, output: &mut W, notes: &mut N) -> Result<u8, Fault>
     ensures status { IfOk result (λ s. s ≡ made.now.status) }
     ensures text { OnOk result (Appends (W.contents output.old) (W.contents output.new) made.now.text) }
     ensures err { IfErr result (λ e. e ≡ fault.Write) }

@@ -1,8 +1,6 @@
 //! The command `explain`.
 
-ghost use Rattle.std.specs.Prelude.{◌≡◌, ◌⊎◌, IfErr, IfOk, List, false, map, string_bytes};
-ghost use Rattle.serde_json.specs.View.{view};
-ghost use Rattle.serde_json.specs.Written.{has_float};
+ghost use Rattle.std.specs.Prelude.{◌≡◌, ◌⊎◌, IfErr, IfOk, List, map, string_bytes};
 ghost use Rattle.rustsec_advisory.specs.declared.advisory.Advisory.{Advisory};
 ghost use Rattle.rustsec_commands.specs.Output.{tree_line};
 ghost use Rattle.rustsec_database.specs.Opened.{AreOpened, IsOpenRefusal};
@@ -12,7 +10,7 @@ ghost use Rattle.rustsec_lock.specs.Lockfile.{IsLockfileAt, IsLockfileRefusal};
 ghost use Rattle.rustsec_lock.specs.Package.{PackageValue};
 ghost use Rattle.rustsec_policy.specs.Policies.{known_id};
 ghost use Rattle.rustsec_versions.specs.Failure.{IsMemory};
-ghost use Rattle.rustsec_program.specs.Explain.{IsExplainOutput, IsExplainRefusal, IsExplained, pairs_of, pairs_output, pairs_text};
+ghost use Rattle.rustsec_program.specs.Explain.{IsExplainOutput, IsExplainRefusal, IsExplained, pairs_of, pairs_output, pairs_text, rules_of};
 
 use crate::checked::Ground;
 use crate::misuse;
@@ -20,33 +18,22 @@ use crate::options::{Options, options_of};
 use crate::output::{self, Output, refusal};
 use crate::plan::Plan;
 use crate::shapes::Shape;
-use rustsec_commands::Paths;
+use rustsec_commands::{Paths, tree_line};
 use rustsec_database::Database;
 use rustsec_explain::{Explained, explain_id};
-use rustsec_explain_output::{explain_text, explain_tree};
+use rustsec_explain_output::{Rules, explain_text, explain_tree};
 use rustsec_folders::Folders;
 use rustsec_lock::Lockfile;
-use rustsec_report::Settings;
 use rustsec_texts::Id;
 use rustsec_versions::{ErrorKind, Result};
-use serde_json::Value;
 use std::alloc::{AllocError, Global};
 
-/// Returns the text of a tree on one line, with a line feed at its end.
-fn tree_line(alloc: Global, tree: &Value) -> std::result::Result<String, AllocError>
-    ensures { IfOk result (λ t. has_float (view tree.now) ≡ false → string_bytes t ≡ tree_line (view tree.now)) }
-{
-    let mut text = tree.to_string(alloc)?;
-    text.push_str("\n")?;
-    Ok(text)
-}
-
 /// Returns the JSON list of some pairs on one line.
-fn explain_line(alloc: Global, settings: &Settings, pairs: &[Explained<'_>]) -> Result<String>
-    ensures ok { IfOk result (λ t. string_bytes t ≡ tree_line (explain_tree settings.now pairs.now)) }
+fn explain_line(alloc: Global, rules: &Rules<'_>, pairs: &[Explained<'_>]) -> Result<String>
+    ensures ok { IfOk result (λ t. string_bytes t ≡ tree_line (explain_tree rules.now pairs.now)) }
     ensures err { IfErr result IsMemory }
 {
-    let tree = explain_tree(alloc, settings, pairs)?;
+    let tree = explain_tree(alloc, rules, pairs)?;
     let line = tree_line(alloc, &tree)?;
     Ok(line)
 }
@@ -55,16 +42,16 @@ fn explain_line(alloc: Global, settings: &Settings, pairs: &[Explained<'_>]) -> 
 fn pairs_text(
     alloc: Global,
     shape: Shape,
-    settings: &Settings,
+    rules: &Rules<'_>,
     pairs: &[Explained<'_>],
 ) -> Result<String>
-    ensures ok { IfOk result (λ t. string_bytes t ≡ pairs_text shape settings.now pairs.now) }
+    ensures ok { IfOk result (λ t. string_bytes t ≡ pairs_text shape rules.now pairs.now) }
     ensures err { IfErr result IsMemory }
 {
     match shape {
-        Shape::Json => explain_line(alloc, settings, pairs),
+        Shape::Json => explain_line(alloc, rules, pairs),
         Shape::Text | Shape::Sarif | Shape::Html | Shape::Markdown => {
-            explain_text(alloc, settings, pairs)
+            explain_text(alloc, rules, pairs)
         }
     }
 }
@@ -106,6 +93,16 @@ fn pairs_of<'x>(
     }
 }
 
+/// Returns what an explanation goes by.
+fn rules_of<'x>(plan: &'x Plan<'x>) -> Rules<'x>
+    ensures { result ≡ rules_of plan.now }
+{
+    Rules {
+        settings: &plan.wanted.settings,
+        entries: plan.policy.advisories.ignore.as_slice(),
+    }
+}
+
 /// Makes the output for a lockfile.
 fn pairs_output<'x>(
     alloc: Global,
@@ -118,7 +115,8 @@ fn pairs_output<'x>(
 {
     let plan = ground.plan;
     let pairs = pairs_of(alloc, ground, lockfile, text)?;
-    let text = pairs_text(alloc, plan.wanted.shape, &plan.wanted.settings, &pairs)?;
+    let rules = rules_of(plan);
+    let text = pairs_text(alloc, plan.wanted.shape, &rules, &pairs)?;
     Ok(Output::new(text, 0))
 }
 

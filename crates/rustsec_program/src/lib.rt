@@ -13,8 +13,9 @@ mod many;
 mod misuse;
 mod notes;
 mod options;
-mod output;
+pub mod output;
 mod plan;
+mod readings;
 mod request;
 mod shapes;
 mod shown;
@@ -22,4 +23,4 @@ mod usage;
 mod wanted;
 mod words;
 
-pub use crate::commands::{run_over, run_with_notes};
+pub use crate::commands::{finish, run_over, run_with_notes, write_fault};

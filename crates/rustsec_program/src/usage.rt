@@ -15,8 +15,8 @@ pub const PAGE: &str = "
       example: find . -name Cargo.lock -print0 | rustsec_audit check-many advisory-db --null
 
   explain ROOT LOCK ID|NAME [OPTION]..
-      for each package of LOCK and each advisory with that ID, or of a package with that name: whether the package is
-      affected, or every reason why it is not
+      for each package of LOCK and each advisory with that ID or alias, or of a package with that name: whether the
+      package is affected, or every reason why it is not
       status 0
       example: rustsec_audit explain advisory-db Cargo.lock RUSTSEC-2020-0001
 

@@ -186,7 +186,8 @@ pub add_their_own : (r : Report) (advisories others : List Advisory) (packages :
 add_their_own r advisories others packages s is = record {
   before = ap (λ (x : Report). x.vulnerabilities.list) is ∙ one-by-one s (query_of s) advisories packages;
   after = ap info_of (with-others s (query_of s) advisories others packages);
-  warnings = ap (warnings_by_kind s) (with-others s (informational_query s) advisories others packages);
+  warned_before = ap (λ (x : Report). x.warnings) is ∙ ap (warnings_by_kind s) (one-by-one s (informational_query s) advisories packages);
+  warned_after = ap (warnings_by_kind s) (with-others s (informational_query s) advisories others packages);
 }
 
 pub find_the_same : (r : Report) (advisories : List Advisory) (packages : List PackageValue) (s : Settings)

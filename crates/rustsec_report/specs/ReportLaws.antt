@@ -52,11 +52,13 @@ counted advisories packages s q = without s.ignore (found advisories packages q)
 abbrev pub with_others : List Advisory → List Advisory → List PackageValue → Settings → Asked → List Vulnerability
 with_others advisories others packages s q = flat_map (λ p. counted advisories (p ∷ []) s q ++ counted others (p ∷ []) s q) packages
 
--- a report of some advisories, and one of these and others: to each package's pairs the others add their own
+-- a report of some advisories, and one of these and others: to each package's pairs, of vulnerabilities and of warnings, the others
+-- add their own
 pub record AddTheirOwn (advisories others : List Advisory) (packages : List PackageValue) (s : Settings) (r more : Report) : Type 0 where
   pub before : r.vulnerabilities.list ≡ flat_map (λ p. counted advisories (p ∷ []) s (query_of s)) packages
   pub after : more.vulnerabilities ≡ info_of (with_others advisories others packages s (query_of s))
-  pub warnings : more.warnings ≡ warnings_by_kind s (with_others advisories others packages s (informational_query s))
+  pub warned_before : r.warnings ≡ warnings_by_kind s (flat_map (λ p. counted advisories (p ∷ []) s (informational_query s)) packages)
+  pub warned_after : more.warnings ≡ warnings_by_kind s (with_others advisories others packages s (informational_query s))
 
 -- a report of files and a lockfile's text, and one of these and one more file: its advisory adds its own pairs, and none if its ID
 -- is the placeholder

@@ -17,10 +17,10 @@ const REQUIREMENTS: u32 = 300;
 const PACKAGES: u32 = 10000;
 
 /// How many advisories a database has.
-const ADVISORIES: u32 = 2000;
+const ADVISORIES: u32 = 10000;
 
 /// How many functions an advisory has.
-const FUNCTIONS: u32 = 2000;
+const FUNCTIONS: u32 = 10000;
 
 /// How many bytes a long text has.
 const LONG: usize = 65536;

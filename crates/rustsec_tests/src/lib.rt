@@ -11,6 +11,8 @@ mod categories_and_licenses;
 #[cfg(test)]
 mod cvss;
 #[cfg(test)]
+mod fake_files;
+#[cfg(test)]
 mod file_contents;
 #[cfg(test)]
 mod function_paths;
@@ -19,7 +21,17 @@ mod ids;
 #[cfg(test)]
 mod large_inputs;
 #[cfg(test)]
+mod lint_notes;
+#[cfg(test)]
+mod lint_places;
+#[cfg(test)]
+mod lint_warnings;
+#[cfg(test)]
 mod notes;
+#[cfg(test)]
+mod opened_folders;
+#[cfg(test)]
+mod osv_refusals;
 #[cfg(test)]
 mod paths;
 #[cfg(test)]
@@ -34,5 +46,8 @@ mod refused_requirements;
 mod sampled_commands;
 #[cfg(test)]
 mod scores;
+#[cfg(test)]
 mod swapped_files;
 mod values;
+#[cfg(test)]
+mod yanked_packages;

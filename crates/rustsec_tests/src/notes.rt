@@ -10,7 +10,7 @@ use std::test::Fail;
 use std::{fs, str};
 
 /// Arguments, an input, the status that they give, and parts of their note.
-type NoteRow<'a> = (&'a [&'a str], &'a str, u8, &'a [&'a str]);
+pub(crate) type NoteRow<'a> = (&'a [&'a str], &'a str, u8, &'a [&'a str]);
 
 /// Returns whether a text contains all parts.
 fn has_all(text: &str, parts: &[&str]) -> bool {
@@ -44,7 +44,10 @@ fn notes<T: Files + AllocGlobal>(rt: &T, row: &NoteRow<'_>) -> Result<bool, Fail
 }
 
 /// Checks the notes of rows.
-fn expect_notes<T: Files + AllocGlobal + Abort>(rt: &T, rows: &[NoteRow<'_>]) -> Result<(), Fail> {
+pub(crate) fn expect_notes<T: Files + AllocGlobal + Abort>(
+    rt: &T,
+    rows: &[NoteRow<'_>],
+) -> Result<(), Fail> {
     for row in rows {
         assert!(rt; notes(rt, row)?, "{row:?}");
     }

@@ -173,25 +173,41 @@ fn is_refused(alloc: Global, front: &str, want: &str) -> Result<bool, Fail> {
     }
 }
 
+// A refusal of a front matter has the line and the column of the file.
 #[test]
 fn messages_name_key_and_table(rt: HostRuntime) -> Result<(), Fail> {
     for (front, want) in &[
-        ("package = \"a\"", "key `id` is missing in [advisory]"),
+        (
+            "package = \"a\"",
+            "line 2, column 1: key `id` is missing in [advisory], at `package = \"a\"`",
+        ),
         (
             "id = 3",
-            "key `id` in [advisory]: found integer `3`, expected a string",
+            "line 2, column 1: key `id` in [advisory]: found integer `3`, expected a string, at `id = 3`",
         ),
         (
             "id = \"X-1\"\npackage = \"a\"\ndate = \"2001-02-03\"",
-            "key `versions` is missing in the front matter",
+            "line 2, column 1: key `versions` is missing in the front matter, at `id = \"X-1\"`",
         ),
         (
             "id = \"X-1\"\npackage = \"a\"\ndate = \"2001-02-03\"\n[versions]\npatched = 1",
-            "key `patched` in [versions]: found integer `1`, expected an array of strings",
+            "line 6, column 1: key `patched` in [versions]: found integer `1`, expected an array of strings, at `patched = 1`",
         ),
         (
             "id = \"X-1\"\npackage = \"a\"\ndate = \"2001-02-03\"\n[versions]\npatched = [\">> 1\"]",
-            "key `patched` in [versions]: not a requirement `>> 1`, expected comparators such as `>=1.2.3, <2`",
+            "line 6, column 1: key `patched` in [versions]: not a requirement `>> 1`, expected comparators such as `>=1.2.3, <2`, at `patched = [\">> 1\"]`",
+        ),
+        (
+            "[advisory]\nid = \"X-1\"\npackage = \"a\"\ndate = \"2001-02-30\"",
+            "line 5, column 1: key `date` in [advisory]: malformed date `2001-02-30`, expected YYYY-MM-DD, a day of the years 2000 to 2100, at `date = \"2001-02-30\"`",
+        ),
+        (
+            "id = \"X-1\"\npackage = a",
+            "line 3, column 11: the front matter is not a TOML document, at `package = a`",
+        ),
+        (
+            "# c\n[advisory]\nid = \"X-1\"",
+            "line 3, column 2: the header `[advisory]` is not the first line of the front matter, at `[advisory]`",
         ),
     ] {
         assert!(rt; is_refused(rt.alloc(), front, want)?, "of {want}");

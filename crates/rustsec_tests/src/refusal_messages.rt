@@ -1,15 +1,12 @@
-//! What refusals of texts, lockfiles and OSV documents say: what was found, what was expected, and where.
+//! What refusals of texts and lockfiles say: what was found, what was expected, and where.
 
 use rustsec_lock::package::Name;
 use rustsec_lock::platforms::{Arch, OS};
 use rustsec_lock::{Cvss, Lockfile, SourceId};
-use rustsec_osv::OsvAdvisory;
 use rustsec_texts::{Collection, Date, FunctionPath, Id, WarningKind};
 use rustsec_versions::{Error, ErrorKind, Result};
-use serde_json::Value;
 use std::alloc::Global;
 use std::process::Abort;
-use std::test::Fail;
 
 /// Returns whether this is a refusal of a text with this message, with a cause or without one.
 fn says(error: &Error, message: &str, caused: bool) -> bool {
@@ -19,7 +16,7 @@ fn says(error: &Error, message: &str, caused: bool) -> bool {
 }
 
 /// Returns whether an answer is a refusal with this message.
-fn refuses<T: Drop>(answer: Result<T>, message: &str, caused: bool) -> bool {
+pub(crate) fn refuses<T: Drop>(answer: Result<T>, message: &str, caused: bool) -> bool {
     match answer {
         Ok(_) => false,
         Err(e) => says(&e, message, caused),
@@ -28,45 +25,49 @@ fn refuses<T: Drop>(answer: Result<T>, message: &str, caused: bool) -> bool {
 
 /// Lockfiles, the messages of their refusals, and whether these have a cause.
 const LOCKFILES: &[(&str, &str, bool)] = &[
-    ("= 1", "the lockfile is no TOML document", true),
+    (
+        "= 1",
+        "line 1, column 1: the lockfile is not a TOML document, at `= 1`",
+        true,
+    ),
     (
         "package = 1",
-        "key `package` in the lockfile: found integer `1`, expected an array of tables",
+        "line 1, column 1: key `package` in the lockfile: found integer `1`, expected an array of tables, at `package = 1`",
         false,
     ),
     (
         "package = [\"a\"]",
-        "package 1: not a package: found `string`, expected a table",
+        "package 1: line 1, column 1: not a package: found `string`, expected a table, at `package = [\"a\"]`",
         false,
     ),
     (
         "[[package]]\nversion = \"1.0.0\"",
-        "package 1: key `name` is missing in [[package]]",
+        "package 1: line 1, column 3: key `name` is missing in [[package]], at `[[package]]`",
         false,
     ),
     (
         "[[package]]\nname = \"a\"\nversion = \"1.0.0\"\n[[package]]\nname = \"b\"",
-        "package 2, `b`: key `version` is missing in [[package]]",
+        "package 2, `b`: line 4, column 3: key `version` is missing in [[package]], at `[[package]]`",
         false,
     ),
     (
         "[[package]]\nname = \"a\"\nversion = 1",
-        "package 1, `a`: key `version` in [[package]]: found integer `1`, expected a string",
+        "package 1, `a`: line 3, column 1: key `version` in [[package]]: found integer `1`, expected a string, at `version = 1`",
         false,
     ),
     (
         "[[package]]\nname = \"a\"\nversion = \"1.0\"",
-        "package 1, `a`: malformed version `1.0`, expected one such as `1.2.3`",
+        "package 1, `a`: line 3, column 1: key `version` in [[package]]: malformed version `1.0`, expected one such as `1.2.3`, at `version = \"1.0\"`",
         true,
     ),
     (
         "[[package]]\nname = \"\"\nversion = \"1.0.0\"",
-        "package 1, ``: malformed name ``, expected a text that is not empty",
+        "package 1, ``: line 2, column 1: key `name` in [[package]]: malformed name ``, expected a text that is not empty, at `name = \"\"`",
         false,
     ),
     (
         "[[package]]\nname = \"a\"\nversion = \"1.0.0\"\nsource = \"x\"",
-        "package 1, `a`: malformed source `x`, expected KIND+ADDRESS",
+        "package 1, `a`: line 4, column 1: key `source` in [[package]]: malformed source `x`, expected KIND+ADDRESS, at `source = \"x\"`",
         false,
     ),
 ];
@@ -86,65 +87,11 @@ fn expect_lockfiles<T: AllocGlobal + Abort>(rt: &T) {
     }
 }
 
-// A refusal of a lockfile names the package, by its place from 1 on and its name, and what was found there.
+// A refusal of a lockfile has the line and the column, and names the package, by its position from 1 on and its name,
+// and what was found there.
 #[test]
 fn messages_of_lockfiles(rt: HostRuntime) {
     expect_lockfiles(&rt);
-}
-
-/// Trees of no OSV document, the messages of their refusals, and whether these have a cause.
-const DOCUMENTS: &[(&str, &str, bool)] = &[
-    ("[]", "found the list `[]`, expected an object", false),
-    ("null", "found `null`, expected an object", false),
-    ("{}", "key `id` is missing", false),
-    (
-        "{\"id\":3}",
-        "key `id`: found the number `3`, expected a string",
-        false,
-    ),
-    (
-        "{\"schema_version\":\"1.0\"}",
-        "key `schema_version`: malformed version `1.0`, expected one such as `1.2.3`",
-        true,
-    ),
-    (
-        "{\"id\":\"X-1\",\"modified\":\"\",\"published\":\"\",\"summary\":\"\",\"details\":\"\",\"aliases\":{\"a\":true}}",
-        "key `aliases`: found the object `{\"a\":true}`, expected a list",
-        false,
-    ),
-    (
-        "{\"id\":\"X-1\",\"modified\":\"\",\"published\":\"\",\"summary\":\"\",\"details\":\"\",\"affected\":[{\"package\":{\"name\":\"a\",\"ecosystem\":\"b\",\"purl\":\"c\"},\"database_specific\":{},\"ranges\":[{\"type\":\"SEMVER\",\"events\":[{\"fixed\":\"1.x\"}]}]}]}",
-        "key `affected`: key `ranges`: key `events`: key `fixed`: malformed version `1.x`, expected one such as `1.2.3`",
-        true,
-    ),
-];
-
-/// Returns whether a text is the JSON of a tree that is refused with this message.
-fn tree_refused(
-    alloc: Global,
-    text: &str,
-    message: &str,
-    caused: bool,
-) -> std::result::Result<bool, Fail> {
-    let tree = Value::from_str(alloc, text)?;
-    Ok(refuses(OsvAdvisory::from_value(alloc, &tree), message, caused))
-}
-
-/// Goes through the trees.
-fn expect_documents<T: AllocGlobal + Abort>(rt: &T) -> std::result::Result<(), Fail> {
-    for (text, message, caused) in DOCUMENTS {
-        assert!(rt;
-            tree_refused(rt.alloc(), text, message, *caused)?,
-            "of {text}"
-        );
-    }
-    Ok(())
-}
-
-// A refusal of a tree names the keys that lead to what is refused, and keeps the reason of `semver`.
-#[test]
-fn messages_of_documents(rt: HostRuntime) -> std::result::Result<(), Fail> {
-    expect_documents(&rt)
 }
 
 /// Returns whether the reader of this name refuses a text with this message.

@@ -1,8 +1,9 @@
 //! Categories of advisories.
 
-ghost use Rattle.std.specs.Prelude.{◌≡◌, ◌⊎◌, IfErr, IfOk, List, ℕ, None};
+ghost use Rattle.std.specs.Prelude.{◌≡◌, ◌⊎◌, IfErr, IfOk, List, OnErr, ℕ, None};
 ghost use Rattle.rustsec_values.specs.ClosedTables.{value_named};
 ghost use Rattle.rustsec_versions.specs.Failure.{IsMemory};
+ghost use Rattle.rustsec_texts.specs.declared.category.Category.TheVariants as category;
 ghost use Rattle.rustsec_texts.specs.Categories.{categories, category_cmp, category_name, category_of};
 
 use rustsec_values::{ExactClone, ExactEq, StatedOrder, Text};
@@ -98,6 +99,9 @@ impl Category {
     pub fn clone(&self, _alloc: Global) -> Result<Category>
         ensures ok { IfOk result (λ c. c ≡ self.now) }
         ensures err { IfErr result IsMemory }
+
+        // A category with a variant of its own takes no memory.
+        ensures none { OnErr result ((name : List ℕ) × (self.now ≡ category.Other name)) }
     {
         let copy = Clone::clone(self)?;
         Ok(copy)
@@ -118,7 +122,11 @@ impl FromText for Category {
 impl Clone for Category {
     ghost is_clone = { λ a b. b ≡ a };
 
-    fn clone(&self) -> std::result::Result<Category, AllocError> {
+    // A category with a variant of its own takes no memory.
+    fn clone(&self) -> std::result::Result<Category, AllocError>
+        ensures ok { IfOk result (λ c. c ≡ self.now) }
+        ensures none { OnErr result ((name : List ℕ) × (self.now ≡ category.Other name)) }
+    {
         match self {
             Category::CodeExecution => Ok(Category::CodeExecution),
             Category::CryptoFailure => Ok(Category::CryptoFailure),

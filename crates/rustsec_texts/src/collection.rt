@@ -83,7 +83,11 @@ impl FromText for Collection {
 
     ghost reads = { collection_of };
 
-    fn from_text(alloc: Global, text: &str) -> Result<Collection> {
+    fn from_text(alloc: Global, text: &str) -> Result<Collection>
+        ensures ok { IfOk result (λ x. collection_of text.now ≡ Some x) }
+        ensures err { IfErr result (IsRefusal ErrorKind.Parse (collection_of text.now ≡ None)) }
+        ensures none { IfErr result (λ e. collection_of text.now ≡ None) }
+    {
         Collection::from_str(alloc, text)
     }
 }

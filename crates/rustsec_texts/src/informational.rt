@@ -1,8 +1,9 @@
 //! Kinds of informational advisories.
 
-ghost use Rattle.std.specs.Prelude.{◌≡◌, ◌⊎◌, ◌↔◌, IsTrue, IfErr, IfOk, List, ℕ, None};
+ghost use Rattle.std.specs.Prelude.{◌≡◌, ◌⊎◌, ◌↔◌, IsTrue, IfErr, IfOk, List, OnErr, ℕ, None};
 ghost use Rattle.rustsec_values.specs.ClosedTables.{value_named};
 ghost use Rattle.rustsec_versions.specs.Failure.{IsMemory};
+ghost use Rattle.rustsec_texts.specs.declared.informational.Informational.TheVariants as informational;
 ghost use Rattle.rustsec_texts.specs.Informational.{informational_cmp, informational_kinds, informational_name, informational_of, is_other_kind, kind_of_warnings};
 
 use crate::warning_kind::WarningKind;
@@ -111,6 +112,9 @@ impl Informational {
     pub fn clone(&self, _alloc: Global) -> Result<Informational>
         ensures ok { IfOk result (λ k. k ≡ self.now) }
         ensures err { IfErr result IsMemory }
+
+        // A kind with a variant of its own takes no memory.
+        ensures none { OnErr result ((kind : List ℕ) × (self.now ≡ informational.Other kind)) }
     {
         let copy = Clone::clone(self)?;
         Ok(copy)
@@ -131,7 +135,11 @@ impl FromText for Informational {
 impl Clone for Informational {
     ghost is_clone = { λ a b. b ≡ a };
 
-    fn clone(&self) -> std::result::Result<Informational, AllocError> {
+    // A kind with a variant of its own takes no memory.
+    fn clone(&self) -> std::result::Result<Informational, AllocError>
+        ensures ok { IfOk result (λ k. k ≡ self.now) }
+        ensures none { OnErr result ((kind : List ℕ) × (self.now ≡ informational.Other kind)) }
+    {
         match self {
             Informational::Notice => Ok(Informational::Notice),
             Informational::Unmaintained => Ok(Informational::Unmaintained),

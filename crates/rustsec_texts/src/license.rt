@@ -1,8 +1,9 @@
 //! Licenses of advisories.
 
-ghost use Rattle.std.specs.Prelude.{◌≡◌, ◌⊎◌, IfErr, IfOk, List, ℕ, None};
+ghost use Rattle.std.specs.Prelude.{◌≡◌, ◌⊎◌, IfErr, IfOk, List, OnErr, ℕ, None};
 ghost use Rattle.rustsec_values.specs.ClosedTables.{value_named};
 ghost use Rattle.rustsec_versions.specs.Failure.{IsMemory};
+ghost use Rattle.rustsec_texts.specs.declared.license.License.TheVariants as license;
 ghost use Rattle.rustsec_texts.specs.Licenses.{default_license, license_name, license_of, licenses};
 
 use rustsec_values::{ExactClone, ExactEq, Text};
@@ -73,6 +74,9 @@ impl License {
     pub fn clone(&self, _alloc: Global) -> Result<License>
         ensures ok { IfOk result (λ l. l ≡ self.now) }
         ensures err { IfErr result IsMemory }
+
+        // A license with a variant of its own takes no memory.
+        ensures none { OnErr result ((identifier : List ℕ) × (self.now ≡ license.Other identifier)) }
     {
         let copy = Clone::clone(self)?;
         Ok(copy)
@@ -93,7 +97,11 @@ impl FromText for License {
 impl Clone for License {
     ghost is_clone = { λ a b. b ≡ a };
 
-    fn clone(&self) -> std::result::Result<License, AllocError> {
+    // A license with a variant of its own takes no memory.
+    fn clone(&self) -> std::result::Result<License, AllocError>
+        ensures ok { IfOk result (λ l. l ≡ self.now) }
+        ensures none { OnErr result ((identifier : List ℕ) × (self.now ≡ license.Other identifier)) }
+    {
         match self {
             License::CcZero10 => Ok(License::CcZero10),
             License::CcBy40 => Ok(License::CcBy40),

@@ -87,7 +87,11 @@ impl FromText for WarningKind {
 
     ghost reads = { warning_kind_of };
 
-    fn from_text(alloc: Global, text: &str) -> Result<WarningKind> {
+    fn from_text(alloc: Global, text: &str) -> Result<WarningKind>
+        ensures ok { IfOk result (λ x. warning_kind_of text.now ≡ Some x) }
+        ensures err { IfErr result (IsRefusal ErrorKind.Parse (warning_kind_of text.now ≡ None)) }
+        ensures none { IfErr result (λ e. warning_kind_of text.now ≡ None) }
+    {
         WarningKind::from_str(alloc, text)
     }
 }

@@ -7,6 +7,7 @@ ghost use Rattle.rustsec_toml.specs.Fields.{defaulted, every, list_of, optional,
 ghost use Rattle.rustsec_values.specs.Reading.{read_all};
 ghost use Rattle.rustsec_versions.specs.Failure.{IsMemory, IsOfKind, IsRefusal};
 
+use crate::documents::TablePlace;
 use rustsec_values::Items;
 use rustsec_versions::{Error, ErrorKind, FromText, Result, refused_at, refused_text};
 use std::alloc::{AllocError, Global};
@@ -15,13 +16,15 @@ use std::fmt::Formatter;
 use toml::value::Array;
 use toml::{Table, Value};
 
-/// A table of a document, and its name in errors, such as `[advisory]`.
+/// A table of a document, its name in errors, such as `[advisory]`, and where it is.
 #[derive(Clone, Copy)]
 pub struct Section<'a> {
     /// The table.
     pub table: &'a Table,
     /// The name of the table in errors.
     pub name: &'a str,
+    /// Where the table is, for messages.
+    pub place: TablePlace<'a>,
 }
 
 /// Returns the value at a key of a table, if any.
@@ -86,7 +89,8 @@ impl<'a> Section<'a> {
         ensures { IsOfKind ErrorKind.Parse result }
     {
         let name = self.name;
-        refused(alloc, format!(in alloc; "key `{key}` is missing in {name}"))
+        let error = refused(alloc, format!(in alloc; "key `{key}` is missing in {name}"));
+        self.place.refused_at(alloc, key, error)
     }
 
     /// Returns the error for a value that is not of the expected kind. Its message names the key, the table and the
@@ -99,7 +103,10 @@ impl<'a> Section<'a> {
             format!(in alloc; "key `{key}` in {name}: found {kind}"),
             printed(alloc, found),
         ) {
-            (Ok(wrong), Ok(value)) => refused_text(alloc, &wrong, &value, expected),
+            (Ok(wrong), Ok(value)) => {
+                let error = refused_text(alloc, &wrong, &value, expected);
+                self.place.refused_at(alloc, key, error)
+            }
             _ => Error::from(AllocError),
         }
     }
@@ -111,7 +118,10 @@ impl<'a> Section<'a> {
     {
         let name = self.name;
         match format!(in alloc; "key `{key}` in {name}") {
-            Ok(place) => refused_at(alloc, &place, error),
+            Ok(place) => {
+                let error = refused_at(alloc, &place, error);
+                self.place.refused_at(alloc, key, error)
+            }
             Err(refused) => Error::from(refused),
         }
     }
@@ -124,6 +134,7 @@ impl<'a> Section<'a> {
     pub fn table_of(self, alloc: Global, key: &str, value: &'a Value) -> Result<&'a Table>
         ensures ok { IfOk result (λ t. as_table (view value.now) ≡ Some (table_view t.now)) }
         ensures err { IfErr result (IsRefusal ErrorKind.Parse (as_table (view value.now) ≡ None)) }
+        ensures none { IfErr result (λ e. as_table (view value.now) ≡ None) }
     {
         match value.as_table() {
             Some(table) => Ok(table),
@@ -146,6 +157,7 @@ impl<'a> Section<'a> {
     ) -> Result<&'a Array>
         ensures ok { IfOk result (λ a. as_array (view value.now) ≡ Some (array_view a.now)) }
         ensures err { IfErr result (IsRefusal ErrorKind.Parse (as_array (view value.now) ≡ None)) }
+        ensures none { IfErr result (λ e. as_array (view value.now) ≡ None) }
     {
         match value.as_array() {
             Some(array) => Ok(array),
@@ -161,6 +173,7 @@ impl<'a> Section<'a> {
     pub fn string_of(self, alloc: Global, key: &str, value: &'a Value) -> Result<&'a str>
         ensures ok { IfOk result (λ s. as_str (view value.now) ≡ Some s.now) }
         ensures err { IfErr result (IsRefusal ErrorKind.Parse (as_str (view value.now) ≡ None)) }
+        ensures none { IfErr result (λ e. as_str (view value.now) ≡ None) }
     {
         match value.as_str() {
             Some(text) => Ok(text),
@@ -206,6 +219,7 @@ impl<'a> Section<'a> {
     pub fn table_at(self, alloc: Global, key: &str) -> Result<&'a Table>
         ensures ok { IfOk result (λ t. required as_table key.now (table_view self.entry.table.now) ≡ Some (table_view t.now)) }
         ensures err { IfErr result (IsRefusal ErrorKind.Parse (required as_table key.now (table_view self.entry.table.now) ≡ None)) }
+        ensures none { IfErr result (λ e. required as_table key.now (table_view self.entry.table.now) ≡ None) }
     {
         match self.get(key) {
             Some(value) => self.table_of(alloc, key, value),
@@ -221,6 +235,7 @@ impl<'a> Section<'a> {
     pub fn string_at(self, alloc: Global, key: &str) -> Result<&'a str>
         ensures ok { IfOk result (λ s. required as_str key.now (table_view self.entry.table.now) ≡ Some s.now) }
         ensures err { IfErr result (IsRefusal ErrorKind.Parse (required as_str key.now (table_view self.entry.table.now) ≡ None)) }
+        ensures none { IfErr result (λ e. required as_str key.now (table_view self.entry.table.now) ≡ None) }
     {
         match self.get(key) {
             Some(value) => self.string_of(alloc, key, value),
@@ -236,6 +251,7 @@ impl<'a> Section<'a> {
     pub fn optional_string_at(self, alloc: Global, key: &str) -> Result<Option<&'a str>>
         ensures ok { IfOk result (λ s. optional as_str key.now (table_view self.entry.table.now) ≡ Some (option_map (λ t. t.now) s)) }
         ensures err { IfErr result (IsRefusal ErrorKind.Parse (optional as_str key.now (table_view self.entry.table.now) ≡ None)) }
+        ensures none { IfErr result (λ e. optional as_str key.now (table_view self.entry.table.now) ≡ None) }
     {
         let Some(value) = self.get(key) else {
             return Ok(None);
@@ -252,6 +268,7 @@ impl<'a> Section<'a> {
     pub fn string_or_empty(self, alloc: Global, key: &str) -> Result<&'a str>
         ensures ok { IfOk result (λ s. defaulted [] as_str key.now (table_view self.entry.table.now) ≡ Some s.now) }
         ensures err { IfErr result (IsRefusal ErrorKind.Parse (defaulted [] as_str key.now (table_view self.entry.table.now) ≡ None)) }
+        ensures none { IfErr result (λ e. defaulted [] as_str key.now (table_view self.entry.table.now) ≡ None) }
     {
         match self.get(key) {
             Some(value) => self.string_of(alloc, key, value),
@@ -267,6 +284,7 @@ impl<'a> Section<'a> {
     pub fn bool_or_false(self, alloc: Global, key: &str) -> Result<bool>
         ensures ok { IfOk result (λ b. defaulted false as_bool key.now (table_view self.entry.table.now) ≡ Some b) }
         ensures err { IfErr result (IsRefusal ErrorKind.Parse (defaulted false as_bool key.now (table_view self.entry.table.now) ≡ None)) }
+        ensures none { IfErr result (λ e. defaulted false as_bool key.now (table_view self.entry.table.now) ≡ None) }
     {
         let Some(value) = self.get(key) else {
             return Ok(false);

@@ -1,7 +1,7 @@
-//! The intervals of requirements: their bounds, how they print, and which overlap.
+//! The intervals of requirements: their bounds, how they print, which overlap, and by which order they compare.
 
 use rustsec_fixtures::{interval, kind_of, version};
-use rustsec_versions::{Bound, ErrorKind, UnaffectedRange, requirement_text};
+use rustsec_versions::{Bound, ErrorKind, OsvRange, UnaffectedRange, requirement_text};
 use semver::{Comparator, Op, Prerelease, VersionReq};
 use std::alloc::Global;
 use std::process::Abort;
@@ -226,5 +226,100 @@ fn requirement_texts(rt: HostRuntime) -> Result<(), Fail> {
             ("> 1.2.3-a, <2", ">1.2.3-a, <2"),
             ("*", "*"),
         ],
+    )
+}
+
+/// Returns whether a range has the version of a text.
+fn affects(alloc: Global, range: &OsvRange, text: &str) -> Result<bool, Fail> {
+    let version = version(alloc, text)?;
+    Ok(range.affects(&version))
+}
+
+/// Checks whether a range has versions.
+fn expect_affected<T: AllocGlobal + Abort>(
+    rt: &T,
+    range: &OsvRange,
+    rows: &[(&str, bool)],
+) -> Result<(), Fail> {
+    for (text, affected) in rows {
+        assert!(rt; affects(rt.alloc(), range, text)? == *affected, "at {text}");
+    }
+    Ok(())
+}
+
+// A range answers by the order of `Version`, in which build metadata counts.
+#[test]
+fn affects_by_the_order_of_the_type(rt: HostRuntime) -> Result<(), Fail> {
+    let range = OsvRange {
+        introduced: Some(version(rt.alloc(), "1.0.0+b")?),
+        fixed: Some(version(rt.alloc(), "2.0.0+b")?),
+    };
+    expect_affected(
+        &rt,
+        &range,
+        &[
+            ("1.0.0", false),
+            ("1.0.0+b", true),
+            ("2.0.0", true),
+            ("2.0.0+b", false),
+        ],
+    )
+}
+
+/// Returns the interval from a version on.
+fn from(alloc: Global, text: &str) -> Result<UnaffectedRange, Fail> {
+    let bound = Bound::Inclusive(version(alloc, text)?);
+    Ok(UnaffectedRange::new(alloc, bound, Bound::Unbounded)?)
+}
+
+/// Returns the interval up to a version.
+fn up_to(alloc: Global, text: &str) -> Result<UnaffectedRange, Fail> {
+    let bound = Bound::Inclusive(version(alloc, text)?);
+    Ok(UnaffectedRange::new(alloc, Bound::Unbounded, bound)?)
+}
+
+/// Returns whether the interval from a version on overlaps that up to another one, and itself.
+fn overlaps(alloc: Global, low: &str, high: &str) -> Result<(bool, bool), Fail> {
+    let above = from(alloc, low)?;
+    let below = up_to(alloc, high)?;
+    Ok((above.overlaps(&below), above.overlaps(&above)))
+}
+
+// Bounds made by hand overlap by the order of `Version`, in which build metadata counts.
+#[test]
+fn overlap_by_the_order_of_the_type(rt: HostRuntime) -> Result<(), Fail> {
+    assert!(rt; overlaps(rt.alloc(), "1.0.0+b", "1.0.0+a")? == (false, true));
+    Ok(())
+}
+
+/// Returns whether an interval holds the version of a text.
+fn holds_version(alloc: Global, interval: &UnaffectedRange, text: &str) -> Result<bool, Fail> {
+    let version = version(alloc, text)?;
+    Ok(interval.holds(&version))
+}
+
+/// Checks whether an interval holds versions.
+fn expect_held<T: AllocGlobal + Abort>(
+    rt: &T,
+    interval: &UnaffectedRange,
+    rows: &[(&str, bool)],
+) -> Result<(), Fail> {
+    for (text, held) in rows {
+        assert!(rt;
+            holds_version(rt.alloc(), interval, text)? == *held,
+            "at {text}"
+        );
+    }
+    Ok(())
+}
+
+// An interval holds versions by precedence, which ignores build metadata.
+#[test]
+fn holds_by_precedence(rt: HostRuntime) -> Result<(), Fail> {
+    let till = interval(rt.alloc(), "<= 1.2.3")??;
+    expect_held(
+        &rt,
+        &till,
+        &[("1.2.3-a", true), ("1.2.3+b", true), ("1.2.4-0", false)],
     )
 }

@@ -6,6 +6,8 @@
 #[cfg(test)]
 mod advisory_parts;
 #[cfg(test)]
+mod comparisons;
+#[cfg(test)]
 mod cvss;
 #[cfg(test)]
 mod dates;
@@ -24,13 +26,13 @@ mod lockfiles;
 #[cfg(test)]
 mod lookups;
 #[cfg(test)]
+mod merges;
+#[cfg(test)]
 mod packages;
 #[cfg(test)]
 mod readme;
 #[cfg(test)]
 mod sources;
-#[cfg(test)]
-mod stored_ranges;
 #[cfg(test)]
 mod successors;
 #[cfg(test)]

@@ -1,22 +1,19 @@
 //! Lists of requirements by the library's calls: which are accepted, which versions they leave affected, and their
 //! ranges.
 
-use rustsec_advisory::Advisory;
-use rustsec_fixtures::{VALID, changed, interval, kind_of, lists, some_affects, version};
-use rustsec_versions::{
-    Bound, ErrorKind, OsvRange, UnaffectedRange, Versions, ranges_for_advisory,
-};
+use rustsec_fixtures::{kind_of, lists, some_affects, version};
+use rustsec_versions::{ErrorKind, OsvRange, Versions, ranges_for_advisory};
 use semver::Version;
 use std::alloc::Global;
 use std::process::Abort;
 use std::test::Fail;
 
 /// Lists of requirements, the sides of their ranges, and whether they leave some versions affected.
-struct Row<'a> {
-    patched: &'a [&'a str],
-    unaffected: &'a [&'a str],
-    ranges: &'a [(&'a str, &'a str)],
-    affected: &'a [(&'a str, bool)],
+pub(crate) struct Row<'a> {
+    pub(crate) patched: &'a [&'a str],
+    pub(crate) unaffected: &'a [&'a str],
+    pub(crate) ranges: &'a [(&'a str, &'a str)],
+    pub(crate) affected: &'a [(&'a str, bool)],
 }
 
 /// Returns whether a side of a range prints as a text, or as a dash if it is missing.
@@ -86,7 +83,7 @@ fn holds(alloc: Global, row: &Row<'_>) -> Result<bool, Fail> {
 }
 
 /// Checks rows.
-fn expect<T: AllocGlobal + Abort>(rt: &T, rows: &[Row<'_>]) -> Result<(), Fail> {
+pub(crate) fn expect<T: AllocGlobal + Abort>(rt: &T, rows: &[Row<'_>]) -> Result<(), Fail> {
     for row in rows {
         assert!(rt;
             holds(rt.alloc(), row)?,
@@ -105,7 +102,10 @@ fn are_refused(alloc: Global, patched: &[&str], unaffected: &[&str]) -> Result<b
 }
 
 /// Checks that lists of patched and of unaffected versions are refused.
-fn expect_refused<T: AllocGlobal + Abort>(rt: &T, rows: &[(&[&str], &[&str])]) -> Result<(), Fail> {
+pub(crate) fn expect_refused<T: AllocGlobal + Abort>(
+    rt: &T,
+    rows: &[(&[&str], &[&str])],
+) -> Result<(), Fail> {
     for (patched, unaffected) in rows {
         let refused = are_refused(rt.alloc(), patched, unaffected)?;
         assert!(rt; refused, "of {patched:?} and {unaffected:?}");
@@ -399,187 +399,4 @@ const AT_EACH_LIMIT: &[Row<'static>] = &[
 #[test]
 fn numbers_at_each_limit(rt: HostRuntime) -> Result<(), Fail> {
     expect(&rt, AT_EACH_LIMIT)
-}
-
-/// Returns whether a range has the version of a text.
-fn affects(alloc: Global, range: &OsvRange, text: &str) -> Result<bool, Fail> {
-    let version = version(alloc, text)?;
-    Ok(range.affects(&version))
-}
-
-/// Checks whether a range has versions.
-fn expect_affected<T: AllocGlobal + Abort>(
-    rt: &T,
-    range: &OsvRange,
-    rows: &[(&str, bool)],
-) -> Result<(), Fail> {
-    for (text, affected) in rows {
-        assert!(rt; affects(rt.alloc(), range, text)? == *affected, "at {text}");
-    }
-    Ok(())
-}
-
-// A range answers by the order of `Version`, in which build metadata counts.
-#[test]
-fn affects_by_the_order_of_the_type(rt: HostRuntime) -> Result<(), Fail> {
-    let range = OsvRange {
-        introduced: Some(version(rt.alloc(), "1.0.0+b")?),
-        fixed: Some(version(rt.alloc(), "2.0.0+b")?),
-    };
-    expect_affected(
-        &rt,
-        &range,
-        &[
-            ("1.0.0", false),
-            ("1.0.0+b", true),
-            ("2.0.0", true),
-            ("2.0.0+b", false),
-        ],
-    )
-}
-
-/// Returns the interval from a version on.
-fn from(alloc: Global, text: &str) -> Result<UnaffectedRange, Fail> {
-    let bound = Bound::Inclusive(version(alloc, text)?);
-    Ok(UnaffectedRange::new(alloc, bound, Bound::Unbounded)?)
-}
-
-/// Returns the interval up to a version.
-fn up_to(alloc: Global, text: &str) -> Result<UnaffectedRange, Fail> {
-    let bound = Bound::Inclusive(version(alloc, text)?);
-    Ok(UnaffectedRange::new(alloc, Bound::Unbounded, bound)?)
-}
-
-/// Returns whether the interval from a version on overlaps that up to another one, and itself.
-fn overlaps(alloc: Global, low: &str, high: &str) -> Result<(bool, bool), Fail> {
-    let above = from(alloc, low)?;
-    let below = up_to(alloc, high)?;
-    Ok((above.overlaps(&below), above.overlaps(&above)))
-}
-
-// Bounds made by hand overlap by the order of `Version`, in which build metadata counts.
-#[test]
-fn overlap_by_the_order_of_the_type(rt: HostRuntime) -> Result<(), Fail> {
-    assert!(rt; overlaps(rt.alloc(), "1.0.0+b", "1.0.0+a")? == (false, true));
-    Ok(())
-}
-
-/// Returns whether an interval holds the version of a text.
-fn holds_version(alloc: Global, interval: &UnaffectedRange, text: &str) -> Result<bool, Fail> {
-    let version = version(alloc, text)?;
-    Ok(interval.holds(&version))
-}
-
-/// Checks whether an interval holds versions.
-fn expect_held<T: AllocGlobal + Abort>(
-    rt: &T,
-    interval: &UnaffectedRange,
-    rows: &[(&str, bool)],
-) -> Result<(), Fail> {
-    for (text, held) in rows {
-        assert!(rt;
-            holds_version(rt.alloc(), interval, text)? == *held,
-            "at {text}"
-        );
-    }
-    Ok(())
-}
-
-// An interval holds versions by precedence, which ignores build metadata.
-#[test]
-fn holds_by_precedence(rt: HostRuntime) -> Result<(), Fail> {
-    let till = interval(rt.alloc(), "<= 1.2.3")??;
-    expect_held(
-        &rt,
-        &till,
-        &[("1.2.3-a", true), ("1.2.3+b", true), ("1.2.4-0", false)],
-    )
-}
-
-/// Patched requirements, with some overlaps, and the versions that they leave affected.
-const MERGED: &[Row<'static>] = &[
-    Row {
-        patched: &[">= 1.0.0, < 1.5.0", ">= 1.4.0, < 2.0.0"],
-        unaffected: &[],
-        ranges: &[("-", "1.0.0"), ("2.0.0", "-")],
-        affected: &[("0.9.9", true), ("1.4.5", false), ("2.0.0", true)],
-    },
-    Row {
-        patched: &[">= 1, < 3", ">= 4, < 6", ">= 2, < 5"],
-        unaffected: &[],
-        ranges: &[("-", "1.0.0"), ("6.0.0", "-")],
-        affected: &[("3.5.0", false), ("5.9.9", false), ("6.0.0", true)],
-    },
-    Row {
-        patched: &["^1", "^1", "~1.9"],
-        unaffected: &[],
-        ranges: &[("-", "1.0.0"), ("2.0.0-0", "-")],
-        affected: &[("1.9.5", false), ("2.0.0-0", true)],
-    },
-    Row {
-        patched: &["> 1.0.0", ">= 1.0.0", "< 2.0.0, > 1.5.0"],
-        unaffected: &["< 0.5.0"],
-        ranges: &[("0.5.0", "1.0.0")],
-        affected: &[("0.5.0", true), ("1.0.0", false), ("2.0.0", false)],
-    },
-];
-
-#[test]
-fn merged_chains(rt: HostRuntime) -> Result<(), Fail> {
-    expect(&rt, MERGED)
-}
-
-/// Patched requirements that touch one another.
-const TOUCHING: &[Row<'static>] = &[
-    Row {
-        patched: &["=1.2.3", ">= 1.2.3"],
-        unaffected: &[],
-        ranges: &[("-", "1.2.3")],
-        affected: &[("1.2.2", true), ("1.2.3", false)],
-    },
-    Row {
-        patched: &["=1.2.3", "> 1.2.3"],
-        unaffected: &[],
-        ranges: &[("-", "1.2.3"), ("1.2.4-0", "1.2.4-0")],
-        affected: &[("1.2.2", true), ("1.2.3", false), ("1.2.4-0", false)],
-    },
-    Row {
-        patched: &["< 1.2.3", ">= 1.2.3"],
-        unaffected: &[],
-        ranges: &[("1.2.3", "1.2.3")],
-        affected: &[("1.2.2", false), ("1.2.3", false)],
-    },
-    Row {
-        patched: &["*", ">= 1"],
-        unaffected: &[],
-        ranges: &[],
-        affected: &[("0.1.0", false), ("1.0.0", false)],
-    },
-];
-
-#[test]
-fn touching_stays_apart(rt: HostRuntime) -> Result<(), Fail> {
-    expect(&rt, TOUCHING)
-}
-
-/// Returns whether the advisory with these patched requirements finds these versions vulnerable.
-fn advisory_finds(alloc: Global, patched: &str, rows: &[(&str, bool)]) -> Result<bool, Fail> {
-    let text = changed(alloc, VALID, "[\">= 1.2.3\"]", patched)?;
-    let advisory = Advisory::from_str(alloc, &text)?;
-    for (text, affected) in rows {
-        let asked = version(alloc, text)?;
-        if advisory.versions.is_vulnerable(&asked) != *affected {
-            return Ok(false);
-        }
-    }
-    Ok(true)
-}
-
-#[test]
-fn clash_between_lists(rt: HostRuntime) -> Result<(), Fail> {
-    expect_refused(&rt, &[(&["^1.2"], &["^1"]), (&[], &["< 1.0.0", "< 1.0.0"])])?;
-    let patched = "[\">= 1.2.3\", \"> 1.2.3\"]";
-    let rows = &[("1.2.3", false), ("1.2.2", true)];
-    assert!(rt; advisory_finds(rt.alloc(), patched, rows)?);
-    Ok(())
 }

@@ -3,7 +3,7 @@
 use rustsec_fixtures::{Holds, Paths};
 
 /// Three advisories and some lockfiles and policies. `http` is affected below 2.0.0, and from 1.5.0 to 2.1.0; nobody
-/// maintains `left`.
+/// maintains `left`. `aliased` is another database, of two advisories with aliases.
 pub const FILES: Paths<'_> = &[
     (
         "db/crates",
@@ -36,6 +36,30 @@ pub const FILES: Paths<'_> = &[
         "db/crates/left/RUSTSEC-2022-0001.md",
         Holds::Text(
             "```toml\n[advisory]\nid = \"RUSTSEC-2022-0001\"\npackage = \"left\"\ndate = \"2022-01-01\"\ninformational = \"unmaintained\"\n\n[versions]\npatched = []\n```\n\n# V\n\nD\n",
+        ),
+    ),
+    (
+        "aliased/crates",
+        Holds::Entries(&[("http", true), ("left", true)]),
+    ),
+    (
+        "aliased/crates/http",
+        Holds::Entries(&[("RUSTSEC-2021-0003.md", false)]),
+    ),
+    (
+        "aliased/crates/left",
+        Holds::Entries(&[("RUSTSEC-2022-0002.md", false)]),
+    ),
+    (
+        "aliased/crates/http/RUSTSEC-2021-0003.md",
+        Holds::Text(
+            "```toml\n[advisory]\nid = \"RUSTSEC-2021-0003\"\npackage = \"http\"\ndate = \"2021-01-03\"\naliases = [\"CVE-2021-1000\", \"GHSA-aaaa-bbbb-cccc\", \"RUSTSEC-2022-0002\"]\n\n[versions]\npatched = [\">= 2.0.0\"]\n```\n\n# T\n\nD\n",
+        ),
+    ),
+    (
+        "aliased/crates/left/RUSTSEC-2022-0002.md",
+        Holds::Text(
+            "```toml\n[advisory]\nid = \"RUSTSEC-2022-0002\"\npackage = \"left\"\ndate = \"2022-01-02\"\naliases = [\"CVE-2021-1000\"]\n\n[versions]\npatched = [\">= 0.1.0\"]\n```\n\n# V\n\nD\n",
         ),
     ),
     ("empty/crates", Holds::Entries(&[])),

@@ -1,6 +1,6 @@
 //! The forms of a check.
 
-use crate::answers::append;
+use crate::answers::{append, writes};
 use rustsec_commands::Fault;
 use std::alloc::Global;
 use std::test::Fail;
@@ -31,5 +31,31 @@ fn check_formats(rt: HostRuntime) -> Result<(), Fail> {
     for (form, text) in FORMS {
         assert!(rt; begins(rt.alloc(), form, text)?, "of {form}");
     }
+    Ok(())
+}
+
+/// A check with colors: the IDs and the word `yanked` are bold, the ratings red.
+const COLORED: &str =
+    "\u{1b}[1mRUSTSEC-2021-0001\u{1b}[0m http 1.0.0: T\n  vulnerability, \u{1b}[31mhigh 7.5\u{1b}[0m\n  app 0.1.0 → web 1.0.0 → http 1.0.0\n  update to 2.1.0 (incompatible with ^1.0.0)\n\u{1b}[1mRUSTSEC-2022-0001\u{1b}[0m left 0.2.0: V\n  unmaintained\n  app 0.1.0 → left 0.2.0\n  no fixed version\n\u{1b}[1myanked\u{1b}[0m left 0.2.0\n  app 0.1.0 → left 0.2.0\nnote: no such package in the registry: web\n1 vulnerability, 1 warning, 1 yanked, 0 ignored; looked at 3 advisories and 4 packages\n";
+
+#[test]
+fn check_colors(rt: HostRuntime) -> Result<(), Fail> {
+    let words = &[
+        "check", "db", "lock", "--index", "index", "--color", "always",
+    ];
+    assert!(rt; writes(rt.alloc(), words, "", 1, COLORED)?, "always");
+    Ok(())
+}
+
+/// The same check without colors.
+const PLAIN: &str =
+    "RUSTSEC-2021-0001 http 1.0.0: T\n  vulnerability, high 7.5\n  app 0.1.0 → web 1.0.0 → http 1.0.0\n  update to 2.1.0 (incompatible with ^1.0.0)\nRUSTSEC-2022-0001 left 0.2.0: V\n  unmaintained\n  app 0.1.0 → left 0.2.0\n  no fixed version\nyanked left 0.2.0\n  app 0.1.0 → left 0.2.0\nnote: no such package in the registry: web\n1 vulnerability, 1 warning, 1 yanked, 0 ignored; looked at 3 advisories and 4 packages\n";
+
+#[test]
+fn check_no_colors(rt: HostRuntime) -> Result<(), Fail> {
+    let words = &[
+        "check", "db", "lock", "--index", "index", "--color", "never",
+    ];
+    assert!(rt; writes(rt.alloc(), words, "", 1, PLAIN)?, "never");
     Ok(())
 }

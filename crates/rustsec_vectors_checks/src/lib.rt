@@ -7,9 +7,15 @@ mod answers;
 #[cfg(test)]
 mod checks;
 #[cfg(test)]
+mod explanations;
+#[cfg(test)]
 mod files;
 #[cfg(test)]
 mod formats;
+#[cfg(test)]
+mod large_inputs;
+#[cfg(test)]
+mod readings;
 #[cfg(test)]
 mod split;
 #[cfg(test)]

@@ -1,6 +1,7 @@
 //! The commands `audit` and `report`, over files that a test writes, and what an audit writes.
 
 use crate::outputs::{CommandRow, expect_outputs};
+use crate::roots::EMPTY_REPORT;
 use rustsec_commands::{Fault, write_audit};
 use rustsec_fixtures::{ADVISORIES, ByteWriter, FOUR_PACKAGES, make_root};
 use rustsec_lock::Lockfile;
@@ -126,12 +127,7 @@ fn empty_report(rt: HostRuntime) -> Result<(), Fail> {
         &[],
         "",
         &[
-            (
-                &["report", root, lock],
-                "",
-                0,
-                "{\"lockfile\":{\"dependency-count\":0},\"settings\":{\"ignore\":[],\"informational_warnings\":[\"notice\",\"unmaintained\",\"unsound\"],\"severity\":null,\"target_arch\":[],\"target_os\":[]},\"vulnerabilities\":{\"count\":0,\"found\":false,\"list\":[]},\"warnings\":{}}\n",
-            ),
+            (&["report", root, lock], "", 0, EMPTY_REPORT),
             (
                 &["audit", root, lock, "--deny-warnings"],
                 "",

@@ -15,6 +15,8 @@ mod disk;
 #[cfg(test)]
 mod lint;
 #[cfg(test)]
+mod lint_keys;
+#[cfg(test)]
 mod osv_command;
 #[cfg(test)]
 mod outputs;

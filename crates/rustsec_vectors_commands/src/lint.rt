@@ -26,7 +26,7 @@ fn print(alloc: Global, errors: &[linter::Error], texts: &[&str]) -> Result<bool
 }
 
 /// Returns whether a text has these lint errors, in a file that is a draft's, none's or one not known.
-fn has_errors(
+pub(crate) fn has_errors(
     alloc: Global,
     text: &str,
     draft: Option<bool>,

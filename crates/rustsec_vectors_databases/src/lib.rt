@@ -13,6 +13,8 @@ mod hostile_input;
 #[cfg(test)]
 mod listings;
 #[cfg(test)]
+mod openings;
+#[cfg(test)]
 mod osv_documents;
 #[cfg(test)]
 mod osv_export;

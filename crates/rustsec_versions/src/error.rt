@@ -1,6 +1,7 @@
 //! The errors of all crates.
 
 ghost use Rattle.std.specs.Prelude.{◌≡◌, ◌⊎◌, Some, None, IfErr, IfOk, option_map};
+ghost use Rattle.std.specs.Option.{option_copied};
 ghost use Rattle.rustsec_versions.specs.Failure.{IsMemory, IsOfKind, kind_text, out_of_memory};
 
 use rustsec_values::{ExactClone, Text};
@@ -105,6 +106,17 @@ impl Error {
                 cause: Some(cause),
             },
             _ => Error::from(AllocError),
+        }
+    }
+
+    /// Returns an error with this message and this cause, if any; `OutOfMemory` if a copy fails.
+    pub fn with_cause(alloc: Global, kind: ErrorKind, message: &str, cause: Option<&str>) -> Error
+        ensures { (result ≡ record { kind = kind; message = message.now; cause = option_copied cause.entry })
+            ⊎ (result ≡ out_of_memory) }
+    {
+        match cause {
+            Some(cause) => Error::with_source(alloc, kind, message, cause),
+            None => Error::new(alloc, kind, message),
         }
     }
 

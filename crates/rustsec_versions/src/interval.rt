@@ -1,6 +1,6 @@
 //! Intervals of versions that are not affected.
 
-ghost use Rattle.std.specs.Prelude.{◌≡◌, IfErr, IfOk, OnErr, OnOk, None, Some, false, option_map, refl, true};
+ghost use Rattle.std.specs.Prelude.{◌≡◌, ◌≢◌, IfErr, IfOk, OnErr, OnOk, None, Some, false, option_map, refl, true};
 ghost use Rattle.std.specs.Cmp.{on_equiv, on_per, partial_equiv_from_equiv};
 ghost use Rattle.std.specs.Fmt.{DisplaysOnOk};
 ghost use Rattle.semver.specs.Identifiers.{parts_of};
@@ -53,6 +53,9 @@ impl Bound {
     pub fn clone(&self, _alloc: Global) -> Result<Bound>
         ensures ok { IfOk result (λ b. endpoint_of b ≡ endpoint_of self.now) }
         ensures err { IfErr result IsMemory }
+
+        // `Unbounded` takes no memory.
+        ensures none { OnErr result (bound_version_of self.now ≢ None) }
     {
         let copy = Clone::clone(self)?;
         Ok(copy)
@@ -62,7 +65,11 @@ impl Bound {
 impl Clone for Bound {
     ghost is_clone = { λ a b. endpoint_of b ≡ endpoint_of a };
 
-    fn clone(&self) -> std::result::Result<Bound, AllocError> {
+    // `Unbounded` takes no memory.
+    fn clone(&self) -> std::result::Result<Bound, AllocError>
+        ensures ok { IfOk result (λ b. endpoint_of b ≡ endpoint_of self.now) }
+        ensures none { OnErr result (bound_version_of self.now ≢ None) }
+    {
         match self {
             Bound::Unbounded => Ok(Bound::Unbounded),
             Bound::Exclusive(version) => Ok(Bound::Exclusive(version.clone()?)),

@@ -1,7 +1,6 @@
 //! Errors that say what was found, what was expected, and where.
 
 ghost use Rattle.std.specs.Prelude.{◌≡◌, ◌⊎◌, IfOk, string_bytes};
-ghost use Rattle.std.specs.Option.{option_copied};
 ghost use Rattle.rustsec_versions.specs.Failure.{IsMemory, IsOfKind, IsRefusal};
 ghost use Rattle.rustsec_versions.specs.Refusals.{ShowsText, at_place, of_file, whole_message};
 
@@ -11,16 +10,6 @@ use std::alloc::{AllocError, Global};
 
 /// The number of bytes of a refused text that its message shows.
 const SHOWN: usize = 60;
-
-/// Returns an error with this message and this cause, if any.
-fn with_cause(alloc: Global, kind: ErrorKind, message: &str, cause: Option<&str>) -> Error
-    ensures { (result ≡ record { kind = kind; message = message.now; cause = option_copied cause.entry }) ⊎ IsMemory result }
-{
-    match cause {
-        Some(cause) => Error::with_source(alloc, kind, message, cause),
-        None => Error::new(alloc, kind, message),
-    }
-}
 
 /// Returns the error for a refused text. Its message says what is wrong, shows the text's first 60 bytes, cut between
 /// two characters, and says what was expected.
@@ -46,7 +35,7 @@ pub fn refused_at(alloc: Global, place: &str, error: &Error) -> Error
     }
     let message = error.message();
     match format!(in alloc; "{place}: {message}") {
-        Ok(message) => with_cause(alloc, error.kind(), &message, error.cause()),
+        Ok(message) => Error::with_cause(alloc, error.kind(), &message, error.cause()),
         Err(refused) => Error::from(refused),
     }
 }

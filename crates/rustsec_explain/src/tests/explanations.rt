@@ -1,6 +1,6 @@
 //! Explanations by a name and by an ID.
 
-use super::makers::{CRATES, INDEX, Keys, LISTS, Locked, advisory, package};
+use super::makers::{INDEX, Keys, LISTS, Locked, advisory, package};
 use crate::{Explained, explain, explain_id};
 use rustsec_advisory::Advisory;
 use rustsec_lock::package::Package;
@@ -30,11 +30,33 @@ fn are_short(pairs: &[Explained<'_>], shorts: &[Short]) -> bool {
             .all(|(pair, short)| is_short(pair, short))
 }
 
-/// The advisories of the explanations.
+/// The advisories of the explanations. The first and the last one have an alias in common, and the ID of the last one is
+/// an alias of the second.
 const ADVISORIES: &[(&str, &str, Keys)] = &[
-    ("RUSTSEC-2020-0001", "base", (CRATES, LISTS)),
-    ("RUSTSEC-2020-0002", "other", (CRATES, LISTS)),
-    ("RUSTSEC-2020-0003", "base", ("", LISTS)),
+    (
+        "RUSTSEC-2020-0001",
+        "base",
+        (
+            "collection = \"crates\"\naliases = [\"CVE-2020-1000\"]\n",
+            LISTS,
+        ),
+    ),
+    (
+        "RUSTSEC-2020-0002",
+        "other",
+        (
+            "collection = \"crates\"\naliases = [\"RUSTSEC-2020-0003\", \"CVE-2020-1001\"]\n",
+            LISTS,
+        ),
+    ),
+    (
+        "RUSTSEC-2020-0003",
+        "base",
+        (
+            "aliases = [\"GHSA-aaaa-bbbb-cccc\", \"CVE-2020-1000\"]\n",
+            LISTS,
+        ),
+    ),
 ];
 
 /// The packages of the explanations.
@@ -119,7 +141,7 @@ const NAMES: &[(&str, &[Short])] = &[
     ("base2", &[]),
 ];
 
-/// IDs, likewise.
+/// IDs, likewise: those of advisories, those that some list as aliases, and unknown ones.
 const IDS: &[(&str, &[Short])] = &[
     (
         "RUSTSEC-2020-0003",
@@ -127,6 +149,21 @@ const IDS: &[(&str, &[Short])] = &[
     ),
     ("RUSTSEC-2020-0002", &[("RUSTSEC-2020-0002", 1, 0)]),
     ("RUSTSEC-2020-0004", &[]),
+    (
+        "CVE-2020-1000",
+        &[
+            ("RUSTSEC-2020-0001", 0, 0),
+            ("RUSTSEC-2020-0001", 2, 1),
+            ("RUSTSEC-2020-0003", 0, 1),
+            ("RUSTSEC-2020-0003", 2, 2),
+        ],
+    ),
+    ("CVE-2020-1001", &[("RUSTSEC-2020-0002", 1, 0)]),
+    (
+        "GHSA-aaaa-bbbb-cccc",
+        &[("RUSTSEC-2020-0003", 0, 1), ("RUSTSEC-2020-0003", 2, 2)],
+    ),
+    ("CVE-2020-1002", &[]),
 ];
 
 /// Returns whether all rows of names hold.

@@ -1,16 +1,21 @@
-//! What tests are made of: an advisory, packages and reasons.
+//! What tests are made of: an advisory, packages, reasons and entries of a policy.
 
 use rustsec_advisory::Advisory;
 use rustsec_explain::Reason;
 use rustsec_lock::SourceId;
 use rustsec_lock::package::{Name, Package};
-use rustsec_values::Items;
+use rustsec_policy::Ignored;
+use rustsec_texts::{Date, Id};
+use rustsec_values::{Items, Text};
 use semver::Version;
 use std::alloc::Global;
 use std::test::Fail;
 
 /// The name, the version and the source of a package.
 pub(crate) type Locked = (&'static str, &'static str, Option<&'static str>);
+
+/// The ID, the reason and the last day of an entry of a policy.
+pub(crate) type Entry = (&'static str, Option<&'static str>, Option<&'static str>);
 
 /// An advisory about `base` that is patched from 1.2.3 on and does not affect versions below 0.5.0.
 const ADVISORY: &str =
@@ -50,4 +55,30 @@ pub(crate) fn reasons(alloc: Global, listed: &[Reason]) -> Result<Items<Reason>,
         reasons.push(*reason)?;
     }
     Ok(reasons)
+}
+
+/// Returns a day, if there is a text.
+fn day(alloc: Global, text: Option<&str>) -> Result<Option<Date>, Fail> {
+    match text {
+        Some(text) => Ok(Some(Date::from_str(alloc, text)?)),
+        None => Ok(None),
+    }
+}
+
+/// Returns an entry of a policy.
+fn entry(alloc: Global, row: &Entry) -> Result<Ignored, Fail> {
+    let (id, reason, until) = row;
+    let until = day(alloc, *until)?;
+    let reason = Text::from_option(alloc, *reason)?;
+    let id = Id::from_str(alloc, id)?;
+    Ok(Ignored { id, reason, until })
+}
+
+/// Returns the entries of a row.
+pub(crate) fn entries(alloc: Global, rows: &[Entry]) -> Result<Vec<Ignored>, Fail> {
+    let mut entries = Vec::new(alloc);
+    for row in rows {
+        entries.push(entry(alloc, row)?)?;
+    }
+    Ok(entries)
 }

@@ -12,13 +12,16 @@ ghost use Rattle.semver.specs.Identifiers.{parts_of};
 
 use crate::ranges::OsvJsonRange;
 use crate::timeline::OsvTimelineEvent;
-use rustsec_json::{FromTree, at_key, fields_of, member, refused, required_at, unexpected};
+use rustsec_json::{FromTree, at_index, at_key, fields_of, member, required_at, unexpected};
 use rustsec_values::Text;
 use rustsec_versions::{Error, ErrorKind, Result, read_version};
 use semver::Version;
 use serde_json::{Map, Value};
 use std::alloc::{AllocError, Global};
 use std::marker::Model;
+
+/// What is expected of an event.
+const EVENT: &str = "an object with one key, `introduced`, `fixed` or `last_affected`";
 
 /// Returns the number of dots in a text.
 fn dots(text: &str) -> usize
@@ -76,8 +79,8 @@ fn version_at(alloc: Global, key: &str, tree: &Value) -> Result<Version>
     }
 }
 
-/// Reads the event of an object's key.
-fn event_in(alloc: Global, fields: &Map<String, Value>) -> Result<OsvTimelineEvent>
+/// Reads the event of an object's key. `tree` is the object, for messages.
+fn event_in(alloc: Global, tree: &Value, fields: &Map<String, Value>) -> Result<OsvTimelineEvent>
     ensures ok { IfOk result (λ e. event_in (members_view fields.now.entries) ≡ Some (event_of e)) }
     ensures err { IfErr result (IsRefusal ErrorKind.Parse (event_in (members_view fields.now.entries) ≡ None)) }
 {
@@ -93,10 +96,7 @@ fn event_in(alloc: Global, fields: &Map<String, Value>) -> Result<OsvTimelineEve
         let version = version_at(alloc, "last_affected", tree)?;
         return Ok(OsvTimelineEvent::LastAffected(version));
     }
-    Err(refused(
-        alloc,
-        "one of the keys `introduced`, `fixed` and `last_affected` was expected",
-    ))
+    Err(unexpected(alloc, tree, EVENT))
 }
 
 /// Returns whether an object has exactly one key.
@@ -113,9 +113,20 @@ fn event(alloc: Global, tree: &Value) -> Result<OsvTimelineEvent>
 {
     let fields = fields_of(alloc, tree)?;
     if !is_lone(fields) {
-        return Err(refused(alloc, "an event has another number of keys, expected one"));
+        return Err(unexpected(alloc, tree, EVENT));
     }
-    event_in(alloc, fields)
+    event_in(alloc, tree, fields)
+}
+
+/// Reads an event at a position in a list.
+fn event_at(alloc: Global, tree: &Value, index: usize) -> Result<OsvTimelineEvent>
+    ensures ok { IfOk result (λ e. read_event (view tree.now) ≡ Some (event_of e)) }
+    ensures err { IfErr result (IsRefusal ErrorKind.Parse (read_event (view tree.now) ≡ None)) }
+{
+    match event(alloc, tree) {
+        Ok(event) => Ok(event),
+        Err(e) => Err(at_index(alloc, index, &e)),
+    }
 }
 
 /// Appends an event.
@@ -134,7 +145,7 @@ fn events_of(alloc: Global, trees: &Vec<Value>) -> Result<Vec<OsvTimelineEvent>>
 {
     let mut read = Vec::new(alloc);
     for tree in trees {
-        match event(alloc, tree) {
+        match event_at(alloc, tree, read.len()) {
             Ok(event) => add(&mut read, event)?,
             Err(e) => return Err(e),
         }

@@ -21,7 +21,7 @@ const LOCAL: &str =
     "`source = \"local\"` in [packages] is not followed: only packages of the default registry are checked";
 
 const DENY: &str =
-    "`yanked` at `deny` in [output] denies nothing: no package is reported as yanked here";
+    "`yanked` at `deny` in [output] denies nothing without an index: no package is looked up";
 
 const ROWS: &[(&str, &[&str])] = &[
     ("", &[]),

@@ -158,7 +158,15 @@ const ENTRIES: &[(&str, &str)] = &[
     ),
     (
         "[advisories]\nignore = [\"RUSTEC-2020-0001\"]",
-        "line 2, column 11: key `ignore` in [advisories]: unknown form of ID `RUSTEC-2020-0001`, expected `RUSTSEC-`, `CVE-`, `GHSA-` or `TALOS-` at its beginning",
+        "line 2, column 11: key `ignore` in [advisories]: unknown form of ID `RUSTEC-2020-0001`, expected `RUSTSEC-`, `CVE-`, `GHSA-` or `TALOS-` at its beginning; did you mean `RUSTSEC-`?",
+    ),
+    (
+        "[advisories]\nignore = [\"CVE-2020-1\", \"GSHA-aaaa-bbbb-cccc\"]",
+        "line 2, column 25: key `ignore` in [advisories]: unknown form of ID `GSHA-aaaa-bbbb-cccc`, expected `RUSTSEC-`, `CVE-`, `GHSA-` or `TALOS-` at its beginning; did you mean `GHSA-`?",
+    ),
+    (
+        "[advisories]\nignore = [{ id = \"cve-2020-1234\" }]",
+        "line 2, column 11: key `ignore` in [advisories]: key `id` in an entry of `ignore`: unknown form of ID `cve-2020-1234`, expected `RUSTSEC-`, `CVE-`, `GHSA-` or `TALOS-` at its beginning; did you mean `CVE-`?",
     ),
     (
         "[[advisories.ignore]]\nid = \"FOO-1\"",

@@ -1,9 +1,9 @@
 //! Advisories with a description of a megabyte, and with thousands of affected functions.
 
-use crate::large_inputs::folders::{LargeFolders, output_over};
+use crate::large_inputs::folders::output_over;
 use crate::large_inputs::{FUNCTIONS, numbered, occurrences};
 use rustsec_advisory::{Advisory, Linter};
-use rustsec_fixtures::{VALID, changed};
+use rustsec_fixtures::{Holds, VALID, changed};
 use rustsec_osv::OsvAdvisory;
 use std::alloc::Global;
 use std::test::Fail;
@@ -66,12 +66,7 @@ fn document(alloc: Global, text: &str) -> Result<String, Fail> {
 
 /// Returns what a command writes of an advisory's file, if its status is 0.
 fn written(alloc: Global, words: &[&str], file: &str) -> Result<String, Fail> {
-    let mut folders = LargeFolders {
-        count: 0,
-        lockfile: "",
-        file,
-    };
-    let (status, written) = output_over(alloc, &mut folders, words)?;
+    let (status, written) = output_over(alloc, &[("file.md", Holds::Text(file))], words)?;
     if status != 0 {
         return Err(Fail::from("another status"));
     }

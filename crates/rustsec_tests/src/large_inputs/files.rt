@@ -1,9 +1,11 @@
 //! Databases of thousands of files, and lockfiles of thousands of packages.
 
-use crate::large_inputs::folders::{FOLDER, LargeFolders, advisory_text, id_of, output_over};
+use crate::large_inputs::folders::{FOLDER, advisory_text, id_of, output_over};
 use crate::large_inputs::{ADVISORIES, PACKAGES, numbered, occurrences};
 use rustsec::database::{Database, Query};
 use rustsec::report::{Report, Settings};
+use rustsec_files::path;
+use rustsec_fixtures::Holds;
 use rustsec_folders::SourceFile;
 use rustsec_lock::Lockfile;
 use rustsec_lock::package::Name;
@@ -125,15 +127,40 @@ fn thousands_of_packages_and_advisories(rt: HostRuntime) -> Result<(), Fail> {
     Ok(())
 }
 
+/// Returns the entries of the folder of some files.
+fn entries_of<'a>(alloc: Global, files: &'a [SourceFile]) -> Result<Vec<(&'a str, bool)>, Fail> {
+    let mut entries = Vec::new(alloc);
+    for file in files {
+        let name = path::file_name(file.path.as_str()).ok_or("no name")?;
+        entries.push((name, false))?;
+    }
+    Ok(entries)
+}
+
+/// Returns rows for some files, their folder with these entries, and a lockfile.
+fn rows_of<'a>(
+    alloc: Global,
+    files: &'a [SourceFile],
+    entries: &'a [(&'a str, bool)],
+    lockfile: &'a str,
+) -> Result<Vec<(&'a str, Holds<'a>)>, Fail> {
+    let mut rows = Vec::new(alloc);
+    rows.push(("lock", Holds::Text(lockfile)))?;
+    rows.push(("db/crates", Holds::Entries(&[("base", true)])))?;
+    rows.push((FOLDER, Holds::Entries(entries)))?;
+    for file in files {
+        rows.push((file.path.as_str(), Holds::Text(file.text.as_str())))?;
+    }
+    Ok(rows)
+}
+
 /// Returns the status and the text that words write over thousands of advisories and packages.
 fn written(alloc: Global, words: &[&str]) -> Result<(u8, String), Fail> {
     let lockfile = one_vulnerable(alloc)?;
-    let mut folders = LargeFolders {
-        count: ADVISORIES,
-        lockfile: &lockfile,
-        file: "",
-    };
-    let (status, bytes) = output_over(alloc, &mut folders, words)?;
+    let files = source_files(alloc, ADVISORIES)?;
+    let entries = entries_of(alloc, &files)?;
+    let rows = rows_of(alloc, &files, &entries, &lockfile)?;
+    let (status, bytes) = output_over(alloc, &rows, words)?;
     Ok((status, String::from_utf8(bytes)?))
 }
 

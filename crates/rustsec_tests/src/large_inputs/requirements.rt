@@ -1,7 +1,8 @@
 //! Hundreds of requirements: unaffected ones of a single version each, below patched ones that leave gaps.
 
-use crate::large_inputs::{REQUIREMENTS, numbered};
-use rustsec_fixtures::{lists, version, writes};
+use crate::large_inputs::folders::output_over;
+use crate::large_inputs::{REQUIREMENTS, numbered, occurrences};
+use rustsec_fixtures::{Holds, SHORT, changed, lists, version, writes};
 use rustsec_versions::{Versions, ranges_for_advisory};
 use std::alloc::Global;
 use std::process::Abort;
@@ -147,5 +148,138 @@ fn ranges_answers<T: Files + AllocGlobal>(rt: &T) -> Result<bool, Fail> {
 fn commands_of_hundreds_of_requirements(rt: HostRuntime) -> Result<(), Fail> {
     assert!(rt; affected_answers(&rt)?);
     assert!(rt; ranges_answers(&rt)?);
+    Ok(())
+}
+
+/// Returns a list of the texts with numbers, as it prints: a template for each number, after a comma.
+fn listed(alloc: Global, template: &str) -> Result<String, Fail> {
+    let texts = numbered(alloc, REQUIREMENTS, template)?;
+    let list = texts.strip_prefix(",").ok_or("no comma")?;
+    Ok(format!(in alloc; "[{list}]")?)
+}
+
+/// Returns the patched requirements as a list, and the unaffected ones.
+fn requirement_lists(alloc: Global) -> Result<(String, String), Fail> {
+    Ok((
+        listed(alloc, ",\">=@.0.0, <@.5.0\"")?,
+        listed(alloc, ",\"=0.0.@\"")?,
+    ))
+}
+
+/// Returns the text of an advisory with both lists.
+fn advisory(alloc: Global) -> Result<String, Fail> {
+    let (patched, unaffected) = requirement_lists(alloc)?;
+    let keys = format!(in alloc; "patched = {patched}\nunaffected = {unaffected}")?;
+    changed(alloc, SHORT, "patched = [\">= 1.2.3\"]", &keys)
+}
+
+/// The package `base` in a lockfile, in a version of each patched requirement and in the version that it ends with.
+const TWO_PACKAGES: &str = "[[package]]\nname = \"base\"\nversion = \"@.4.9\"\n\
+    source = \"registry+https://github.com/rust-lang/crates.io-index\"\n\
+    [[package]]\nname = \"base\"\nversion = \"@.5.0\"\n\
+    source = \"registry+https://github.com/rust-lang/crates.io-index\"\n";
+
+/// The path of the advisory.
+const PLACE: &str = "db/crates/base/RUSTSEC-2001-2101.md";
+
+/// How many of the patched requirements have packages in the lockfile of a report, which writes all requirements with
+/// each package.
+const REPORTED: u32 = 10;
+
+/// Returns the folders with an advisory of this text, and a lockfile.
+fn rows_of<'a>(
+    alloc: Global,
+    advisory: &'a str,
+    lockfile: &'a str,
+) -> Result<Vec<(&'a str, Holds<'a>)>, Fail> {
+    let mut rows = Vec::new(alloc);
+    rows.push(("lock", Holds::Text(lockfile)))?;
+    rows.push((PLACE, Holds::Text(advisory)))?;
+    rows.push(("db/crates", Holds::Entries(&[("base", true)])))?;
+    rows.push((
+        "db/crates/base",
+        Holds::Entries(&[("RUSTSEC-2001-2101.md", false)]),
+    ))?;
+    Ok(rows)
+}
+
+/// Returns the status and the text that words write over the advisory and a lockfile with packages for this many of the
+/// patched requirements.
+fn written(alloc: Global, count: u32, words: &[&str]) -> Result<(u8, String), Fail> {
+    let advisory = advisory(alloc)?;
+    let lockfile = numbered(alloc, count, TWO_PACKAGES)?;
+    let rows = rows_of(alloc, &advisory, &lockfile)?;
+    let (status, bytes) = output_over(alloc, &rows, words)?;
+    Ok((status, String::from_utf8(bytes)?))
+}
+
+/// Returns the events of the ranges that the lists leave, as they print in a document.
+fn events(alloc: Global) -> Result<String, Fail> {
+    let mut text = String::from_str(alloc, "\"events\":[{\"introduced\":\"0.0.0-0\"}")?;
+    for at in 0..REQUIREMENTS {
+        let (end, next) = (at + 1, at + 2);
+        let one = format!(in alloc;
+            ",{{\"fixed\":\"0.0.{end}\"}},{{\"introduced\":\"0.0.{next}-0\"}}"
+        )?;
+        text.push_str(&one)?;
+    }
+    let patched = numbered(
+        alloc,
+        REQUIREMENTS,
+        ",{\"fixed\":\"@.0.0\"},{\"introduced\":\"@.5.0\"}",
+    )?;
+    text.push_str(&patched)?;
+    text.push_str("]")?;
+    Ok(text)
+}
+
+/// Returns whether `lint` finds nothing, and `osv` writes the events of all ranges.
+fn advisory_commands_answer(alloc: Global) -> Result<bool, Fail> {
+    let (status, errors) = written(alloc, 0, &["lint", PLACE])?;
+    let (exported, document) = written(alloc, 0, &["osv", PLACE, "2020-01-01T00:00:00Z"])?;
+    let events = events(alloc)?;
+    let is_clean = status == 0 && errors.is_empty();
+    Ok(is_clean && exported == 0 && occurrences(&document, &events) == 1)
+}
+
+/// Returns whether `audit` lists the package in each version that is affected.
+fn audit_answers(alloc: Global) -> Result<bool, Fail> {
+    let lines = numbered(
+        alloc,
+        REQUIREMENTS,
+        "vulnerability RUSTSEC-2001-2101 base @.5.0\n",
+    )?;
+    let expected = format!(in alloc; "{lines}{REQUIREMENTS} vulnerabilities, 0 warnings\n")?;
+    let (status, text) = written(alloc, REQUIREMENTS, &["audit", "db", "lock"])?;
+    Ok(status == 1 && text == expected)
+}
+
+/// Returns whether `report` counts these, and writes both lists with each.
+fn report_answers(alloc: Global) -> Result<bool, Fail> {
+    let (patched, unaffected) = requirement_lists(alloc)?;
+    let lists = format!(in alloc;
+        "\"versions\":{{\"patched\":{patched},\"unaffected\":{unaffected}}}"
+    )?;
+    let count = format!(in alloc; "\"vulnerabilities\":{{\"count\":{REPORTED},\"found\":true,")?;
+    let (status, text) = written(alloc, REPORTED, &["report", "db", "lock"])?;
+    let many = occurrences(&text, &lists) == REPORTED as usize;
+    Ok(status == 1 && many && occurrences(&text, &count) == 1)
+}
+
+#[test]
+fn an_advisory_of_hundreds_of_requirements(rt: HostRuntime) -> Result<(), Fail> {
+    assert!(rt; advisory_commands_answer(rt.alloc())?);
+    Ok(())
+}
+
+#[test]
+fn an_audit_by_hundreds_of_requirements(rt: HostRuntime) -> Result<(), Fail> {
+    assert!(rt; audit_answers(rt.alloc())?);
+    Ok(())
+}
+
+#[test]
+fn a_report_by_hundreds_of_requirements(rt: HostRuntime) -> Result<(), Fail> {
+    assert!(rt; report_answers(rt.alloc())?);
     Ok(())
 }

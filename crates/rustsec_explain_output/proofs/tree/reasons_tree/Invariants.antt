@@ -5,4 +5,4 @@ use Rattle.rustsec_explain_output.proofs.tree.reasons_tree.Given as goal
 
 -- the trees of the reasons so far
 abbrev pub invariant-loop-reason : goal.invariant-loop-reason
-invariant-loop-reason l = map view l.trees.items ≡ map (reason_tree l.settings l.pair) (take l.reason-index l.pair.reasons)
+invariant-loop-reason l = map view l.trees.items ≡ map (reason_tree l.rules l.pair) (take l.reason-index l.pair.reasons)

@@ -8,5 +8,5 @@ use Rattle.rustsec_program.proofs.explain.explain_line.Goals as goal
 pub returns-clause-ok : goal.returns-clause-ok
 returns-clause-ok c =
     let is = c.in_ok-tree.ensures.ok in
-    let plain : has_float (view c.in_ok-tree.tree) ≡ false = ap has_float is ∙ explain-plain c.args.settings.now c.args.pairs.now in
+    let plain : has_float (view c.in_ok-tree.tree) ≡ false = ap has_float is ∙ explain-plain c.args.rules.now c.args.pairs.now in
     c.in_ok-line.ensures plain ∙ ap tree_line is

@@ -1,5 +1,6 @@
-use Rattle.std.proofs.Common.{inr}
+use Rattle.std.proofs.Common.{inr, refl}
 use Rattle.std.proofs.lemmas.Result.{err_from_is_err_and}
+use Rattle.rustsec_advisory.proofs.KnownKeys.{keys-known}
 use Rattle.rustsec_advisory.proofs.Unique.{lints_unique}
 use Rattle.rustsec_advisory.proofs.linter.Linter.lint_string.Goals as goal
 
@@ -12,3 +13,6 @@ pub returns-clause-only : goal.returns-clause-only
 returns-clause-only c b fs k =
     lints_unique _ _ b _ fs _ k
     (record { document = _; is_advisory = c.in_ok-advisory.ensures.ok; errors_are = c.in_ok-errors.ensures.ok })
+
+pub returns-clause-keys : goal.returns-clause-keys
+returns-clause-keys c = keys-known _ _ refl refl

@@ -1,4 +1,0 @@
-use Rattle.rustsec_advisory.proofs.lint_rules.lint_draft.Goals as goal
-
-pub returns-clause-ok : goal.returns-clause-ok
-returns-clause-ok c = rw (c.differs-test.ensures, c.is_placeholder.ensures) at c.add_if.ensures.ok

@@ -1,4 +1,0 @@
-use Rattle.rustsec_advisory.proofs.lint_rules.lint_informational.Goals as goal
-
-pub returns-clause-ok : goal.returns-clause-ok
-returns-clause-ok c = rw (c.in-Some.is, ← c.is_other.ensures, ← c.as_str.ensures.value) c.add_if.ensures.ok

@@ -1,0 +1,50 @@
+//! Where the keys of lint errors are in the file of an advisory, for messages.
+
+use crate::advisory::{first_line, front_place, header_keys};
+use crate::linter::{Error, ErrorKind};
+use rustsec_texts::Parts;
+use std::alloc::{AllocError, Global};
+
+/// Returns the key that a lint error is about.
+fn key_of(error: &Error) -> &str {
+    match error.kind() {
+        ErrorKind::InvalidKey { name } => name.as_str(),
+        ErrorKind::InvalidValue { name, value: _ } => match name.as_str() {
+            "category" => "categories",
+            key => key,
+        },
+        ErrorKind::Malformed => match error.section() {
+            Some("metadata") => "yanked",
+            _ => "collection",
+        },
+    }
+}
+
+/// Returns the keys that lead to a section in a front matter.
+fn section_keys(front: &str, section: Option<&str>) -> &'static [&'static str] {
+    match section {
+        Some("affected") => &["affected"],
+        Some("versions") => &["versions"],
+        Some(_) => header_keys(front),
+        None => &[],
+    }
+}
+
+/// Returns the line of an advisory's text in which the key of a lint error is, from 1 on; none if the text has no front
+/// matter.
+///
+/// # Errors
+///
+/// `AllocError` alone.
+pub fn lint_error_line(
+    alloc: Global,
+    text: &str,
+    error: &Error,
+) -> Result<Option<usize>, AllocError> {
+    let Ok(parts) = Parts::parse(alloc, text) else {
+        return Ok(None);
+    };
+    let front = front_place(parts.front_matter, first_line(text));
+    let keys = section_keys(parts.front_matter, error.section());
+    front.at(keys).line_of(alloc, key_of(error))
+}

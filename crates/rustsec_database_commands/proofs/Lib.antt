@@ -1,0 +1,6 @@
+pub mod OptionWords
+pub mod Outputs
+pub mod Once
+pub mod OsvWords
+pub mod StatsPlain
+pub mod Counted

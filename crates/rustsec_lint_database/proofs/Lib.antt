@@ -1,0 +1,5 @@
+pub mod Firsts
+pub mod CountLaws
+pub mod Once
+pub mod Placed
+pub mod Said

@@ -1,0 +1,7 @@
+pub mod Remarks
+pub mod Placement
+pub mod Upstream
+pub mod Files
+pub mod Entries
+pub mod Firsts
+pub mod Counts

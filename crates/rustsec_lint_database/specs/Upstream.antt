@@ -1,0 +1,22 @@
+-- What the Rust crate refuses of an advisory.
+use Rattle.std.specs.Prelude.{ℕ, ◌++◌, List, [], Option, None, Some, codes, is_some}
+use Rattle.rustsec_versions.specs.Lists.{Lists, accepted_apart}
+use Rattle.rustsec_lock.specs.Source.{Source, url_of}
+use Rattle.rustsec_advisory.specs.Addresses.{address_of}
+use Rattle.rustsec_advisory.specs.declared.advisory.Advisory.{Advisory}
+use Rattle.rustsec_lint_database.specs.Remarks.{unless}
+use Rattle.rustsec_lint_database.specs.declared.remark.Remark.{Remark}
+use Rattle.rustsec_lint_database.specs.declared.remark.RemarkKind.TheVariants as kind
+
+-- patched requirements that overlap
+abbrev pub overlap_remarks : Lists → List Remark
+overlap_remarks ls = unless (accepted_apart ls) kind.Upstream (codes "the Rust crate refuses patched requirements that overlap")
+
+-- a source whose address is not a URL
+abbrev pub source_remarks : Option Source → List Remark
+source_remarks None = []
+source_remarks (Some s) = unless (is_some (address_of (url_of s))) kind.Upstream (codes "the Rust crate refuses a `source` whose address is not a URL")
+
+-- what the Rust crate refuses of an advisory
+abbrev pub upstream_remarks : Advisory → List Remark
+upstream_remarks a = overlap_remarks a.versions ++ source_remarks a.metadata.source

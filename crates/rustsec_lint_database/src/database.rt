@@ -1,0 +1,170 @@
+//! Lints the files under a root, and finds the IDs that occur twice.
+
+ghost use Rattle.std.specs.Prelude.{◌≡◌, ◌++◌, ◌∷◌, [], IfErr, IfOk, List, None, OnOk, map};
+ghost use Rattle.rustsec_folders.specs.Allowed.{AllowSame};
+ghost use Rattle.rustsec_folders.specs.Listed.{Paths};
+ghost use Rattle.rustsec_versions.specs.Failure.{IsRefusal};
+ghost use Rattle.rustsec_lint_database.specs.Entries.{AreEntries, AreLintedAt, first_with};
+ghost use Rattle.rustsec_lint_database.specs.Files.{IsLintAt};
+ghost use Rattle.rustsec_lint_database.specs.Firsts.{AreFirsts, IsAdded, file_of};
+ghost use Rattle.rustsec_lint_database.specs.declared.file.FileLint.{FileLint};
+
+use crate::file::{FileLint, FileNotes, lint_file};
+use rustsec_folders::{Folders, source_paths};
+use rustsec_texts::Id;
+use rustsec_values::{Items, Text};
+use rustsec_versions::{ErrorKind, Result};
+use std::alloc::{AllocError, Global};
+use std::collections::BTreeMap;
+
+/// A file of a database with its remarks.
+#[derive(Debug, Drop)]
+pub struct Entry {
+    /// The file with its remarks.
+    pub file: FileLint,
+    /// The path of the first file before it that has its ID, if any.
+    pub first: Option<Text>,
+}
+
+/// A file that was linted, among all files.
+#[derive(Clone, Copy)]
+pub struct Step<'a> {
+    /// How many files are linted.
+    pub done: usize,
+    /// How many files there are.
+    pub all: usize,
+    /// The path of the last file that was linted.
+    pub path: &'a str,
+    /// The notes on that file.
+    pub notes: &'a FileNotes,
+}
+
+/// Someone who is told after each file how far the files are linted.
+pub trait Watcher {
+    /// Takes note of one more file.
+    fn linted(&mut self, step: Step<'_>);
+}
+
+/// The files that are linted, and for each ID the path of the first file that has it.
+#[derive(Drop)]
+struct Linting {
+    entries: Items<Entry>,
+    firsts: BTreeMap<Id, Text>,
+}
+
+impl Linting {
+    /// Returns the path of the first file that has an ID, if any.
+    fn first_with(&self, id: &Option<Id>) -> std::result::Result<Option<Text>, AllocError>
+        requires { AreFirsts self.now.firsts (map file_of self.now.entries) }
+        ensures { IfOk result (λ o. o ≡ first_with id.now (map file_of self.now.entries)) }
+    {
+        let Some(id) = id else {
+            return Ok(None);
+        };
+        match self.firsts.get(id) {
+            Some(path) => {
+                let path = Clone::clone(path)?;
+                Ok(Some(path))
+            }
+            None => Ok(None),
+        }
+    }
+
+    /// Keeps the path of a file, if it is the first one that has its ID.
+    fn keep_first(
+        &mut self,
+        file: &FileLint,
+        first: &Option<Text>,
+    ) -> std::result::Result<(), AllocError>
+        requires firsts { AreFirsts self.old.firsts (map file_of self.old.entries) }
+        requires first { first.now ≡ first_with file.now.id (map file_of self.old.entries) }
+        ensures entries { OnOk result (self.new.entries ≡ self.old.entries) }
+        ensures firsts { OnOk result (AreFirsts self.new.firsts (map file_of self.old.entries ++ file.now ∷ [])) }
+    {
+        if first.is_some() {
+            return Ok(());
+        }
+        let Some(id) = &file.id else {
+            return Ok(());
+        };
+        let id = Clone::clone(id)?;
+        let path = Clone::clone(&file.path)?;
+        self.firsts.insert(id, path)?;
+        Ok(())
+    }
+
+    /// Appends a file, with the path of the first file that has its ID.
+    fn add(&mut self, file: FileLint) -> std::result::Result<(), AllocError>
+        requires { AreFirsts self.old.firsts (map file_of self.old.entries) }
+        ensures { OnOk result (IsAdded file self.old.entries self.new.entries self.new.firsts) }
+    {
+        let first = self.first_with(&file.id)?;
+        self.keep_first(&file, &first)?;
+        self.entries.push(Entry { file, first })
+    }
+}
+
+/// Lints the file at a path after others, and returns the notes on it.
+fn lint_next<F: Folders>(
+    alloc: Global,
+    folders: &mut F,
+    linting: &mut Linting,
+    path: &str,
+) -> std::result::Result<FileNotes, AllocError>
+    requires { AreFirsts linting.old.firsts (map file_of linting.old.entries) }
+    ensures ok { OnOk result ((f : FileLint) × (IsLintAt (F.allowed folders.old) path.now f
+        × IsAdded f linting.old.entries linting.new.entries linting.new.firsts)) }
+    ensures same { AllowSame (F.allowed folders.old) (F.allowed folders.new) }
+{
+    let linted = lint_file(alloc, folders, path)?;
+    linting.add(linted.lint)?;
+    Ok(linted.notes)
+}
+
+/// Lints the files at some paths. One text is held at a time.
+fn lint_paths<F: Folders, W: Watcher>(
+    alloc: Global,
+    folders: &mut F,
+    paths: &[Text],
+    watcher: &mut W,
+) -> std::result::Result<Items<Entry>, AllocError>
+    ensures ok { IfOk result (AreLintedAt (F.allowed folders.old) paths.now) }
+    ensures same { AllowSame (F.allowed folders.old) (F.allowed folders.new) }
+{
+    let mut linting = Linting {
+        entries: Items::new(alloc),
+        firsts: BTreeMap::new(alloc),
+    };
+    for path in paths {
+        let notes = lint_next(alloc, folders, &mut linting, path.as_str())?;
+        watcher.linted(Step {
+            done: linting.entries.len(),
+            all: paths.len(),
+            path: path.as_str(),
+            notes: &notes,
+        });
+    }
+    Ok(linting.entries)
+}
+
+/// Lints the files under a root: those of `crates` and after them those of `rust`, in the order of their folders' names
+/// and then of their own. Nothing that is wrong with a file stops the rest. All folders are listed first; then each file
+/// is read and linted, and its text is dropped. The watcher is told after each file.
+///
+/// # Errors
+///
+/// `Io` if `crates` or a package's folder cannot be listed; else `OutOfMemory`.
+pub fn lint_database<F: Folders, W: Watcher>(
+    alloc: Global,
+    folders: &mut F,
+    root: &str,
+    watcher: &mut W,
+) -> Result<Items<Entry>>
+    ensures ok { IfOk result (AreEntries (F.allowed folders.old) root.now) }
+    ensures err { IfErr result (IsRefusal ErrorKind.Io (Paths (F.allowed folders.old) root.now None)) }
+    ensures same { AllowSame (F.allowed folders.old) (F.allowed folders.new) }
+{
+    let paths = source_paths(alloc, folders, root)?;
+    let entries = lint_paths(alloc, folders, paths.as_slice(), watcher)?;
+    Ok(entries)
+}

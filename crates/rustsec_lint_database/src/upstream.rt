@@ -1,0 +1,138 @@
+//! What the Rust crate refuses of an advisory.
+
+ghost use Rattle.std.specs.Prelude.{◌≡◌, ◌++◌, IfOk, OnOk, is_some, map};
+ghost use Rattle.rustsec_versions.specs.Lists.{accepted_apart};
+ghost use Rattle.rustsec_versions.specs.Views.{comparators_of};
+ghost use Rattle.rustsec_advisory.specs.Addresses.{address_of};
+ghost use Rattle.rustsec_lint_database.specs.Upstream.{overlap_remarks, source_remarks, upstream_remarks};
+
+use crate::remark::{Remark, RemarkKind, push_remark};
+use rustsec_advisory::{Address, Advisory};
+use rustsec_lock::SourceId;
+use rustsec_values::Items;
+use rustsec_versions::{ErrorKind, Versions};
+use semver::VersionReq;
+use std::alloc::{AllocError, Global};
+
+/// Returns an equal requirement.
+fn copy_of(requirement: &VersionReq) -> Result<VersionReq, AllocError>
+    ensures { IfOk result (λ r. comparators_of r ≡ comparators_of requirement.now) }
+{
+    let copy = requirement.clone()?;
+    Ok(copy)
+}
+
+/// Appends copies of the requirements of a list.
+fn push_copies(all: &mut Vec<VersionReq>, list: &[VersionReq]) -> Result<(), AllocError>
+    ensures { OnOk result (map comparators_of all.new.items ≡ map comparators_of all.old.items ++ map comparators_of list.now) }
+{
+    for requirement in list {
+        let copy = copy_of(requirement)?;
+        all.push(copy)?;
+    }
+    Ok(())
+}
+
+/// Returns copies of the patched requirements, and after them of the unaffected ones.
+fn all_of(alloc: Global, versions: &Versions) -> Result<Vec<VersionReq>, AllocError>
+    ensures { IfOk result (λ v. map comparators_of v.items ≡ versions.now.patched ++ versions.now.unaffected) }
+{
+    let mut all = Vec::new(alloc);
+    push_copies(&mut all, versions.patched())?;
+    push_copies(&mut all, versions.unaffected())?;
+    Ok(all)
+}
+
+/// Returns whether no two requirements overlap, whichever lists they are in.
+fn are_apart(alloc: Global, versions: &Versions) -> Result<bool, AllocError>
+    ensures { IfOk result (λ b. b ≡ accepted_apart versions.now) }
+{
+    let all = all_of(alloc, versions)?;
+    match Versions::new(alloc, Vec::new(alloc), all) {
+        Ok(_) => Ok(true),
+        Err(e) => match e.kind() {
+            ErrorKind::BadParam => Ok(false),
+            _ => Err(AllocError),
+        },
+    }
+}
+
+/// Appends the remark on patched requirements that overlap.
+fn push_overlap(
+    alloc: Global,
+    remarks: &mut Items<Remark>,
+    versions: &Versions,
+) -> Result<(), AllocError>
+    ensures { OnOk result (remarks.new ≡ remarks.old ++ overlap_remarks versions.now) }
+{
+    if are_apart(alloc, versions)? {
+        return Ok(());
+    }
+    let text = "the Rust crate refuses patched requirements that overlap";
+    push_remark(
+        remarks,
+        RemarkKind::Upstream,
+        String::from_str(alloc, text)?,
+    )
+}
+
+/// Returns whether a text is an address (URL Standard).
+fn is_address(alloc: Global, text: &str) -> Result<bool, AllocError>
+    ensures { IfOk result (λ b. b ≡ is_some (address_of text.now)) }
+{
+    match Address::from_str(alloc, text) {
+        Ok(_) => Ok(true),
+        Err(e) => match e.kind() {
+            ErrorKind::Parse => Ok(false),
+            _ => Err(AllocError),
+        },
+    }
+}
+
+/// Appends the remark on a source whose address is not a URL.
+fn push_source(
+    alloc: Global,
+    remarks: &mut Items<Remark>,
+    source: &Option<SourceId>,
+) -> Result<(), AllocError>
+    ensures { OnOk result (remarks.new ≡ remarks.old ++ source_remarks source.now) }
+{
+    let Some(source) = source else {
+        return Ok(());
+    };
+    if is_address(alloc, source.url())? {
+        return Ok(());
+    }
+    let text = "the Rust crate refuses a `source` whose address is not a URL";
+    push_remark(
+        remarks,
+        RemarkKind::Upstream,
+        String::from_str(alloc, text)?,
+    )
+}
+
+/// Appends what the Rust crate refuses of an advisory.
+pub(crate) fn push_upstream(
+    alloc: Global,
+    remarks: &mut Items<Remark>,
+    advisory: &Advisory,
+) -> Result<(), AllocError>
+    ensures { OnOk result (remarks.new ≡ remarks.old ++ upstream_remarks advisory.now) }
+{
+    push_overlap(alloc, remarks, &advisory.versions)?;
+    push_source(alloc, remarks, &advisory.metadata.source)
+}
+
+/// Returns what the Rust crate refuses of an advisory: patched requirements that overlap, and a source whose address is
+/// not a URL.
+///
+/// # Errors
+///
+/// Out of memory.
+pub fn upstream_remarks(alloc: Global, advisory: &Advisory) -> Result<Items<Remark>, AllocError>
+    ensures { IfOk result (λ remarks. remarks ≡ upstream_remarks advisory.now) }
+{
+    let mut remarks = Items::new(alloc);
+    push_upstream(alloc, &mut remarks, advisory)?;
+    Ok(remarks)
+}

@@ -1,0 +1,2 @@
+pub mod LintText
+pub mod LintTree

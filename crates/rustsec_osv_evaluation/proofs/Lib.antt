@@ -1,0 +1,6 @@
+pub mod Agreement
+pub mod OneOrder
+pub mod DroppedPairs
+pub mod Saying
+pub mod Turning
+pub mod Sorted

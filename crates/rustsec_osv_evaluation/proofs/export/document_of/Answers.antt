@@ -1,0 +1,10 @@
+use Rattle.rustsec_osv_evaluation.proofs.Agreement.{evaluated-ok, normalized-ok}
+use Rattle.rustsec_osv_evaluation.proofs.export.document_of.Goals as goal
+
+pub returns-clause-evaluated : goal.returns-clause-evaluated
+returns-clause-evaluated c =
+    evaluated-ok c.args.advisory c.args.modified.now c.from_rustsec.result c.from_rustsec.ensures.ok c.from_rustsec.ensures.events
+
+pub returns-clause-normalized : goal.returns-clause-normalized
+returns-clause-normalized c =
+    normalized-ok c.args.advisory c.args.modified.now c.from_rustsec.result c.from_rustsec.ensures.ok c.from_rustsec.ensures.events

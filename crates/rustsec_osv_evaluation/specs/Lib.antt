@@ -1,0 +1,4 @@
+pub mod Document
+pub mod Event
+pub mod Pairs
+pub mod Range

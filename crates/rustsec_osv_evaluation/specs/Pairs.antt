@@ -1,0 +1,58 @@
+-- Documents without two events at one version. It carries meaning: public contracts cite it.
+use Rattle.std.specs.Prelude.{◌≡◌, ◌&&◌, Bool, List, [], ◌∷◌, false, if◌then◌else◌, map, option_map}
+use Rattle.std.specs.List.{AllPairs}
+use Rattle.semver.specs.Parse.{Parts}
+use Rattle.rustsec_versions.specs.Precedence.{is_at_most}
+use Rattle.rustsec_osv.specs.DocumentEvents.{Event, JsonRange}
+use Rattle.rustsec_osv.specs.Documents.{Document}
+use Rattle.rustsec_osv.specs.declared.affected.OsvAffected.{OsvAffected}
+use Rattle.rustsec_osv_evaluation.specs.Event.{seen, version_of}
+
+-- the version of an event
+abbrev pub at : Event → Parts
+at e = version_of (seen e)
+
+-- whether two events are at one version, by precedence
+abbrev pub are_at_one : Event → Event → Bool
+are_at_one e f = is_at_most (at e) (at f) && is_at_most (at f) (at e)
+
+-- no two events are at one version. In an exported document two are only where requirements touch: where one interval ends, the next one begins, or where an
+-- interval is empty
+abbrev pub HaveOwnVersions : List Event → Type 0
+HaveOwnVersions es = AllPairs (λ e f. are_at_one e f ≡ false) es
+
+-- events without the pairs of neighbours at one version
+abbrev pub normalized : List Event → List Event
+normalized [] = []
+normalized (e ∷ []) = e ∷ []
+normalized (e ∷ f ∷ es) = if are_at_one e f then normalized es else e ∷ normalized (f ∷ es)
+
+abbrev pub normalized_range : JsonRange → JsonRange
+normalized_range r = record { kind = r.kind; events = normalized r.events }
+
+abbrev pub normalized_member : OsvAffected → OsvAffected
+normalized_member a = record {
+  «package» = a.«package»;
+  ecosystem_specific = a.ecosystem_specific;
+  database_specific = a.database_specific;
+  ranges = option_map (map normalized_range) a.ranges;
+  versions = a.versions;
+}
+
+-- a document whose ranges have no such pairs; all else is the same
+abbrev pub normalized_document : Document → Document
+normalized_document d = record {
+  schema_version = d.schema_version;
+  id = d.id;
+  modified = d.modified;
+  published = d.published;
+  withdrawn = d.withdrawn;
+  aliases = d.aliases;
+  related = d.related;
+  summary = d.summary;
+  details = d.details;
+  severity = d.severity;
+  affected = map normalized_member d.affected;
+  references = d.references;
+  database_specific = d.database_specific;
+}

@@ -1,0 +1,16 @@
+//! OSV's evaluation of documents (OSV schema, "Evaluation"), and documents without two events at one version.
+#![tactic(auto)]
+
+mod document;
+mod event;
+mod export;
+mod pairs;
+mod range;
+#[cfg(test)]
+mod tests;
+
+pub use crate::document::{Question, is_affected};
+pub use crate::event::Event;
+pub use crate::export::document_of;
+pub use crate::pairs::normalized;
+pub use crate::range::says_affected;

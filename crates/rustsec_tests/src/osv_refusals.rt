@@ -1,0 +1,113 @@
+//! What refusals of OSV documents say: where the refused value is, what was found, and what was expected.
+
+use crate::refusal_messages::refuses;
+use rustsec_osv::OsvAdvisory;
+use serde_json::Value;
+use std::alloc::{AllocError, Global};
+use std::process::Abort;
+use std::test::Fail;
+
+/// Trees of no OSV document, the messages of their refusals, and whether these have a cause.
+const DOCUMENTS: &[(&str, &str, bool)] = &[
+    ("[]", "found the list `[]`, expected an object", false),
+    ("null", "found `null`, expected an object", false),
+    ("{}", "key `id` is missing", false),
+    (
+        "{\"id\":3}",
+        "at `id`: found the number `3`, expected a string",
+        false,
+    ),
+    (
+        "{\"schema_version\":\"1.0\"}",
+        "at `schema_version`: malformed version `1.0`, expected one such as `1.2.3`",
+        true,
+    ),
+    (
+        "{\"id\":\"X-1\",\"modified\":\"\",\"published\":\"\",\"summary\":\"\",\"details\":\"\",\"aliases\":{\"a\":true}}",
+        "at `aliases`: found the object `{\"a\":true}`, expected a list",
+        false,
+    ),
+    (
+        "{\"id\":\"X-1\",\"modified\":\"\",\"published\":\"\",\"summary\":\"\",\"details\":\"\",\"affected\":[{\"package\":{\"name\":\"a\",\"ecosystem\":\"b\",\"purl\":\"c\"},\"database_specific\":{},\"ranges\":[{\"type\":\"SEMVER\",\"events\":[{\"fixed\":\"1.x\"}]}]}]}",
+        "at `affected[0].ranges[0].events[0].fixed`: malformed version `1.x`, expected one such as `1.2.3`",
+        true,
+    ),
+    (
+        "{\"id\":\"X-1\",\"modified\":\"\",\"published\":\"\",\"summary\":\"\",\"details\":\"\",\"aliases\":[\"CVE-2001-0001\",3]}",
+        "at `aliases[1]`: found the number `3`, expected a string",
+        false,
+    ),
+    (
+        "{\"id\":\"X-1\",\"modified\":\"\",\"published\":\"\",\"summary\":\"\",\"details\":\"\",\"affected\":[{\"package\":{\"name\":\"a\",\"ecosystem\":\"b\",\"purl\":\"c\"},\"database_specific\":{},\"ranges\":[{\"type\":\"SEMVER\",\"events\":[{\"introduced\":\"1.0.0\"},{\"limit\":\"2.0.0\"}]}]}]}",
+        "at `affected[0].ranges[0].events[1]`: found the object `{\"limit\":\"2.0.0\"}`, expected an object with one key, `introduced`, `fixed` or `last_affected`",
+        false,
+    ),
+    (
+        "{\"id\":\"X-1\",\"modified\":\"\",\"published\":\"\",\"summary\":\"\",\"details\":\"\",\"affected\":[{\"package\":{\"name\":\"a\",\"ecosystem\":\"b\",\"purl\":\"c\"},\"database_specific\":{},\"ranges\":[{\"type\":\"SEMVER\",\"events\":[{\"introduced\":\"1.0.0\"},{}]}]}]}",
+        "at `affected[0].ranges[0].events[1]`: found the object `{}`, expected an object with one key, `introduced`, `fixed` or `last_affected`",
+        false,
+    ),
+    (
+        "{\"id\":\"X-1\",\"modified\":\"\",\"published\":\"\",\"summary\":\"\",\"details\":\"\",\"affected\":[{\"package\":{\"name\":\"a\",\"ecosystem\":\"b\",\"purl\":\"c\"},\"database_specific\":{},\"ranges\":[{\"type\":\"SEMVER\",\"events\":[{\"introduced\":\"1.0.0\"},{\"fixed\":\"2.0.0\",\"last_affected\":\"3.0.0\"}]}]}]}",
+        "at `affected[0].ranges[0].events[1]`: found the object `{\"fixed\":\"2.0.0\",\"last_affected\":\"3.0.0\"}`, expected an object with one key, `introduced`, `fixed` or `last_affected`",
+        false,
+    ),
+    (
+        "{\"id\":\"X-1\",\"modified\":\"\",\"published\":\"\",\"summary\":\"\",\"details\":\"\",\"affected\":[{\"package\":{\"name\":\"a\",\"ecosystem\":\"b\",\"purl\":\"c\"},\"database_specific\":{},\"ranges\":[{\"type\":\"SEMVER\",\"events\":[{\"introduced\":\"1.0.0\"},{\"fixed\":\"2.0.0\"}]}]},{}]}",
+        "at `affected[1]`: key `package` is missing",
+        false,
+    ),
+];
+
+/// Returns whether a text is the JSON of a tree that is refused with this message.
+fn tree_refused(
+    alloc: Global,
+    text: &str,
+    message: &str,
+    caused: bool,
+) -> std::result::Result<bool, Fail> {
+    let tree = Value::from_str(alloc, text)?;
+    Ok(refuses(OsvAdvisory::from_value(alloc, &tree), message, caused))
+}
+
+/// Goes through the trees.
+fn expect_documents<T: AllocGlobal + Abort>(rt: &T) -> std::result::Result<(), Fail> {
+    for (text, message, caused) in DOCUMENTS {
+        assert!(rt;
+            tree_refused(rt.alloc(), text, message, *caused)?,
+            "of {text}"
+        );
+    }
+    Ok(())
+}
+
+// A refusal of a tree has the path of keys and positions to what is refused, and keeps the reason of `semver`.
+#[test]
+fn osv_refusal_paths(rt: HostRuntime) -> std::result::Result<(), Fail> {
+    expect_documents(&rt)
+}
+
+/// Returns a tree of this many lists, each in the one before.
+fn lists(alloc: Global, depth: usize) -> std::result::Result<Value, AllocError> {
+    let mut tree = Value::Null;
+    for _ in 0..depth {
+        let mut items = Vec::new(alloc);
+        items.push(tree)?;
+        tree = Value::Array(items);
+    }
+    Ok(tree)
+}
+
+/// Returns whether a deep tree is refused with the beginning of its text.
+fn is_shown_in_part(alloc: Global, depth: usize) -> std::result::Result<bool, Fail> {
+    let tree = lists(alloc, depth)?;
+    let shown = "[".repeat(alloc, 60)?;
+    let message = format!(in alloc; "found the list `{shown}`, expected an object")?;
+    Ok(refuses(OsvAdvisory::from_value(alloc, &tree), &message, false))
+}
+
+#[test]
+fn deep_trees_are_refused(rt: HostRuntime) -> std::result::Result<(), Fail> {
+    assert!(rt; is_shown_in_part(rt.alloc(), 1000)?);
+    Ok(())
+}

@@ -1,0 +1,210 @@
+//! The document of a text, and where its tables and keys are.
+
+ghost use Rattle.std.specs.Prelude.{◌≡◌, IfErr, IfOk, None, Some};
+ghost use Rattle.toml.specs.Parse.{parse_document};
+ghost use Rattle.toml.specs.View.{table_view};
+ghost use Rattle.rustsec_versions.specs.Failure.{IsMemory, IsOfKind, IsRefusal};
+
+use crate::lines::shown_line;
+use crate::statements::key_at;
+use rustsec_places::Place;
+use rustsec_versions::{Error, ErrorKind, Result};
+use std::alloc::{AllocError, Global};
+use toml::Table;
+
+/// Where a table is in a file.
+#[derive(Clone, Copy)]
+pub struct TablePlace<'a> {
+    /// The text of its document; empty if it is unknown.
+    pub text: &'a str,
+    /// The keys that lead to the table.
+    pub path: &'a [&'a str],
+    /// The position of the table, from 0 on, if it is in an array of tables.
+    pub index: Option<usize>,
+    /// The line of the file in which the text begins, from 1 on.
+    pub line: usize,
+}
+
+/// Returns the keys that lead to a key of a table.
+fn keys_to<'k>(
+    alloc: Global,
+    path: &[&'k str],
+    key: &'k str,
+) -> std::result::Result<Vec<&'k str>, AllocError> {
+    let mut keys = Vec::new(alloc);
+    for part in path {
+        keys.push(*part)?;
+    }
+    keys.push(key)?;
+    Ok(keys)
+}
+
+/// Returns the text from the key in the header of a table on. The table is at a position in an array of tables.
+fn table_at<'a>(alloc: Global, text: &'a str, path: &[&str], index: usize) -> Option<&'a str> {
+    let mut found = key_at(alloc, text, path)?;
+    for _ in 0..index {
+        let (_, rest) = found.split_once('\n')?;
+        found = key_at(alloc, rest, path)?;
+    }
+    Some(found)
+}
+
+/// Returns the text from a key of a table on, where the text begins in the header of the table.
+fn key_in_table<'a>(alloc: Global, table: &'a str, path: &[&str], key: &str) -> Option<&'a str> {
+    let (_, body) = table.split_once('\n')?;
+    let found = key_at(alloc, body, &[key])?;
+    match key_at(alloc, body, path) {
+        // The key is that of the next table.
+        Some(next) if next.len() > found.len() => None,
+        _ => Some(found),
+    }
+}
+
+/// Returns a message with a place before it and the line after it.
+fn placed(
+    alloc: Global,
+    at: TablePlace<'_>,
+    place: Place,
+    message: &str,
+) -> std::result::Result<String, AllocError> {
+    let line = shown_line(alloc, at.text, place.line)?;
+    let words = place.from_line(at.line).in_words(alloc)?;
+    format!(in alloc; "{words}: {message}, at `{line}`")
+}
+
+impl<'a> TablePlace<'a> {
+    /// Returns the place of a table that is in no known text.
+    pub fn unknown() -> TablePlace<'static> {
+        TablePlace {
+            text: "",
+            path: &[],
+            index: None,
+            line: 1,
+        }
+    }
+
+    /// Returns the place of a whole document.
+    pub fn whole(text: &'a str) -> TablePlace<'a> {
+        TablePlace {
+            text,
+            path: &[],
+            index: None,
+            line: 1,
+        }
+    }
+
+    /// Returns the place of another table of the same document, to which these keys lead.
+    pub fn at(self, path: &'a [&'a str]) -> TablePlace<'a> {
+        TablePlace {
+            text: self.text,
+            path,
+            index: None,
+            line: self.line,
+        }
+    }
+
+    /// Returns the text from a key of the table on; from the table's own key on if that one is not found.
+    fn from_key(self, alloc: Global, key: &str) -> std::result::Result<&'a str, AllocError> {
+        if let Some(index) = self.index {
+            if let Some(table) = table_at(alloc, self.text, self.path, index) {
+                return Ok(key_in_table(alloc, table, self.path, key).unwrap_or(table));
+            }
+        }
+        let keys = keys_to(alloc, self.path, key)?;
+        if let Some(found) = key_at(alloc, self.text, &keys) {
+            return Ok(found);
+        }
+        Ok(key_at(alloc, self.text, self.path).unwrap_or(self.text))
+    }
+
+    /// Returns the line of the file in which a key of the table is, from 1 on, if the text is known; the line of the
+    /// table if the key is not there.
+    ///
+    /// # Errors
+    ///
+    /// `AllocError` alone.
+    pub fn line_of(
+        self,
+        alloc: Global,
+        key: &str,
+    ) -> std::result::Result<Option<usize>, AllocError> {
+        if self.text.is_empty() {
+            return Ok(None);
+        }
+        let place = Place::of_end(self.text, self.from_key(alloc, key)?);
+        Ok(Some(place.from_line(self.line).line))
+    }
+
+    /// Returns a message about a key of the table, with the key's place.
+    fn message_at(
+        self,
+        alloc: Global,
+        key: &str,
+        message: &str,
+    ) -> std::result::Result<String, AllocError> {
+        let place = Place::of_end(self.text, self.from_key(alloc, key)?);
+        placed(alloc, self, place, message)
+    }
+
+    /// Adds the place of a key of the table to an error about it, if the text is known. Out of memory stays as it is.
+    pub fn refused_at(self, alloc: Global, key: &str, error: Error) -> Error
+        ensures kind { IsOfKind error.kind result }
+        ensures memory { IsMemory error → IsMemory result }
+    {
+        if self.text.is_empty() || error.kind() == ErrorKind::OutOfMemory {
+            return error;
+        }
+        match self.message_at(alloc, key, error.message()) {
+            Ok(message) => Error::with_cause(alloc, error.kind(), &message, error.cause()),
+            Err(refused) => Error::from(refused),
+        }
+    }
+}
+
+/// Returns the message for a text that is not a TOML document from the offset of its fault on. The text ends with the
+/// text of the place.
+fn no_document_at(
+    alloc: Global,
+    at: TablePlace<'_>,
+    from_end: usize,
+    name: &str,
+) -> std::result::Result<String, AllocError> {
+    let place = Place::of_offset(at.text, at.text.len().saturating_sub(from_end));
+    let message = format!(in alloc; "{name} is not a TOML document")?;
+    placed(alloc, at, place, &message)
+}
+
+/// Returns the error for a text that is not a TOML document. Its message has the place of the fault and the line, and
+/// its cause is the reason of `toml`.
+fn no_document(
+    alloc: Global,
+    text: &str,
+    at: TablePlace<'_>,
+    name: &str,
+    error: &toml::de::Error,
+) -> Error
+    ensures { IsOfKind ErrorKind.Parse result }
+{
+    let offset = error.span().map_or(0, |span| span.start);
+    match no_document_at(alloc, at, text.len().saturating_sub(offset), name) {
+        Ok(message) => Error::with_source(alloc, ErrorKind::Parse, &message, error.message()),
+        Err(refused) => Error::from(refused),
+    }
+}
+
+/// Parses a document (TOML 1.1.0). For messages, `name` says what the text is, and `at` where it is: the text ends with
+/// the text of that place.
+///
+/// # Errors
+///
+/// `Parse` if the text is not a TOML document; else `OutOfMemory`. The message has the place of the fault and its line.
+pub fn document(alloc: Global, text: &str, at: TablePlace<'_>, name: &str) -> Result<Table>
+    ensures ok { IfOk result (λ t. parse_document text.now ≡ Some (table_view t)) }
+    ensures err { IfErr result (IsRefusal ErrorKind.Parse (parse_document text.now ≡ None)) }
+{
+    match toml::table_from_str(alloc, text) {
+        Ok(table) => Ok(table),
+        Err(e) if e.is_memory() => Err(Error::from(AllocError)),
+        Err(e) => Err(no_document(alloc, text, at, name, &e)),
+    }
+}

@@ -1,0 +1,111 @@
+//! Where the keys of a document are. The document was read before, so it is known to be TOML.
+
+use std::alloc::Global;
+use toml_parser::text::{first, skip_blank, skip_ws};
+use toml_parser::{Key, dotted_key, quoted, starts_string};
+
+/// Returns the rest of a text after its first token: a string, a comment or a character.
+fn after_token(alloc: Global, text: &str) -> Option<&str> {
+    if starts_string(text) {
+        return match quoted(alloc, text) {
+            Ok((_, rest)) => Some(rest),
+            Err(_) => None,
+        };
+    }
+    if first(text) == b'#' {
+        return text.strip_prefix(text.split('\n').next()?);
+    }
+    let mut rest = text.chars();
+    rest.next()?;
+    Some(rest.as_str())
+}
+
+/// Returns the rest of a text from a byte on that is in no string, comment, array or inline table.
+fn from_byte(alloc: Global, text: &str, byte: u8) -> Option<&str> {
+    let mut rest = text;
+    let mut depth = 0usize;
+    for _ in text.bytes() {
+        let next = first(rest);
+        if depth == 0 && next == byte {
+            return Some(rest);
+        }
+        if next == b'[' || next == b'{' {
+            depth = depth.saturating_add(1);
+        } else if next == b']' || next == b'}' {
+            depth = depth.saturating_sub(1);
+        }
+        rest = after_token(alloc, rest)?;
+    }
+    None
+}
+
+/// Returns the rest of a text after the dotted key at its beginning, and after white space.
+fn after_key(alloc: Global, text: &str) -> Option<&str> {
+    match dotted_key(alloc, text) {
+        Ok((_, rest)) => Some(rest),
+        Err(_) => None,
+    }
+}
+
+/// Returns the part of a dotted key at an index.
+fn part_at(key: &Key, index: usize) -> Option<&str> {
+    match key.path.get(index) {
+        Some(part) => Some(part.as_str()),
+        None if index == key.path.len() => Some(key.last.as_str()),
+        None => None,
+    }
+}
+
+/// Returns whether the parts of a key agree with those of a path from an index on, where both have one.
+fn agrees(key: &Key, path: &[&str], from: usize) -> bool {
+    path.iter().skip(from).enumerate().all(|(index, part)| match part_at(key, index) {
+        Some(found) => found == *part,
+        None => true,
+    })
+}
+
+/// Returns how far a path goes with the dotted key at the beginning of a text, if they agree from an index on.
+fn reach(alloc: Global, text: &str, path: &[&str], from: Option<usize>) -> Option<usize> {
+    let from = from?;
+    match dotted_key(alloc, text) {
+        Ok((key, _)) if agrees(&key, path, from) => {
+            Some(from.saturating_add(key.path.len()).saturating_add(1))
+        }
+        _ => None,
+    }
+}
+
+/// Returns the text of a document from the first key on whose path, with the header above it, begins with these parts.
+pub fn key_at<'a>(alloc: Global, document: &'a str, path: &[&str]) -> Option<&'a str> {
+    let mut header = Some(0);
+    let mut rest = document.strip_prefix('\u{FEFF}').unwrap_or(document);
+    for _ in document.bytes() {
+        let start = skip_blank(rest, true);
+        let is_header = first(start) == b'[';
+        let key = skip_ws(start.trim_start_matches('['));
+        let reached = reach(alloc, key, path, if is_header { Some(0) } else { header });
+        if reached.is_some_and(|reached| reached >= path.len()) {
+            return Some(key);
+        }
+        if is_header {
+            header = reached;
+        }
+        rest = from_byte(alloc, key, b'\n')?;
+    }
+    None
+}
+
+/// Returns the text from the element at an index of the array that is the value of a key on.
+pub fn element_at(alloc: Global, key: &str, index: usize) -> Option<&str> {
+    let value = skip_ws(skip_byte(after_key(alloc, key)?, b'=')?);
+    let mut rest = skip_byte(value, b'[')?;
+    for _ in 0..index {
+        rest = skip_byte(from_byte(alloc, rest, b',')?, b',')?;
+    }
+    Some(skip_blank(rest, true))
+}
+
+/// Returns the rest of a text after a byte that it begins with.
+fn skip_byte(text: &str, byte: u8) -> Option<&str> {
+    text.strip_prefix(char::from(byte))
+}

@@ -1,0 +1,165 @@
+//! A database of a thousand files in memory. Forty of them have a fault.
+
+use crate::faults::{Fault, fault_of};
+use rustsec_files::path;
+use rustsec_fixtures::Holds;
+use rustsec_folders::SourceFile;
+use rustsec_values::Text;
+use std::alloc::Global;
+use std::ops::Range;
+use std::test::Fail;
+
+/// The numbers of the files.
+pub(crate) const NUMBERS: Range<u32> = 1000..2000;
+
+/// The folders of the two packages.
+const BASE: &str = "db/crates/base";
+
+const STD: &str = "db/rust/std";
+
+/// Returns whether the file of a number is in the folder `crates`.
+fn is_crate(number: u32) -> bool {
+    number < 1900
+}
+
+/// Returns the collection of the file's folder.
+pub(crate) fn collection_of(number: u32) -> &'static str {
+    if is_crate(number) { "crates" } else { "rust" }
+}
+
+/// Returns the path of the file of a number.
+pub(crate) fn path_of(alloc: Global, number: u32) -> Result<String, Fail> {
+    let folder = if is_crate(number) { BASE } else { STD };
+    Ok(format!(in alloc; "{folder}/RUSTSEC-2001-{number}.md")?)
+}
+
+/// Returns the number of the ID in the file of a number.
+fn id_number(number: u32) -> u32 {
+    match fault_of(number) {
+        Some(Fault::Name) => number.saturating_add(4000),
+        Some(Fault::Twice) => number.saturating_sub(1),
+        _ => number,
+    }
+}
+
+/// Returns the ID in the file of a number.
+pub(crate) fn id_of(alloc: Global, number: u32) -> Result<String, Fail> {
+    let number = id_number(number);
+    Ok(format!(in alloc; "RUSTSEC-2001-{number}")?)
+}
+
+/// Returns the package that the file of a number is about.
+fn package_of(number: u32) -> &'static str {
+    match fault_of(number) {
+        Some(Fault::Folder) => "other",
+        _ if is_crate(number) => "base",
+        _ => "std",
+    }
+}
+
+/// Returns further lines of the section `advisory`.
+fn more_of(number: u32) -> &'static str {
+    match fault_of(number) {
+        Some(Fault::Unparsed) => "url = 1\n",
+        Some(Fault::Category) => "categories = [\"nope\"]\n",
+        Some(Fault::License) => "license = \"MPL-2.0\"\n",
+        Some(Fault::Collection) if is_crate(number) => "collection = \"rust\"\n",
+        Some(Fault::Collection) => "collection = \"crates\"\n",
+        Some(Fault::Source) => "source = \"registry+base\"\n",
+        _ => "",
+    }
+}
+
+/// Returns the patched requirements.
+fn patched_of(number: u32) -> &'static str {
+    match fault_of(number) {
+        Some(Fault::Overlap) => "\">= 1.0.0\", \">= 2.0.0\"",
+        _ => "\">= 1.0.0\"",
+    }
+}
+
+/// Returns the text of the file of a number with an ID.
+fn text_with(alloc: Global, number: u32, id: &str) -> Result<Text, Fail> {
+    let package = package_of(number);
+    let more = more_of(number);
+    let patched = patched_of(number);
+    let text = format!(in alloc;
+        "```toml\n[advisory]\nid = \"{id}\"\npackage = \"{package}\"\ndate = \"2001-02-03\"\n{more}\n[versions]\npatched = [{patched}]\n```\n\n# T\n\nD\n"
+    )?;
+    Ok(Text::from(text))
+}
+
+/// Returns the text of the file of a number.
+fn text_of(alloc: Global, number: u32) -> Result<Text, Fail> {
+    let id = id_of(alloc, number)?;
+    text_with(alloc, number, &id)
+}
+
+/// Returns the file of a number.
+fn file_of(alloc: Global, number: u32) -> Result<SourceFile, Fail> {
+    let path = path_of(alloc, number)?;
+    let text = text_of(alloc, number)?;
+    Ok(SourceFile {
+        path: Text::from(path),
+        text,
+    })
+}
+
+/// Returns the files of the database, in order. The texts of those that cannot be read are there too.
+pub(crate) fn files(alloc: Global) -> Result<Vec<SourceFile>, Fail> {
+    let mut files = Vec::new(alloc);
+    for number in NUMBERS {
+        files.push(file_of(alloc, number)?)?;
+    }
+    Ok(files)
+}
+
+/// The entries of the two packages' folders.
+#[derive(Drop)]
+pub(crate) struct Listings<'a> {
+    base: Vec<(&'a str, bool)>,
+    std: Vec<(&'a str, bool)>,
+}
+
+/// Returns the entries of a folder.
+fn entries_in<'a>(
+    alloc: Global,
+    files: &'a [SourceFile],
+    folder: &str,
+) -> Result<Vec<(&'a str, bool)>, Fail> {
+    let mut entries = Vec::new(alloc);
+    for file in files {
+        let path = file.path.as_str();
+        if path.starts_with(folder) {
+            let name = path::file_name(path).ok_or("no name")?;
+            entries.push((name, false))?;
+        }
+    }
+    Ok(entries)
+}
+
+/// Returns the entries of the two packages' folders.
+pub(crate) fn make_listings(alloc: Global, files: &[SourceFile]) -> Result<Listings<'_>, Fail> {
+    let base = entries_in(alloc, files, BASE)?;
+    let std = entries_in(alloc, files, STD)?;
+    Ok(Listings { base, std })
+}
+
+/// Returns what each path of the database holds. The files that cannot be read are left out.
+pub(crate) fn rows<'a>(
+    alloc: Global,
+    files: &'a [SourceFile],
+    listings: &'a Listings<'a>,
+) -> Result<Vec<(&'a str, Holds<'a>)>, Fail> {
+    let mut rows = Vec::new(alloc);
+    rows.push((BASE, Holds::Entries(listings.base.as_slice())))?;
+    rows.push((STD, Holds::Entries(listings.std.as_slice())))?;
+    rows.push(("db/crates", Holds::Entries(&[("base", true)])))?;
+    rows.push(("db/rust", Holds::Entries(&[("std", true)])))?;
+    for (file, number) in files.iter().zip(NUMBERS) {
+        if fault_of(number) != Some(Fault::Unreadable) {
+            rows.push((file.path.as_str(), Holds::Text(file.text.as_str())))?;
+        }
+    }
+    Ok(rows)
+}
