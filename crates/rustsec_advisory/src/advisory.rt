@@ -85,8 +85,8 @@ pub(crate) fn first_line(text: &str) -> usize {
     line_feeds.saturating_add(1)
 }
 
-/// Returns the error for a front matter with this header further below, before which it was added, or the given error if
-/// there is no such header.
+/// Returns the error for a front matter with this header further below, before which it was added, or the given error
+/// for one without it.
 fn late_header(alloc: Global, front: TablePlace<'_>, error: Error) -> Error
     ensures kind { IsOfKind ErrorKind.Parse error → IsOfKind ErrorKind.Parse result }
     ensures memory { IsMemory error → IsMemory result }

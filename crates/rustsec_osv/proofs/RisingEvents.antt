@@ -78,7 +78,7 @@ rest : (r : Range) (rs : List Range) → AllFollowed (r ∷ rs) → AllFollowed 
 rest r [] a = tt
 rest r (s ∷ rs) a = a.1
 
--- after a range without a fix there is no range
+-- a range without a fix is the last one
 last : (r : Range) (rs : List Range) → r.fixed ≡ None → AllFollowed (r ∷ rs) → rs ≡ []
 last r [] e a = refl
 last r (s ∷ rs) e a = cc (rw e at a.0)

@@ -45,6 +45,6 @@ abbrev pub IsAnswerOf : List ℕ → Parts → List Advisory → List ℕ → Ty
 IsAnswerOf name version advisories text =
     (documents : List Document) × (AreDocuments (affecting name version advisories) documents × (text ≡ answer_line documents))
 
--- why there is no answer: an advisory that affects the version has no document
+-- what refuses an answer: an advisory that affects the version and has no document
 abbrev pub HasNoAnswer : List ℕ → Parts → List Advisory → Type 0
 HasNoAnswer name version advisories = (a : Advisory) × (Contains (affecting name version advisories) a × HasNoDocument a)

@@ -29,7 +29,7 @@ is_limit_above v (fixed w) = false
 is_limit_above v (last_affected w) = false
 is_limit_above v (limit w) = is_below v w
 
--- whether a version is below one of the limits, or there is no limit
+-- whether a version is below one of the limits, if any is given
 abbrev pub is_before_limits : List Event → Parts → Bool
 is_before_limits es v = not (list_any is_limit es) || list_any (is_limit_above v) es
 

@@ -77,7 +77,7 @@ fn has_limit_above(events: &[Event<'_>], version: &Version) -> bool
     false
 }
 
-/// Returns whether a version is below one of the limits, or there is no limit.
+/// Returns whether a version is below one of the limits, if any is given.
 fn is_before_limits(events: &[Event<'_>], version: &Version) -> bool
     ensures { result ≡ is_before_limits (map event_view events.now) (parts_of version.now) }
 {

@@ -7,6 +7,7 @@ use rustsec_program::run_over;
 use rustsec_versions::ErrorKind;
 use std::alloc::Global;
 use std::io;
+use std::process::Abort;
 use std::test::Fail;
 
 /// No call fails.
@@ -50,6 +51,20 @@ pub fn writes(
     text: &str,
 ) -> Result<bool, Fault> {
     writes_bytes(alloc, words, input, status, text.as_bytes())
+}
+
+/// Words, an input, the status and the output.
+pub type Row<'a> = (&'a [&'a str], &'a str, u8, &'a str);
+
+/// Checks what the words of each row write for its input.
+pub fn expect_rows<T: AllocGlobal + Abort>(rt: &T, rows: &[Row<'_>]) -> Result<(), Fail> {
+    for (words, input, status, text) in rows {
+        assert!(rt;
+            writes(rt.alloc(), words, input, *status, text)?,
+            "of {words:?} for {input:?}"
+        );
+    }
+    Ok(())
 }
 
 /// Returns whether words write a text to the error output for an input.

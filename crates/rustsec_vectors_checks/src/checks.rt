@@ -1,6 +1,6 @@
 //! Checks of a lockfile, and of many.
 
-use crate::answers::{Lists, notes, tree, writes};
+use crate::answers::{Lists, Row, expect_rows, notes, tree, writes};
 use crate::files::{HTTP, IGNORED, LEFT};
 use rustsec_fixtures::changed;
 use std::alloc::Global;
@@ -132,9 +132,6 @@ fn check_baseline(rt: HostRuntime) -> Result<(), Fail> {
     Ok(())
 }
 
-/// Words, an input, the status and the output.
-type Row<'a> = (&'a [&'a str], &'a str, u8, &'a str);
-
 /// An empty database or lockfile is refused, and so is what cannot be read.
 const REFUSED: &[Row<'static>] = &[
     (&["check", "empty", "lock"], "", 2, "refused: not found\n"),
@@ -233,13 +230,7 @@ const NOTED: &[Row<'static>] = &[
 
 #[test]
 fn check_notes(rt: HostRuntime) -> Result<(), Fail> {
-    for (words, input, status, text) in NOTED {
-        assert!(rt;
-            writes(rt.alloc(), words, input, *status, text)?,
-            "of {words:?}"
-        );
-    }
-    Ok(())
+    expect_rows(&rt, NOTED)
 }
 
 /// A list without a path is refused, unless that is allowed.
@@ -269,13 +260,7 @@ const LISTS: &[Row<'static>] = &[
 
 #[test]
 fn check_lists(rt: HostRuntime) -> Result<(), Fail> {
-    for (words, input, status, text) in LISTS {
-        assert!(rt;
-            writes(rt.alloc(), words, input, *status, text)?,
-            "of {words:?} for {input:?}"
-        );
-    }
-    Ok(())
+    expect_rows(&rt, LISTS)
 }
 
 #[test]
@@ -292,13 +277,7 @@ fn check_progress(rt: HostRuntime) -> Result<(), Fail> {
 
 #[test]
 fn check_empty(rt: HostRuntime) -> Result<(), Fail> {
-    for (words, input, status, text) in REFUSED {
-        assert!(rt;
-            writes(rt.alloc(), words, input, *status, text)?,
-            "of {words:?}"
-        );
-    }
-    Ok(())
+    expect_rows(&rt, REFUSED)
 }
 
 // A refused lockfile stops nothing, and what one lockfile is answered does not hang on the others.

@@ -1,10 +1,7 @@
 //! Explanations: why a pair is not a finding.
 
-use crate::answers::writes;
+use crate::answers::{Row, expect_rows};
 use std::test::Fail;
-
-/// Words, an input, the status and the output.
-type Row<'a> = (&'a [&'a str], &'a str, u8, &'a str);
 
 /// What is answered of a name, of IDs and of an unknown name.
 const EXPLAINED: &[Row<'static>] = &[
@@ -191,34 +188,16 @@ const ALIASES: &[Row<'static>] = &[
 
 #[test]
 fn explain(rt: HostRuntime) -> Result<(), Fail> {
-    for (words, input, status, text) in EXPLAINED {
-        assert!(rt;
-            writes(rt.alloc(), words, input, *status, text)?,
-            "of {words:?}"
-        );
-    }
-    Ok(())
+    expect_rows(&rt, EXPLAINED)
 }
 
 // By the policy, and by a word.
 #[test]
 fn explain_ignored(rt: HostRuntime) -> Result<(), Fail> {
-    for (words, input, status, text) in IGNORED {
-        assert!(rt;
-            writes(rt.alloc(), words, input, *status, text)?,
-            "of {words:?}"
-        );
-    }
-    Ok(())
+    expect_rows(&rt, IGNORED)
 }
 
 #[test]
 fn explain_alias(rt: HostRuntime) -> Result<(), Fail> {
-    for (words, input, status, text) in ALIASES {
-        assert!(rt;
-            writes(rt.alloc(), words, input, *status, text)?,
-            "of {words:?}"
-        );
-    }
-    Ok(())
+    expect_rows(&rt, ALIASES)
 }

@@ -1,10 +1,7 @@
 //! Checks beside an index of a registry.
 
-use crate::answers::{notes, writes};
+use crate::answers::{Row, expect_rows, notes};
 use std::test::Fail;
-
-/// Words, an input, the status and the output.
-type Row<'a> = (&'a [&'a str], &'a str, u8, &'a str);
 
 /// The last entry for a version counts, and a name that the index does not list is a note.
 const YANKED: &[Row<'static>] = &[
@@ -92,13 +89,7 @@ const YANKED: &[Row<'static>] = &[
 
 #[test]
 fn check_yanked(rt: HostRuntime) -> Result<(), Fail> {
-    for (words, input, status, text) in YANKED {
-        assert!(rt;
-            writes(rt.alloc(), words, input, *status, text)?,
-            "of {words:?}"
-        );
-    }
-    Ok(())
+    expect_rows(&rt, YANKED)
 }
 
 // The refusal names the file and the line.
