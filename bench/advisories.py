@@ -75,7 +75,8 @@ patched = [">= 9.9.9"]
 # Values that the reader takes, with or without a fault, and values that it refuses.
 IDS = (
     ["RUSTSEC-2021-0001", "RUSTSEC-2021-0001", "RUSTSEC-2001-2101", "RUSTSEC-0000-0000", "RUSTSEC-+2021-1", "CVE-2021-1",
-     "TALOS-2021-1", "TALOS-2017-0468", "GHSA-4mmc-49vf-jmcp", "GHSA-", "LULZSEC-2001-2101", "rustsec-2021-0001", "", " "],
+     "TALOS-2021-1", "TALOS-2017-0468", "GHSA-4mmc-49vf-jmcp", "GHSA-", "LULZSEC-2001-2101", "rustsec-2021-0001", "", " ",
+     'a"b', "a'\"b", "a\\b"],
     ["RUSTSEC-2021", "RUSTSEC-2021-x", "RUSTSEC-1999-0001", "RUSTSEC-2021-4294967296", "RUSTSEC-2021-0001-1", "CVE-1999-1"],
 )
 DATES = (
@@ -84,7 +85,7 @@ DATES = (
 )
 ADDRESSES = (
     ["https://example.com/a", "http://example.com/", "HTTPS://example.com/", "https:/example.com", "ftp://a.b/",
-     "mailto:a@example.com", "https://例え.jp/"],
+     "mailto:a@example.com", "https://例え.jp/", 'http://a.b/"', "http://a.b/'\""],
     ["example.com", "", "https://", "https://a b/"],
 )
 REQUIREMENTS = (

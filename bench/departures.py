@@ -77,6 +77,22 @@ def starts_in_some_file(command, data, ours, theirs):
     return starts_of_an_advisory(command, data, (ours[0], 0), theirs)
 
 
+def read_values(text):
+    """What lint prints, with each value of an ID, a URL or a day as the string that it is in TOML."""
+    def read(match):
+        try:
+            return b"invalid value " + repr(tomllib.loads("a = " + match[1].decode())["a"]).encode() + match[2]
+        except (tomllib.TOMLDecodeError, UnicodeDecodeError):
+            return match[0]
+    return re.sub(rb"invalid value `(.*?)`( for key `(?:id|url|date)`)", read, text, flags=re.S)
+
+
+def quoting_of_a_value(command, data, ours, theirs):
+    """A lint error prints an ID or a URL as a TOML string. Each program has a TOML writer, and they choose other quotes and
+    escapes for the same string."""
+    return ours[1] == theirs[1] < 2 and read_values(ours[0]) == read_values(theirs[0])
+
+
 def fault_of_a_source(command, data, ours, theirs):
     """The Rust crate's linter calls `source` an invalid key, though its reader knows it; ours doesn't."""
     return b"source" in data and ours[0] == theirs[0].replace(b"invalid key `source` in [advisory]\n", b"")
@@ -173,6 +189,7 @@ def key_that_stands_twice(command, data, ours, theirs):
 OF_LINT = [
     number_of_an_advisory, starts_of_an_advisory, fault_of_a_source, source_that_is_no_address,
     message_cut_inside_a_character, empty_name, edition_of_toml, nesting, merged_patched_of_an_advisory,
+    quoting_of_a_value,
 ]
 OF_OSV = [
     number_of_an_advisory, starts_of_an_advisory, source_that_is_no_address, message_cut_inside_a_character, empty_name,

@@ -77,6 +77,7 @@ pub mod platforms {
 
 pub use rustsec_advisory::Advisory;
 pub use rustsec_database::{Database, Entries, Index, Slot};
+pub use rustsec_error::{Error, ErrorKind, Result};
 pub use rustsec_fixer::{FixCommand, Fixer};
 pub use rustsec_folders::{FolderEntry, Folders, SourceFile};
 pub use rustsec_lock::{
@@ -89,7 +90,6 @@ pub use rustsec_report::{Report, Warning};
 pub use rustsec_texts::{Collection, WarningKind};
 pub use rustsec_values::{Items, SortedMap, Text};
 pub use rustsec_versions::{
-    Bound, Error, ErrorKind, Requirements, Result, Steps, UnaffectedRange, requirement_text,
-    successor,
+    Bound, Requirements, Steps, UnaffectedRange, requirement_text, successor,
 };
 pub use semver::{Version, VersionReq};

@@ -2,6 +2,7 @@ pub mod Documents
 pub mod FileRefusals
 pub mod Functions
 pub mod Insertion
+pub mod KeyOrder
 pub mod KnownKeys
 pub mod LintRefusals
 pub mod Members

@@ -197,7 +197,7 @@ of_document_unique d title description a b h k =
     λ i. record { metadata = metadata i; affected = affected i; versions = versions i }
 
 -- the document of a text's front matter
-document_unique : (text : List ℕ) (d e : Members) (a b : Advisory) → IsAdvisoryWith text d a → IsAdvisoryWith text e b → d ≡ e
+pub document_unique : (text : List ℕ) (d e : Members) (a b : Advisory) → IsAdvisoryWith text d a → IsAdvisoryWith text e b → d ≡ e
 document_unique text d e a b h k =
     let same_parts = agree h.are_parts k.are_parts in
     agree (subst (λ (p : FileParts). parse_document (document_text p.front_matter) ≡ Some d) same_parts h.is_document) k.is_document

@@ -7,5 +7,6 @@ pub mod Metadata
 pub mod Advisory
 pub mod LintErrors
 pub mod Lints
+pub mod KeyOrder
 pub mod KnownKeys
 pub mod EqualityLaws

@@ -6,10 +6,10 @@ ghost use Rattle.std.specs.Cmp.Lexicographic.{bytes_decides, nat_list_eq_equiv, 
 ghost use Rattle.url.specs.Parser.{parse_url};
 ghost use Rattle.url.specs.Parts.{serialize};
 ghost use Rattle.rustsec_advisory.specs.Addresses.{address_of, unless_no_room};
-ghost use Rattle.rustsec_versions.specs.Failure.{IsMemory, IsRefusal};
+ghost use Rattle.rustsec_error.specs.Failure.{IsMemory, IsRefusal};
 
+use rustsec_error::{ErrorKind, FromText, Result, refused_for};
 use rustsec_values::{ExactClone, ExactEq};
-use rustsec_versions::{Error, ErrorKind, FromText, Result};
 use std::alloc::{AllocError, Global};
 use std::convert::AsStr;
 use std::fmt;
@@ -51,7 +51,7 @@ fn unless_no_room(parsed: ParseResult<Url>) -> std::result::Result<Option<Url>, 
 fn reason(alloc: Global, parsed: &ParseResult<Url>) -> std::result::Result<String, AllocError> {
     match parsed {
         Ok(_) => Ok(String::new(alloc)),
-        Err(why) => format!(in alloc; "not an address: {why}"),
+        Err(why) => format!(in alloc; "{why}"),
     }
 }
 
@@ -70,7 +70,7 @@ impl Address {
     ///
     /// # Errors
     ///
-    /// `Parse` if the URL Standard's parser refuses the text, with its reason; else `OutOfMemory`, also for
+    /// `Parse` if the URL Standard's parser refuses the text, with its reason as the cause; else `OutOfMemory`, also for
     /// an address over 4 GB, the limit of the type `Url`.
     pub fn from_str(alloc: Global, text: &str) -> Result<Address>
         ensures ok { IfOk result (λ a. address_of text.now ≡ Some a) }
@@ -80,7 +80,7 @@ impl Address {
         let reason = reason(alloc, &parsed)?;
         match unless_no_room(parsed)? {
             Some(url) => Ok(read_from(url, text)),
-            None => Err(Error::new(alloc, ErrorKind::Parse, &reason)),
+            None => Err(refused_for(alloc, "not an address", text, "an absolute URL", &reason)),
         }
     }
 

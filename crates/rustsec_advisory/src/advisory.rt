@@ -10,18 +10,19 @@ ghost use Rattle.rustsec_advisory.specs.Advisory.{IsAdvisory, IsAdvisoryWith, Is
 ghost use Rattle.rustsec_advisory.specs.FileRefusals.{IsAdvisoryAt, IsAdvisoryRefusal, IsOfFile, IsTextRefusal, NamesFile};
 ghost use Rattle.rustsec_files.specs.Paths.{is_draft};
 ghost use Rattle.rustsec_advisory.specs.declared.advisory.Advisory as given;
-ghost use Rattle.rustsec_versions.specs.Failure.{IsMemory, IsOfKind, IsRefusal, out_of_memory};
+ghost use Rattle.rustsec_error.specs.Failure.{IsMemory, IsOfKind, IsRefusal, out_of_memory};
 
 use crate::affected::Affected;
 use crate::front_matter;
 use crate::metadata::Metadata;
+use rustsec_error::{Error, ErrorKind, Result, refused_file};
 use rustsec_files::path;
 use rustsec_folders::{Folders, RealFolders};
 use rustsec_lock::Severity;
 use rustsec_texts::{Date, Id, Parts};
 use rustsec_toml::{Section, TablePlace, document, key_at};
 use rustsec_values::{ExactClone, ExactEq, beginning_of};
-use rustsec_versions::{Error, ErrorKind, Result, Versions, refused_file};
+use rustsec_versions::Versions;
 use std::alloc::{AllocError, Global};
 use std::rt::Files;
 use toml::Table;
@@ -77,8 +78,8 @@ pub(crate) fn header_keys(front: &str) -> &'static [&'static str] {
     }
 }
 
-/// Returns the line of the file in which the front matter begins, from 1 on.
-pub(crate) fn first_line(text: &str) -> usize {
+/// Returns the line of the file in which the front matter begins, from 1 on. No contract says which one.
+pub fn first_line(text: &str) -> usize {
     let body = text.strip_prefix("```toml").unwrap_or(text);
     let blank = body.len().saturating_sub(body.trim_start().len());
     let line_feeds = beginning_of(body, blank).matches('\n').count();

@@ -1,12 +1,13 @@
 //! The platforms and functions of a package that an advisory affects.
 
 ghost use Rattle.std.specs.Prelude.{◌≡◌, [], IfErr, IfOk};
-ghost use Rattle.rustsec_versions.specs.Failure.{IsMemory};
+ghost use Rattle.rustsec_error.specs.Failure.{IsMemory};
 
+use rustsec_error::Result;
 use rustsec_lock::platforms::{Arch, OS};
 use rustsec_texts::FunctionPath;
 use rustsec_values::{ExactClone, ExactEq, Items, SortedMap};
-use rustsec_versions::{Requirements, Result};
+use rustsec_versions::Requirements;
 use std::alloc::{AllocError, Global};
 
 /// The affected platforms and functions.

@@ -14,16 +14,17 @@ ghost use Rattle.rustsec_advisory.specs.declared.metadata.Subject as subject;
 ghost use Rattle.rustsec_advisory.specs.declared.metadata.Terms as terms;
 ghost use Rattle.rustsec_texts.specs.Paths.{path_of};
 ghost use Rattle.rustsec_toml.specs.Fields.{defaulted};
-ghost use Rattle.rustsec_versions.specs.Failure.{IsOfKind, IsRefusal, out_of_memory};
+ghost use Rattle.rustsec_error.specs.Failure.{IsOfKind, IsRefusal, out_of_memory};
 ghost use Rattle.rustsec_versions.specs.Lists.{Lists};
 
 use crate::affected::Affected;
 use crate::metadata::{Kinds, Metadata, Origin, Subject, Terms};
 use crate::requirements::{optional_requirements_at, requirements, requirements_at};
+use rustsec_error::{Error, ErrorKind, Result};
 use rustsec_texts::{FunctionPath, License};
 use rustsec_toml::Section;
 use rustsec_values::{SortedMap, Text};
-use rustsec_versions::{Error, ErrorKind, Requirements, Result, Versions};
+use rustsec_versions::{Requirements, Versions};
 use std::alloc::{AllocError, Global};
 use toml::Table;
 

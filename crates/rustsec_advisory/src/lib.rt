@@ -14,7 +14,7 @@ pub mod metadata;
 mod requirements;
 
 pub use crate::address::Address;
-pub use crate::advisory::Advisory;
+pub use crate::advisory::{Advisory, first_line};
 pub use crate::affected::Affected;
 pub use crate::lint_places::lint_error_line;
 pub use crate::linter::Linter;

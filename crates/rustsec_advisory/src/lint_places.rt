@@ -30,8 +30,18 @@ fn section_keys(front: &str, section: Option<&str>) -> &'static [&'static str] {
     }
 }
 
+/// Returns the path of a function that a lint error is about, if it is about one. The path is a key of its own.
+fn function_of(error: &Error) -> Option<&str> {
+    match error.kind() {
+        ErrorKind::InvalidValue { name, value } if name.as_str() == "functions" => {
+            Some(value.as_str())
+        }
+        _ => None,
+    }
+}
+
 /// Returns the line of an advisory's text in which the key of a lint error is, from 1 on; none if the text has no front
-/// matter.
+/// matter. The key of a function is its path.
 ///
 /// # Errors
 ///
@@ -45,6 +55,11 @@ pub fn lint_error_line(
         return Ok(None);
     };
     let front = front_place(parts.front_matter, first_line(text));
+    if let Some(function) = function_of(error) {
+        return front
+            .at(&["affected", "functions"])
+            .line_of(alloc, function);
+    }
     let keys = section_keys(parts.front_matter, error.section());
     front.at(keys).line_of(alloc, key_of(error))
 }

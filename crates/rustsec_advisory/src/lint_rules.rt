@@ -1,10 +1,11 @@
 //! Finds an advisory's lint errors by a walk over the keys of its document.
 
-ghost use Rattle.std.specs.Prelude.{◌≡◌, ◌++◌, IfErr, IfOk, OnOk, flat_map};
+ghost use Rattle.std.specs.Prelude.{◌≡◌, ◌++◌, IfErr, IfOk, OnOk, flat_map, true};
 ghost use Rattle.toml.specs.View.{table_view, view};
 ghost use Rattle.rustsec_advisory.specs.Affected.{members_of};
+ghost use Rattle.rustsec_advisory.specs.KeyOrder.{DocumentRises, KeysRise, SectionRises, sections};
 ghost use Rattle.rustsec_advisory.specs.LintErrors.{advisory_rows, affected_rows, is_one_of, lint_errors, platform_keys, quiet_keys, section_rows, top_rows, versions_rows};
-ghost use Rattle.rustsec_versions.specs.Failure.{IsMemory};
+ghost use Rattle.rustsec_error.specs.Failure.{IsMemory};
 
 use crate::advisory::Advisory;
 use crate::lint_rows::{add_content, add_key};
@@ -13,8 +14,8 @@ use crate::lint_values::{
 };
 use crate::linter::Error;
 use crate::metadata::Metadata;
+use rustsec_error::Result;
 use rustsec_values::Items;
-use rustsec_versions::Result;
 use std::alloc::Global;
 use toml::{Table, Value};
 
@@ -84,6 +85,7 @@ fn lint_advisory(
     table: &Table,
 ) -> Result<()>
     ensures ok { OnOk result (errors.new ≡ errors.old ++ flat_map (advisory_rows draft metadata.now) (members_of (table_view table.now))) }
+    ensures ordered { OnOk result (KeysRise (members_of (table_view table.now))) }
     ensures err { IfErr result IsMemory }
 {
     for (key, value) in table {
@@ -123,6 +125,7 @@ fn lint_affected(
     table: &Table,
 ) -> Result<()>
     ensures ok { OnOk result (errors.new ≡ errors.old ++ flat_map (λ e. affected_rows advisory.now e.0) (members_of (table_view table.now))) }
+    ensures ordered { OnOk result (KeysRise (members_of (table_view table.now))) }
     ensures err { IfErr result IsMemory }
 {
     for (key, _) in table {
@@ -145,6 +148,7 @@ fn lint_versions_key(alloc: Global, errors: &mut Items<Error>, key: &str) -> Res
 /// Appends the lint errors for the section `versions`.
 fn lint_versions(alloc: Global, errors: &mut Items<Error>, table: &Table) -> Result<()>
     ensures ok { OnOk result (errors.new ≡ errors.old ++ flat_map (λ e. versions_rows e.0) (members_of (table_view table.now))) }
+    ensures ordered { OnOk result (KeysRise (members_of (table_view table.now))) }
     ensures err { IfErr result IsMemory }
 {
     for (key, _) in table {
@@ -163,6 +167,7 @@ fn lint_section(
     table: &Table,
 ) -> Result<()>
     ensures ok { OnOk result (errors.new ≡ errors.old ++ section_rows draft advisory.now key.now (members_of (table_view table.now))) }
+    ensures ordered { OnOk result (is_one_of sections key.now ≡ true → KeysRise (members_of (table_view table.now))) }
     ensures err { IfErr result IsMemory }
 {
     match key {
@@ -183,6 +188,7 @@ fn lint_top_key(
     value: &Value,
 ) -> Result<()>
     ensures ok { OnOk result (errors.new ≡ errors.old ++ top_rows draft advisory.now (key.now, view value.now)) }
+    ensures ordered { OnOk result (SectionRises (key.now, view value.now)) }
     ensures err { IfErr result IsMemory }
 {
     let Some(table) = value.as_table() else {
@@ -200,6 +206,7 @@ pub(crate) fn of_document(
     document: &Table,
 ) -> Result<Items<Error>>
     ensures ok { IfOk result (λ es. es ≡ lint_errors draft (table_view document.now) advisory.now) }
+    ensures ordered { IfOk result (λ es. DocumentRises (table_view document.now)) }
     ensures err { IfErr result IsMemory }
 {
     let mut errors = Items::new(alloc);

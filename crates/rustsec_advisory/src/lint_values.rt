@@ -7,15 +7,16 @@ ghost use Rattle.toml.specs.View.{view};
 ghost use Rattle.toml_writer.specs.Text.{string_text};
 ghost use Rattle.rustsec_advisory.specs.LintErrors.{begins_with, category_row, crate_name_of, differs, draft_row, function_row, id_rows, informational_row, is_other_category, is_other_license, kind_row, license_row, of_string, paths_in, shares_year, url_row, year_row, years_differ};
 ghost use Rattle.rustsec_texts.specs.Dates.{day_of};
-ghost use Rattle.rustsec_versions.specs.Failure.{IsMemory};
+ghost use Rattle.rustsec_error.specs.Failure.{IsMemory};
 
 use crate::advisory::Advisory;
 use crate::lint_rows::BadValue;
 use crate::linter::Error;
 use crate::metadata::Metadata;
+use rustsec_error::Result;
 use rustsec_texts::{Category, FunctionPath, Informational, License};
 use rustsec_values::{Items, SortedMap};
-use rustsec_versions::{Requirements, Result};
+use rustsec_versions::Requirements;
 use std::alloc::{AllocError, Global};
 use std::fmt;
 use std::fmt::Formatter;

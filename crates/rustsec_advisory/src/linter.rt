@@ -1,10 +1,12 @@
 //! The linter of advisories: it finds lint errors in advisories that the reader accepts.
 
-ghost use Rattle.std.specs.Prelude.{◌≡◌, ◌⊎◌, ℕ, List, IfErr, IfOk, Some, false, true};
+ghost use Rattle.std.specs.Prelude.{◌≡◌, ◌≢◌, ◌⊎◌, ℕ, List, IfErr, IfOk, OnErr, Some, false, true};
 ghost use Rattle.std.specs.Fmt.{DisplaysOnOk};
 ghost use Rattle.std.specs.Option.{option_copied};
-ghost use Rattle.rustsec_advisory.specs.Advisory.{IsAdvisory};
+ghost use Rattle.toml.specs.Data.{Members};
+ghost use Rattle.rustsec_advisory.specs.Advisory.{IsAdvisory, IsAdvisoryWith};
 ghost use Rattle.rustsec_advisory.specs.FileRefusals.{AreLintsAt, IsLintRefusal, IsNoText, IsOfFile, IsTextRefusal, NamesFile};
+ghost use Rattle.rustsec_advisory.specs.KeyOrder.{DocumentRises};
 ghost use Rattle.rustsec_advisory.specs.KnownKeys.{AreKeysKnown};
 ghost use Rattle.rustsec_files.specs.Paths.{is_draft, is_markdown};
 ghost use Rattle.rustsec_advisory.specs.LintErrors.{LintError, lint_error_text, kind_text, message_text, section_text};
@@ -12,15 +14,15 @@ ghost use Rattle.rustsec_advisory.specs.Lints.{Lints};
 ghost use Rattle.rustsec_folders.specs.Allowed.{AllowSame, real_folders};
 ghost use Rattle.rustsec_advisory.specs.declared.advisory.Advisory as given;
 ghost use Rattle.rustsec_advisory.specs.declared.linter.ErrorKind.TheVariants as lint_kind;
-ghost use Rattle.rustsec_versions.specs.Failure.{IsMemory, IsOfKind, IsRefusal};
-ghost use Rattle.rustsec_versions.specs.declared.error.ErrorKind.TheVariants as failure;
+ghost use Rattle.rustsec_error.specs.Failure.{IsMemory, IsOfKind, IsRefusal};
+ghost use Rattle.rustsec_error.specs.declared.error.ErrorKind.TheVariants as failure;
 
 use crate::advisory::{self, Advisory};
 use crate::lint_rules;
+use rustsec_error::{Result, refused_file, refused_text};
 use rustsec_files::path;
 use rustsec_folders::{Folders, RealFolders};
 use rustsec_values::{ExactClone, ExactEq, Items, Text};
-use rustsec_versions::{Result, refused_file, refused_text};
 use std::alloc::{AllocError, Global};
 use std::fmt;
 use std::marker::Model;
@@ -81,6 +83,9 @@ impl ErrorKind {
     pub fn clone(&self, _alloc: Global) -> Result<ErrorKind>
         ensures ok { IfOk result (λ k. k ≡ self.now) }
         ensures err { IfErr result IsMemory }
+
+        // `Malformed` takes no memory.
+        ensures none { OnErr result (self.now ≢ lint_kind.Malformed) }
     {
         let copy = Clone::clone(self)?;
         Ok(copy)
@@ -90,7 +95,11 @@ impl ErrorKind {
 impl Clone for ErrorKind {
     ghost is_clone = { λ a b. b ≡ a };
 
-    fn clone(&self) -> std::result::Result<ErrorKind, AllocError> {
+    // `Malformed` takes no memory.
+    fn clone(&self) -> std::result::Result<ErrorKind, AllocError>
+        ensures ok { IfOk result (λ k. k ≡ self.now) }
+        ensures none { OnErr result (self.now ≢ lint_kind.Malformed) }
+    {
         match self {
             ErrorKind::Malformed => Ok(ErrorKind::Malformed),
             ErrorKind::InvalidKey { name } => {
@@ -309,6 +318,8 @@ impl Linter {
             → Lints text.now draft b fs → (b ≡ l.advisory) × (fs ≡ l.errors)) }
         // A key is called unknown exactly if no reader asks for it.
         ensures keys { IfOk result (λ l. AreKeysKnown draft l.advisory) }
+        // The bytes of the keys rise, at the top and in each section: this is the order of the lint errors.
+        ensures ordered { IfOk result (λ l. (document : Members) → IsAdvisoryWith text.now document l.advisory → DocumentRises document) }
         ensures err { IfErr result (IsRefusal failure.Parse ((a : given.Advisory) → ¬ IsAdvisory text.now a)) }
     {
         let (advisory, document) = advisory::read(alloc, text)?;

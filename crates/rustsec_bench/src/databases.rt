@@ -1,6 +1,7 @@
 //! Calls over a database, which is read and loaded before the calls are made.
 
 use rustsec_database::{Database, SourceFile};
+use rustsec_error::Result;
 use rustsec_folders::{RealFolders, source_files};
 use rustsec_lock::Lockfile;
 use rustsec_lock::package::Name;
@@ -8,7 +9,6 @@ use rustsec_query::Query;
 use rustsec_report::{Report, Settings};
 use rustsec_texts::{Collection, Informational};
 use rustsec_values::Items;
-use rustsec_versions::Result;
 use std::alloc::{AllocError, Global};
 
 /// The call that is made.

@@ -1,15 +1,17 @@
 //! The readers of the library over many inputs in a file.
 
 use rustsec_advisory::{Address, Advisory, Linter};
+use rustsec_error::{FromText, Result};
 use rustsec_lock::package::Name;
 use rustsec_lock::platforms::{Arch, OS};
 use rustsec_lock::{Cvss, Lockfile, SourceId};
 use rustsec_osv::OsvAdvisory;
+use rustsec_osv_schema::is_osv_schema;
 use rustsec_texts::{
     Category, Collection, Date, FunctionPath, Id, Identifier, Informational, Keyword, License,
     Parts, WarningKind,
 };
-use rustsec_versions::{FromText, Result, UnaffectedRange};
+use rustsec_versions::UnaffectedRange;
 use semver::VersionReq;
 use serde_json::Value;
 use std::alloc::Global;
@@ -80,6 +82,23 @@ fn osv(alloc: Global, text: &str) -> Result<&'static str> {
     }
 }
 
+/// Returns whether a JSON document keeps the OSV schema.
+fn schema_answer(tree: &Value) -> &'static str {
+    if is_osv_schema(tree) {
+        READ
+    } else {
+        "not of the schema"
+    }
+}
+
+/// Decides whether the JSON document of a text keeps the OSV schema.
+fn osv_schema(alloc: Global, text: &str) -> Result<&'static str> {
+    match Value::from_str(alloc, text) {
+        Ok(tree) => Ok(schema_answer(&tree)),
+        Err(_) => Ok("no tree"),
+    }
+}
+
 /// Parses a text by the reader of small texts with this name.
 fn small(alloc: Global, reader: &str, text: &str) -> Result<&'static str> {
     match reader {
@@ -111,6 +130,7 @@ fn read(alloc: Global, reader: &str, text: &str) -> Result<&'static str> {
         "lint" => lint(alloc, text),
         "lockfile" => lockfile(alloc, text),
         "osv" => osv(alloc, text),
+        "osv-schema" => osv_schema(alloc, text),
         "parts" => parts(alloc, text),
         _ => small(alloc, reader, text),
     }

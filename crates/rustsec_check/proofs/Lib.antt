@@ -1,3 +1,4 @@
+pub mod AllKept
 pub mod AsReport
 pub mod Fixes
 pub mod Known

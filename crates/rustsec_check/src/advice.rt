@@ -2,7 +2,7 @@
 
 ghost use Rattle.std.specs.Prelude.{◌≡◌, IfErr, IfOk, map, option_map};
 ghost use Rattle.semver.specs.Identifiers.{parts_of};
-ghost use Rattle.rustsec_versions.specs.Failure.{IsMemory};
+ghost use Rattle.rustsec_error.specs.Failure.{IsMemory};
 ghost use Rattle.rustsec_versions.specs.Precedence.{IsVersion};
 ghost use Rattle.rustsec_report.specs.Report.{is_among};
 ghost use Rattle.rustsec_check.specs.LeastFree.{IsLeastFree};
@@ -12,11 +12,12 @@ use crate::compatible::is_compatible_with;
 use crate::update::least_free;
 use rustsec_advisory::Advisory;
 use rustsec_database::Database;
+use rustsec_error::Result;
 use rustsec_lock::package::Package;
 use rustsec_query::Query;
 use rustsec_texts::Id;
 use rustsec_values::ExactClone;
-use rustsec_versions::{Result, Versions};
+use rustsec_versions::Versions;
 use semver::Version;
 use std::alloc::{AllocError, Global};
 use std::marker::Model;
@@ -170,10 +171,17 @@ fn update_by<'a>(
     ensures err { IfErr result IsMemory }
 {
     let least = least_with(alloc, &package.version, advisory, others)?;
+    let is_compatible = is_compatible_with(alloc, &package.version, &least)?;
     let kept = in_force(alloc, ids, others)?;
+    if kept.len() == others.len() {
+        return Ok(Update {
+            least_free: least,
+            is_compatible,
+            moved_by: Vec::new(alloc),
+        });
+    }
     let rest = least_with(alloc, &package.version, advisory, kept.as_slice())?;
     let moved_by = movers(alloc, ids, &rest, others)?;
-    let is_compatible = is_compatible_with(alloc, &package.version, &least)?;
     Ok(Update {
         least_free: least,
         is_compatible,

@@ -2,19 +2,19 @@
 
 ghost use Rattle.std.specs.Prelude.{◌≡◌, ◌++◌, IfErr, IfOk, OnOk, filter_map, length, map, option_and_then};
 ghost use Rattle.std.specs.List.{filter};
-ghost use Rattle.rustsec_versions.specs.Failure.{IsMemory};
+ghost use Rattle.rustsec_error.specs.Failure.{IsMemory};
 ghost use Rattle.rustsec_query.specs.Pairs.{finds, is_audited};
 ghost use Rattle.rustsec_report.specs.Report.{is_wanted, wanted_kind};
-ghost use Rattle.rustsec_check.specs.Pairs.{as_vulnerable, as_wanted, counted, found, is_ignored, vulnerable_at, wanted_at};
+ghost use Rattle.rustsec_check.specs.Pairs.{as_vulnerable, as_wanted, counted, found, is_ignored};
 
 use rustsec_advisory::Advisory;
 use rustsec_database::Database;
+use rustsec_error::Result;
 use rustsec_lock::Lockfile;
 use rustsec_lock::package::Package;
 use rustsec_query::Query;
 use rustsec_report::Settings;
 use rustsec_texts::{Id, Informational, WarningKind};
-use rustsec_versions::Result;
 use std::alloc::{AllocError, Global};
 use std::marker::Model;
 
@@ -79,17 +79,15 @@ fn is_audited(package: &Package) -> bool
 fn advisories_for<'a>(
     alloc: Global,
     database: &'a Database,
-    query: Query,
+    query: &Query,
     package: &Package,
-) -> Result<Vec<&'a Advisory>>
-    ensures ok { IfOk result (λ v. map (λ a. a.now) v.items ≡ filter (finds query «package».now) database.now) }
-    ensures err { IfErr result IsMemory }
+) -> std::result::Result<Vec<&'a Advisory>, AllocError>
+    ensures { IfOk result (λ v. map (λ a. a.now) v.items ≡ filter (finds query.now «package».now) database.now) }
 {
     if !is_audited(package) {
         return Ok(Vec::new(alloc));
     }
-    let query = query.package(alloc, package)?;
-    database.query(alloc, &query)
+    database.query_of_package(alloc, query, package)
 }
 
 /// Appends vulnerabilities of a package, one for each advisory.
@@ -104,24 +102,6 @@ fn push_vulnerable<'a>(
         let pair = placed.found(None, advisory);
         found.push(pair).map_err(|_| AllocError)?;
     }
-    Ok(())
-}
-
-/// Appends the vulnerabilities of a package.
-#[tactic(auto, unfolding(crate::specs::Pairs::vulnerable_at))]
-fn add_vulnerable<'a>(
-    alloc: Global,
-    database: &'a Database,
-    settings: &Settings,
-    placed: &Placed<'a>,
-    found: &mut Vec<Found<'a>>,
-) -> Result<()>
-    ensures ok { OnOk result (found.new.items ≡ found.old.items ++ vulnerable_at database.now settings.now placed.now) }
-    ensures err { IfErr result IsMemory }
-{
-    let query = settings.query(alloc)?;
-    let advisories = advisories_for(alloc, database, query, placed.package)?;
-    push_vulnerable(&advisories, placed, found)?;
     Ok(())
 }
 
@@ -169,24 +149,6 @@ fn push_wanted<'a>(
     Ok(())
 }
 
-/// Appends the warnings about a package.
-#[tactic(auto, unfolding(crate::specs::Pairs::wanted_at))]
-fn add_wanted<'a>(
-    alloc: Global,
-    database: &'a Database,
-    settings: &Settings,
-    placed: &Placed<'a>,
-    found: &mut Vec<Found<'a>>,
-) -> Result<()>
-    ensures ok { OnOk result (found.new.items ≡ found.old.items ++ wanted_at database.now settings.now placed.now) }
-    ensures err { IfErr result IsMemory }
-{
-    let query = settings.query(alloc)?.informational(true);
-    let advisories = advisories_for(alloc, database, query, placed.package)?;
-    push_wanted(&advisories, settings, placed, found)?;
-    Ok(())
-}
-
 /// Returns the pairs of a lockfile's packages, package by package: of each the vulnerabilities, and then the warnings.
 pub(crate) fn all_found<'a>(
     alloc: Global,
@@ -197,11 +159,15 @@ pub(crate) fn all_found<'a>(
     ensures ok { IfOk result (λ v. v.items ≡ found database.now lockfile.now.packages settings.now) }
     ensures err { IfErr result IsMemory }
 {
+    let query = settings.query(alloc)?;
+    let warnings = settings.query(alloc)?.informational(true);
     let mut found = Vec::new(alloc);
     for (place, package) in lockfile.packages.as_slice().iter().enumerate() {
         let placed = Placed { place, package };
-        add_vulnerable(alloc, database, settings, &placed, &mut found)?;
-        add_wanted(alloc, database, settings, &placed, &mut found)?;
+        let advisories = advisories_for(alloc, database, &query, package)?;
+        push_vulnerable(&advisories, &placed, &mut found)?;
+        let advisories = advisories_for(alloc, database, &warnings, package)?;
+        push_wanted(&advisories, settings, &placed, &mut found)?;
     }
     Ok(found)
 }

@@ -3,8 +3,6 @@
 #![tactic(auto)]
 
 mod advice;
-#[cfg(test)]
-mod check_tests;
 mod checking;
 mod compatible;
 mod findings;
@@ -12,8 +10,6 @@ mod found;
 mod outcome;
 mod ranges;
 mod subject;
-#[cfg(test)]
-mod tests;
 mod update;
 mod yanked;
 

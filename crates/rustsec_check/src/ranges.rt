@@ -3,12 +3,13 @@
 ghost use Rattle.std.specs.Prelude.{◌≡◌, ◌++◌, ◌∷◌, [], IfErr, IfOk, List, OnOk, map, option_map};
 ghost use Rattle.std.specs.Option.{option_copied};
 ghost use Rattle.semver.specs.Identifiers.{parts_of};
-ghost use Rattle.rustsec_versions.specs.Failure.{IsMemory};
+ghost use Rattle.rustsec_error.specs.Failure.{IsMemory};
 ghost use Rattle.rustsec_versions.specs.Lists.{Lists};
 ghost use Rattle.rustsec_versions.specs.Ranges.{in_range, is_from, is_till};
 ghost use Rattle.rustsec_check.specs.LeastFree.{AreRangesOfAll, holding};
 
-use rustsec_versions::{OsvRange, Result, Versions, ranges_for_advisory};
+use rustsec_error::Result;
+use rustsec_versions::{OsvRange, Versions, ranges_for_advisory};
 use semver::Version;
 use std::alloc::Global;
 

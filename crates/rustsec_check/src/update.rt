@@ -3,13 +3,14 @@
 ghost use Rattle.std.specs.Prelude.{◌≡◌, IfErr, IfOk, List, Option, map, option_map};
 ghost use Rattle.semver.specs.Identifiers.{parts_of};
 ghost use Rattle.semver.specs.Parse.{Parts};
-ghost use Rattle.rustsec_versions.specs.Failure.{IsMemory};
+ghost use Rattle.rustsec_error.specs.Failure.{IsMemory};
 ghost use Rattle.rustsec_versions.specs.Lists.{Lists};
 ghost use Rattle.rustsec_versions.specs.Precedence.{IsVersion};
 ghost use Rattle.rustsec_check.specs.LeastFree.{AreRangesOfAll, IsLeastFree};
 
 use crate::ranges::{all_ranges, holding};
-use rustsec_versions::{OsvRange, Result, Versions};
+use rustsec_error::Result;
+use rustsec_versions::{OsvRange, Versions};
 use semver::Version;
 use std::alloc::Global;
 

@@ -2,4 +2,3 @@ pub mod Latest
 pub mod NoFloats
 pub mod Pieces
 pub mod Places
-pub mod ShownTexts

@@ -8,16 +8,17 @@ use Rattle.serde_json.specs.Data.{Data, Members, member, no_members, put}
 use Rattle.serde_json.specs.View.{items_of}
 use Rattle.serde_json.specs.Written.{has_float, items_have_float, members_have_float}
 use Rattle.rustsec_json.specs.Trees.{list_tree, optional_tree, text_tree}
-use Rattle.rustsec_versions.specs.declared.error.ErrorKind.{ErrorKind}
+use Rattle.rustsec_error.specs.declared.error.ErrorKind.{ErrorKind}
 use Rattle.rustsec_versions.specs.Lists.{Lists}
 use Rattle.rustsec_lock.specs.Package.{PackageValue}
 use Rattle.rustsec_advisory.specs.declared.advisory.Advisory.{Advisory}
 use Rattle.rustsec_advisory.specs.declared.metadata.Metadata.{Metadata}
 use Rattle.rustsec_report.specs.Trees.{Entry, object_of, versions_entries, versions_tree, with_members}
+use Rattle.rustsec_policy.specs.Entries.{entry_with}
 use Rattle.rustsec_policy.specs.declared.ignored.Ignored.{Ignored}
 use Rattle.rustsec_check.specs.Updates.{UpdateValue}
 use Rattle.rustsec_check.specs.Values.{FindingValue, IgnoredValue, YankedValue}
-use Rattle.rustsec_check_output.specs.CheckTree.{WrittenValue, advisory_entries, advisory_tree, check_entries, check_tree, command, database_entries, database_tree, entry_with, finding_entries, finding_tree, found_entries, ignored_entries, ignored_tree, last_date, looked_at_entries, many_entries, many_tree, named_entries, named_tree, packages_at, pair_entries, places_tree, rating, reason_of, refused_entries, refused_tree, said_entries, severity_of, sourced_entries, sourced_tree, subject, tenths_of, until_of, update_entries, update_tree, yanked_entries, yanked_tree}
+use Rattle.rustsec_check_output.specs.CheckTree.{WrittenValue, advisory_entries, advisory_tree, check_entries, check_tree, command, database_entries, database_tree, finding_entries, finding_tree, found_entries, ignored_entries, ignored_tree, last_date, looked_at_entries, many_entries, many_tree, named_entries, named_tree, packages_at, pair_entries, places_tree, rating, reason_of, refused_entries, refused_tree, said_entries, severity_of, sourced_entries, sourced_tree, subject, tenths_of, until_of, update_entries, update_tree, yanked_entries, yanked_tree}
 
 -- a tree without a float, and members whose trees have no float
 abbrev pub Plain : Data → Type 0

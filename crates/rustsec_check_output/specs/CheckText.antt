@@ -13,10 +13,11 @@ use Rattle.rustsec_graph.specs.Entries.{places}
 use Rattle.rustsec_texts.specs.Ids.{IdValue}
 use Rattle.rustsec_texts.specs.declared.warning_kind.WarningKind.{WarningKind}
 use Rattle.rustsec_texts.specs.declared.warning_kind.WarningKind.TheVariants as warning
+use Rattle.rustsec_policy.specs.Entries.{entry_with}
 use Rattle.rustsec_policy.specs.declared.ignored.Ignored.{Ignored}
 use Rattle.rustsec_check.specs.Values.{FindingValue, IgnoredValue, YankedValue}
-use Rattle.rustsec_check_output.specs.CheckTree.{WrittenValue, entry_with, kind_text, reason_of, score_text, severity_of, tenths_of, until_of}
-use Rattle.rustsec_check_output.specs.Shown.{shown}
+use Rattle.rustsec_check_output.specs.CheckTree.{WrittenValue, kind_text, reason_of, score_text, severity_of, tenths_of, until_of}
+use Rattle.rustsec_shown.specs.Shown.{shown}
 use Rattle.rustsec_check_output.specs.declared.rank.Rank.{Rank}
 use Rattle.rustsec_check_output.specs.declared.rank.Rank.TheVariants as rank
 

@@ -1,12 +1,12 @@
 -- The JSON tree of a check. Each object is a map, so its keys are in the order of their bytes.
 use Rattle.std.specs.Prelude.{ℕ, ◌/◌, ◌%◌, ◌++◌, List, [], ◌∷◌, Option, Some, None, codes, length, map, option_and_then, option_map, slice_get}
 use Rattle.std.specs.Fmt.{decimal}
-use Rattle.std.specs.List.{filter_map, find}
+use Rattle.std.specs.List.{filter_map}
 use Rattle.semver.specs.Identifiers.{parts_text}
 use Rattle.serde_json.specs.Data.{Data, boolean, number, string, unsigned}
 use Rattle.serde_json.specs.Written.{compact_text}
-use Rattle.rustsec_versions.specs.Failure as failure
-use Rattle.rustsec_versions.specs.declared.error.ErrorKind.{ErrorKind}
+use Rattle.rustsec_error.specs.Failure as failure
+use Rattle.rustsec_error.specs.declared.error.ErrorKind.{ErrorKind}
 use Rattle.rustsec_lock.specs.Cvss.{cvss_severity, cvss_text}
 use Rattle.rustsec_lock.specs.Package.{PackageValue}
 use Rattle.rustsec_lock.specs.Score.{score_tenths_of}
@@ -15,14 +15,13 @@ use Rattle.rustsec_lock.specs.declared.cvss.Cvss.{Cvss}
 use Rattle.rustsec_lock.specs.declared.cvss.Cvss.TheVariants as cvss
 use Rattle.rustsec_lock.specs.declared.metrics.Base.{Base}
 use Rattle.rustsec_lock.specs.declared.severity.Severity.{Severity}
-use Rattle.rustsec_texts.specs.IdOrder.{id_eq}
-use Rattle.rustsec_texts.specs.Ids.{IdValue}
 use Rattle.rustsec_texts.specs.WarningKinds.{warning_kind_name}
 use Rattle.rustsec_texts.specs.declared.warning_kind.WarningKind.{WarningKind}
 use Rattle.rustsec_advisory.specs.declared.advisory.Advisory.{Advisory}
 use Rattle.rustsec_advisory.specs.declared.metadata.Metadata.{Metadata}
 use Rattle.rustsec_json.specs.Trees.{list_tree, optional_tree, text_tree}
 use Rattle.rustsec_report.specs.Trees.{Entry, ids_tree, lockfile_tree, object_of, severity_tree, versions_tree}
+use Rattle.rustsec_policy.specs.Entries.{entry_with}
 use Rattle.rustsec_policy.specs.declared.ignored.Ignored.{Ignored}
 use Rattle.rustsec_fixer.specs.Words.{package_word, program_of}
 use Rattle.rustsec_check.specs.Updates.{UpdateValue}
@@ -170,10 +169,7 @@ yanked_tree packages y = object_of (yanked_entries packages y)
 
 -- ---- ignored pairs
 
--- the first entry of a policy that has an ID, and what it says
-abbrev pub entry_with : List Ignored → IdValue → Option Ignored
-entry_with entries id = find (λ (e : Ignored). id_eq e.id id) entries
-
+-- what the entry of a policy says, if any
 abbrev pub reason_of : Option Ignored → Option (List ℕ)
 reason_of None = None
 reason_of (Some e) = e.reason

@@ -1,4 +1,3 @@
 pub mod CheckText
 pub mod CheckTree
 pub mod Latest
-pub mod Shown

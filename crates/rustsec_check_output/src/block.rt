@@ -7,10 +7,10 @@ ghost use Rattle.rustsec_check_output.specs.CheckText.{arrow, block, command_wor
 
 use crate::advisory_tree::{severity_of, tenths_of};
 use crate::finding_tree::kind_text;
-use crate::shown::push_shown;
 use rustsec_check::{Finding, Update};
 use rustsec_lock::Severity;
 use rustsec_lock::package::Package;
+use rustsec_shown::push_shown;
 use rustsec_texts::{Id, WarningKind};
 use semver::Version;
 use std::alloc::AllocError;

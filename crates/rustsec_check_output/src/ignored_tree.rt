@@ -5,23 +5,15 @@ ghost use Rattle.std.specs.Option.{option_copied};
 ghost use Rattle.serde_json.specs.View.{members_view, view};
 ghost use Rattle.rustsec_json.specs.Trees.{list_tree, optional_tree, text_tree};
 ghost use Rattle.rustsec_report.specs.Trees.{with_members};
-ghost use Rattle.rustsec_check_output.specs.CheckTree.{entry_with, ignored_entries, ignored_tree, reason_of, until_of};
+ghost use Rattle.rustsec_check_output.specs.CheckTree.{ignored_entries, ignored_tree, reason_of, until_of};
 
 use crate::finding_tree::kind_text;
 use crate::object::{Members, put_tree, put_value};
 use crate::package_tree::sourced_tree;
 use rustsec_check::IgnoredPair;
-use rustsec_policy::Ignored;
-use rustsec_texts::Id;
+use rustsec_policy::{Ignored, entry_with};
 use serde_json::Value;
 use std::alloc::{AllocError, Global};
-
-/// Returns the first entry that has an ID.
-pub fn entry_with<'a>(entries: &'a [Ignored], id: &Id) -> Option<&'a Ignored>
-    ensures { option_copied result ≡ entry_with entries.now id.now }
-{
-    entries.iter().find(|entry| entry.id == *id)
-}
 
 /// Builds the tree of the reason of an entry, null without a reason.
 fn reason_tree(alloc: Global, entry: Option<&Ignored>) -> Result<Value, AllocError>

@@ -12,9 +12,6 @@ mod many;
 mod object;
 mod package_tree;
 mod rank;
-mod shown;
-#[cfg(test)]
-mod tests;
 mod text;
 mod tree;
 mod tree_lines;
@@ -23,7 +20,6 @@ mod written;
 mod yanked_block;
 mod yanked_tree;
 
-pub use crate::ignored_tree::entry_with;
 pub use crate::many::{many_tree, refused_tree};
 pub use crate::text::check_text;
 pub use crate::tree::check_tree;

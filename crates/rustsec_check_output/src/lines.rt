@@ -7,12 +7,11 @@ ghost use Rattle.rustsec_check_output.specs.CheckText.{below_line, below_words, 
 ghost use Rattle.rustsec_check_output.specs.CheckTree.{reason_of, until_of};
 
 use crate::block::push_package;
-use crate::ignored_tree::entry_with;
-use crate::shown::push_shown;
 use crate::written::Written;
 use crate::yanked_block::push_yanked_count;
 use rustsec_check::{Finding, IgnoredPair, Yanked};
-use rustsec_policy::Ignored;
+use rustsec_policy::{Ignored, entry_with};
+use rustsec_shown::push_shown;
 use rustsec_texts::Id;
 use rustsec_values::Text;
 use std::alloc::AllocError;

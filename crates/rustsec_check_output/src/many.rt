@@ -2,14 +2,14 @@
 
 ghost use Rattle.std.specs.Prelude.{◌≡◌, IfErr, IfOk, OnOk};
 ghost use Rattle.serde_json.specs.View.{members_view, view};
-ghost use Rattle.rustsec_versions.specs.Failure.{IsMemory};
+ghost use Rattle.rustsec_error.specs.Failure.{IsMemory};
 ghost use Rattle.rustsec_report.specs.Trees.{with_members};
 ghost use Rattle.rustsec_check_output.specs.CheckTree.{check_tree, many_entries, many_tree, refused_entries, refused_tree};
 
 use crate::object::{Members, put_tree};
 use crate::tree::check_tree;
 use crate::written::Written;
-use rustsec_versions::{ErrorKind, Result};
+use rustsec_error::{ErrorKind, Result};
 use serde_json::Value;
 use std::alloc::{AllocError, Global};
 

@@ -1,14 +1,14 @@
 //! Writes the text of a check for people.
 
 ghost use Rattle.std.specs.Prelude.{◌≡◌, ◌++◌, IfErr, IfOk, OnOk, string_bytes};
-ghost use Rattle.rustsec_versions.specs.Failure.{IsMemory};
+ghost use Rattle.rustsec_error.specs.Failure.{IsMemory};
 ghost use Rattle.rustsec_check_output.specs.CheckText.{blocks, check_text};
 
 use crate::blocks::{Page, push_blocks};
 use crate::lines::{push_further, push_last};
 use crate::written::Written;
 use crate::yanked_block::push_yanked;
-use rustsec_versions::Result;
+use rustsec_error::Result;
 use std::alloc::{AllocError, Global};
 
 /// Appends the blocks of all findings of a check.

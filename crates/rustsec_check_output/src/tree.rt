@@ -2,7 +2,7 @@
 
 ghost use Rattle.std.specs.Prelude.{◌≡◌, ◌∷◌, [], IfErr, IfOk, OnOk};
 ghost use Rattle.serde_json.specs.View.{members_view, view};
-ghost use Rattle.rustsec_versions.specs.Failure.{IsMemory};
+ghost use Rattle.rustsec_error.specs.Failure.{IsMemory};
 ghost use Rattle.rustsec_report.specs.Trees.{lockfile_tree, with_members};
 ghost use Rattle.rustsec_check_output.specs.CheckTree.{check_entries, check_tree, found_entries, looked_at_entries};
 
@@ -12,7 +12,7 @@ use crate::ignored_tree::all_ignored_tree;
 use crate::object::{Members, ids_tree, put_tree, texts_tree};
 use crate::written::Written;
 use crate::yanked_tree::all_yanked_tree;
-use rustsec_versions::Result;
+use rustsec_error::Result;
 use serde_json::Value;
 use std::alloc::{AllocError, Global};
 

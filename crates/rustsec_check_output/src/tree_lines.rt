@@ -3,13 +3,13 @@
 ghost use Rattle.std.specs.Prelude.{◌≡◌, IfErr, IfOk, false, string_bytes};
 ghost use Rattle.serde_json.specs.View.{view};
 ghost use Rattle.serde_json.specs.Written.{has_float};
-ghost use Rattle.rustsec_versions.specs.Failure.{IsMemory};
+ghost use Rattle.rustsec_error.specs.Failure.{IsMemory};
 ghost use Rattle.rustsec_check_output.specs.CheckTree.{check_tree, many_tree, refused_tree, tree_line};
 
 use crate::many::{many_tree, refused_tree};
 use crate::tree::check_tree;
 use crate::written::Written;
-use rustsec_versions::{ErrorKind, Result};
+use rustsec_error::{ErrorKind, Result};
 use serde_json::Value;
 use std::alloc::{AllocError, Global};
 

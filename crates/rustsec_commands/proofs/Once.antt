@@ -5,12 +5,12 @@ use Rattle.toml.specs.Data.{Members}
 use Rattle.toml.specs.Parse.{parse_document}
 use Rattle.rustsec_values.specs.Reading.{◌>>=◌, read_all}
 use Rattle.rustsec_versions.proofs.Agreement.{ranges-one}
-use Rattle.rustsec_versions.specs.Failure.{Failure, IsMemory, IsRefusal, out_of_memory}
+use Rattle.rustsec_error.specs.Failure.{Failure, IsMemory, IsRefusal, out_of_memory}
 use Rattle.rustsec_versions.specs.Lists.{Lists}
 use Rattle.rustsec_versions.specs.Ranges.{Range}
 use Rattle.rustsec_versions.specs.AcceptedRanges.{HasUnboundedInterval}
-use Rattle.rustsec_versions.specs.declared.error.ErrorKind.{ErrorKind}
-use Rattle.rustsec_versions.specs.declared.error.ErrorKind.TheVariants as kind
+use Rattle.rustsec_error.specs.declared.error.ErrorKind.{ErrorKind}
+use Rattle.rustsec_error.specs.declared.error.ErrorKind.TheVariants as kind
 use Rattle.rustsec_folders.specs.Allowed.{Allowed, AnswersOnce}
 use Rattle.rustsec_folders.specs.declared.source_file.SourceFile.{SourceFile}
 use Rattle.rustsec_folders.proofs.Once.{listed-once, read-or-not, text-once}

@@ -6,12 +6,12 @@ use Rattle.std.proofs.lemmas.List.{append_assoc, drop_all, drop_more}
 use Rattle.rustsec_commands.specs.Options.{Options, no_options, options_of, with_denied, with_ignored}
 
 -- some options, and others after them
-abbrev pub behind : Options → Options → Options
-behind a b = record { ignored = a.ignored ++ b.ignored; deny_warnings = a.deny_warnings || b.deny_warnings }
+abbrev pub followed_by : Options → Options → Options
+followed_by a b = record { ignored = a.ignored ++ b.ignored; deny_warnings = a.deny_warnings || b.deny_warnings }
 
--- as `behind`, or `None` if the others are `None`
-abbrev pub behind_all : Options → Option Options → Option Options
-behind_all a o = option_map (behind a) o
+-- as `followed_by`, or `None` if the others are `None`
+abbrev pub followed_by_all : Options → Option Options → Option Options
+followed_by_all a o = option_map (followed_by a) o
 
 -- the options that words name after `--ignore`, or after a whole option
 abbrev pub awaited : Bool → List (List ℕ) → Option Options
@@ -30,39 +30,39 @@ or_false : (d : Bool) → (d || false) ≡ d
 or_false true = refl
 or_false false = refl
 
-denied : (a b : Options) → behind a (with_denied b) ≡ behind (with_denied a) b
+denied : (a b : Options) → followed_by a (with_denied b) ≡ followed_by (with_denied a) b
 denied a b i = record { ignored = a.ignored ++ b.ignored; deny_warnings = or_true a.deny_warnings i }
 
-ignored : (a b : Options) (id : List ℕ) → behind a (with_ignored id b) ≡ behind (also a id) b
+ignored : (a b : Options) (id : List ℕ) → followed_by a (with_ignored id b) ≡ followed_by (also a id) b
 ignored a b id i = record { ignored = sym (append_assoc a.ignored (id ∷ []) b.ignored) i; deny_warnings = a.deny_warnings || b.deny_warnings }
 
-none_behind : (a : Options) → behind a no_options ≡ a
-none_behind a i = record { ignored = append-nil a.ignored i; deny_warnings = or_false a.deny_warnings i }
+followed_by_none : (a : Options) → followed_by a no_options ≡ a
+followed_by_none a i = record { ignored = append-nil a.ignored i; deny_warnings = or_false a.deny_warnings i }
 
-all_denied : (a : Options) (o : Option Options) → behind_all a (option_map with_denied o) ≡ behind_all (with_denied a) o
+all_denied : (a : Options) (o : Option Options) → followed_by_all a (option_map with_denied o) ≡ followed_by_all (with_denied a) o
 all_denied a None = refl
 all_denied a (Some b) = ap Some (denied a b)
 
-all_ignored : (a : Options) (id : List ℕ) (o : Option Options) → behind_all a (option_map (with_ignored id) o) ≡ behind_all (also a id) o
+all_ignored : (a : Options) (id : List ℕ) (o : Option Options) → followed_by_all a (option_map (with_ignored id) o) ≡ followed_by_all (also a id) o
 all_ignored a id None = refl
 all_ignored a id (Some b) = ap Some (ignored a b id)
 
 -- ---- one more word
 
 pub denies : (a : Options) (word : List ℕ) (words : List (List ℕ)) → bytes_eq word (codes "--deny-warnings") ≡ true
-    → behind_all a (awaited false (word ∷ words)) ≡ behind_all (with_denied a) (awaited false words)
+    → followed_by_all a (awaited false (word ∷ words)) ≡ followed_by_all (with_denied a) (awaited false words)
 unfolding options_of
 denies a word [] is = rw is (ap Some (denied a no_options))
 denies a word (next ∷ words) is = rw is (all_denied a (options_of (next ∷ words)))
 
 pub ignores : (a : Options) (id : List ℕ) (words : List (List ℕ))
-    → behind_all a (awaited true (id ∷ words)) ≡ behind_all (also a id) (awaited false words)
+    → followed_by_all a (awaited true (id ∷ words)) ≡ followed_by_all (also a id) (awaited false words)
 unfolding options_of
 ignores a id words = all_ignored a id (options_of words)
 
 pub awaits : (a : Options) (word : List ℕ) (words : List (List ℕ)) → word ≡ codes "--ignore"
-    → behind_all a (awaited false (word ∷ words)) ≡ behind_all a (awaited true words)
-awaits a word words is = ap (λ w. behind_all a (options_of (w ∷ words))) is
+    → followed_by_all a (awaited false (word ∷ words)) ≡ followed_by_all a (awaited true words)
+awaits a word words is = ap (λ w. followed_by_all a (options_of (w ∷ words))) is
 
 pub another : (word : List ℕ) (words : List (List ℕ)) → bytes_eq word (codes "--deny-warnings") ≡ false
     → bytes_eq word (codes "--ignore") ≡ false → awaited false (word ∷ words) ≡ None
@@ -72,9 +72,9 @@ another word (next ∷ words) denies ignores = rw (denies, ignores) refl
 
 -- ---- no more words
 
-pub whole : (a : Options) → behind_all a (awaited false []) ≡ Some a
+pub whole : (a : Options) → followed_by_all a (awaited false []) ≡ Some a
 unfolding options_of
-whole a = ap Some (none_behind a)
+whole a = ap Some (followed_by_none a)
 
 pub unfinished : awaited true [] ≡ None
 unfolding options_of
@@ -101,24 +101,24 @@ module _ (all : Option Options) (ignored : List (List ℕ)) (deny : Bool) (words
   abbrev so_far : Options
   so_far = record { ignored = ignored; deny_warnings = deny }
 
-  pub after-id : i < length words → all ≡ behind_all so_far (rest_of true words i)
-      → all ≡ behind_all (also so_far (get_or words i d).now) (rest_of false words (i + 1))
-  after-id low is = is ∙ ap (behind_all so_far) (rest-more true words i d low) ∙ ignores so_far _ _
+  pub after-id : i < length words → all ≡ followed_by_all so_far (rest_of true words i)
+      → all ≡ followed_by_all (also so_far (get_or words i d).now) (rest_of false words (i + 1))
+  after-id low is = is ∙ ap (followed_by_all so_far) (rest-more true words i d low) ∙ ignores so_far _ _
 
-  pub after-ignore : i < length words → bytes_eq (get_or words i d).now (codes "--ignore") ≡ true → all ≡ behind_all so_far (rest_of false words i)
-      → all ≡ behind_all so_far (rest_of true words (i + 1))
-  after-ignore low word is = is ∙ ap (behind_all so_far) (rest-more false words i d low) ∙ awaits so_far _ _ ((bytes_eq-Decides _ _).0 word)
+  pub after-ignore : i < length words → bytes_eq (get_or words i d).now (codes "--ignore") ≡ true → all ≡ followed_by_all so_far (rest_of false words i)
+      → all ≡ followed_by_all so_far (rest_of true words (i + 1))
+  after-ignore low word is = is ∙ ap (followed_by_all so_far) (rest-more false words i d low) ∙ awaits so_far _ _ ((bytes_eq-Decides _ _).0 word)
 
-  pub after-deny : i < length words → bytes_eq (get_or words i d).now (codes "--deny-warnings") ≡ true → all ≡ behind_all so_far (rest_of false words i)
-      → all ≡ behind_all (with_denied so_far) (rest_of false words (i + 1))
-  after-deny low word is = is ∙ ap (behind_all so_far) (rest-more false words i d low) ∙ denies so_far _ _ word
+  pub after-deny : i < length words → bytes_eq (get_or words i d).now (codes "--deny-warnings") ≡ true → all ≡ followed_by_all so_far (rest_of false words i)
+      → all ≡ followed_by_all (with_denied so_far) (rest_of false words (i + 1))
+  after-deny low word is = is ∙ ap (followed_by_all so_far) (rest-more false words i d low) ∙ denies so_far _ _ word
 
   pub after-another : i < length words → bytes_eq (get_or words i d).now (codes "--deny-warnings") ≡ false
-      → bytes_eq (get_or words i d).now (codes "--ignore") ≡ false → all ≡ behind_all so_far (rest_of false words i) → None ≡ all
-  after-another low denies ignores is = sym (is ∙ ap (behind_all so_far) (rest-more false words i d low ∙ another _ _ denies ignores))
+      → bytes_eq (get_or words i d).now (codes "--ignore") ≡ false → all ≡ followed_by_all so_far (rest_of false words i) → None ≡ all
+  after-another low denies ignores is = sym (is ∙ ap (followed_by_all so_far) (rest-more false words i d low ∙ another _ _ denies ignores))
 
-  pub after-all : length words ≤ i → all ≡ behind_all so_far (rest_of false words i) → Some so_far ≡ all
-  after-all high is = sym (is ∙ ap (behind_all so_far) (rest-end false words i high) ∙ whole so_far)
+  pub after-all : length words ≤ i → all ≡ followed_by_all so_far (rest_of false words i) → Some so_far ≡ all
+  after-all high is = sym (is ∙ ap (followed_by_all so_far) (rest-end false words i high) ∙ whole so_far)
 
-  pub after-no-id : length words ≤ i → all ≡ behind_all so_far (rest_of true words i) → None ≡ all
-  after-no-id high is = sym (is ∙ ap (behind_all so_far) (rest-end true words i high ∙ unfinished))
+  pub after-no-id : length words ≤ i → all ≡ followed_by_all so_far (rest_of true words i) → None ≡ all
+  after-no-id high is = sym (is ∙ ap (followed_by_all so_far) (rest-end true words i high ∙ unfinished))

@@ -5,8 +5,8 @@ use Rattle.rustsec_advisory.specs.FileRefusals.{AreLintsAt, IsLintRefusal}
 use Rattle.rustsec_advisory.specs.LintErrors.{LintError, lint_error_text}
 use Rattle.rustsec_advisory.specs.declared.advisory.Advisory.{Advisory}
 use Rattle.rustsec_commands.specs.Output.{Output, refused_as}
-use Rattle.rustsec_versions.specs.Failure.{Failure}
-use Rattle.rustsec_versions.specs.declared.error.ErrorKind.TheVariants as kind
+use Rattle.rustsec_error.specs.Failure.{Failure}
+use Rattle.rustsec_error.specs.declared.error.ErrorKind.TheVariants as kind
 
 -- the line for a lint error
 abbrev pub error_line : LintError → List ℕ

@@ -1,8 +1,8 @@
 -- What the command `osv` writes for the file at a path and the time of its last change.
 use Rattle.std.specs.Prelude.{◌≡◌, ◌≢◌, ◌⊎◌, ℕ, List, None}
 use Rattle.rustsec_folders.specs.Allowed.{Allowed}
-use Rattle.rustsec_versions.specs.Failure.{Failure, IsRefusal}
-use Rattle.rustsec_versions.specs.declared.error.ErrorKind.TheVariants as kind
+use Rattle.rustsec_error.specs.Failure.{Failure, IsRefusal}
+use Rattle.rustsec_error.specs.declared.error.ErrorKind.TheVariants as kind
 use Rattle.rustsec_versions.specs.AcceptedRanges.{HasUnboundedInterval}
 use Rattle.rustsec_advisory.specs.FileRefusals.{IsAdvisoryAt, IsAdvisoryRefusal}
 use Rattle.rustsec_advisory.specs.declared.advisory.Advisory.{Advisory}

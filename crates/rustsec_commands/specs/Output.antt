@@ -5,8 +5,8 @@ use Rattle.serde_json.specs.Data.{Data}
 use Rattle.serde_json.specs.Written.{compact_text}
 use Rattle.semver.specs.Identifiers.{parts_text}
 use Rattle.semver.specs.Parse.{Parts}
-use Rattle.rustsec_versions.specs.Failure.{kind_text}
-use Rattle.rustsec_versions.specs.declared.error.ErrorKind.{ErrorKind}
+use Rattle.rustsec_error.specs.Failure.{kind_text}
+use Rattle.rustsec_error.specs.declared.error.ErrorKind.{ErrorKind}
 use Rattle.rustsec_versions.specs.Lists.{Lists, accepted, affected}
 use Rattle.rustsec_versions.specs.Ranges.{Range}
 use Rattle.rustsec_versions.specs.AcceptedRanges.{AreMergedRanges}

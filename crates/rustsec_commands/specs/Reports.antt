@@ -1,8 +1,8 @@
 -- The outputs of the commands over a database and a lockfile.
 use Rattle.std.specs.Prelude.{◌≡◌, ◌≢◌, ◌⊎◌, ℕ, List, [], ◌∷◌, Some, None, if◌then◌else◌}
 use Rattle.rustsec_values.specs.Reading.{read_all}
-use Rattle.rustsec_versions.specs.Failure.{Failure}
-use Rattle.rustsec_versions.specs.declared.error.ErrorKind.TheVariants as kind
+use Rattle.rustsec_error.specs.Failure.{Failure}
+use Rattle.rustsec_error.specs.declared.error.ErrorKind.TheVariants as kind
 use Rattle.rustsec_lock.specs.Lockfile.{IsLockfileRefusal}
 use Rattle.rustsec_texts.specs.Ids.{IdValue, id_of}
 use Rattle.rustsec_texts.specs.declared.informational.Informational.TheVariants as informational

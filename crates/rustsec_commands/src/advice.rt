@@ -1,13 +1,14 @@
 //! Describes the vulnerabilities and warnings of a report to a person, with what helps against them.
 
-use crate::shown::push_shown;
 use rustsec_advisory::Metadata;
+use rustsec_error::Result;
 use rustsec_lock::Cvss;
 use rustsec_lock::package::Package;
 use rustsec_query::Vulnerability;
 use rustsec_report::{Report, Warning, WarningInfo};
+use rustsec_shown::push_shown;
 use rustsec_texts::WarningKind;
-use rustsec_versions::{Result, Versions, requirement_text};
+use rustsec_versions::{Versions, requirement_text};
 use std::alloc::Global;
 use std::fmt::Write as _;
 

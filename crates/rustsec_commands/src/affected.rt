@@ -6,7 +6,8 @@ ghost use Rattle.rustsec_commands.specs.Output.{affected_output, verdict, verdic
 
 use crate::asked::{self, Asked, Question};
 use crate::output::{self, Output};
-use rustsec_versions::{ErrorKind, Versions};
+use rustsec_error::ErrorKind;
+use rustsec_versions::Versions;
 use semver::Version;
 use std::alloc::{AllocError, Global};
 use std::fmt::Write as _;

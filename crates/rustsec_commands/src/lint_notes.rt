@@ -1,10 +1,10 @@
 //! Describes the lint errors of an advisory to a person: in which line each is, what is known there, and what is near.
 
-use crate::shown::push_shown;
 use crate::warnings::add_warnings;
 use rustsec_advisory::linter::{Error, ErrorKind};
-use rustsec_advisory::{Linter, lint_error_line};
+use rustsec_advisory::{Linter, Metadata, lint_error_line};
 use rustsec_policy::nearest_word;
+use rustsec_shown::push_shown;
 use std::alloc::{AllocError, Global};
 use std::fmt::Write as _;
 
@@ -86,6 +86,14 @@ fn add_known(
     Ok(())
 }
 
+/// Returns whether the year of an advisory's ID is not that of its date.
+fn is_of_another_year(metadata: &Metadata) -> bool {
+    match metadata.id.year() {
+        Some(year) => year != metadata.date.year(),
+        None => false,
+    }
+}
+
 /// Appends what helps against a value that its key does not accept.
 fn add_value_help(
     alloc: Global,
@@ -96,10 +104,11 @@ fn add_value_help(
 ) -> Result<(), AllocError> {
     let metadata = &linter.advisory().metadata;
     match key {
-        "id" => {
+        "id" if is_of_another_year(metadata) => {
             let date = metadata.date.as_str();
             write!(note, "; the date is {date}")
         }
+        "id" => Ok(()),
         "functions" => {
             note.push_str("; the package is `")?;
             push_shown(note, metadata.package.as_str())?;

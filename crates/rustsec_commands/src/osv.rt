@@ -37,7 +37,7 @@ fn document_of<F: Folders>(
     folders: &mut F,
     path: &str,
     modified: &str,
-) -> rustsec_versions::Result<OsvAdvisory>
+) -> rustsec_error::Result<OsvAdvisory>
     ensures ok { IfOk result (IsDocumentOf (F.allowed folders.old) path.now modified.now) }
     ensures err { IfErr result (IsOsvRefusal (F.allowed folders.old) path.now) }
     ensures same { AllowSame (F.allowed folders.old) (F.allowed folders.new) }

@@ -9,8 +9,8 @@ ghost use Rattle.rustsec_commands.specs.Output.{malformed, refused, tree_line, u
 
 use crate::fault::Fault;
 use crate::refusal::why;
-use crate::shown::push_shown;
-use rustsec_versions::{Error, refused_text};
+use rustsec_error::{Error, refused_text};
+use rustsec_shown::push_shown;
 use serde_json::Value;
 use std::alloc::{AllocError, Global};
 use std::io::Write;

@@ -2,13 +2,13 @@
 
 ghost use Rattle.rustsec_folders.specs.Allowed.{AllowSame};
 
-use crate::shown::push_shown;
 use rustsec_database::Database;
+use rustsec_error::Result;
 use rustsec_folders::Folders;
 use rustsec_lock::package::Package;
 use rustsec_lock::{Lockfile, SourceKind};
+use rustsec_shown::push_shown;
 use rustsec_texts::Id;
-use rustsec_versions::Result;
 use std::alloc::Global;
 use std::fmt::Write as _;
 

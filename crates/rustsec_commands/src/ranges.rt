@@ -7,7 +7,8 @@ ghost use Rattle.rustsec_commands.specs.Output.{AreRangeLines, IsRangesOutput, r
 
 use crate::asked::{self, Asked, Question};
 use crate::output::{self, Output};
-use rustsec_versions::{ErrorKind, OsvRange, Versions, ranges_for_advisory};
+use rustsec_error::ErrorKind;
+use rustsec_versions::{OsvRange, Versions, ranges_for_advisory};
 use semver::Version;
 use std::alloc::{AllocError, Global};
 use std::fmt::Write as _;

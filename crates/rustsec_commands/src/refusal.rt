@@ -2,11 +2,11 @@
 
 ghost use Rattle.std.specs.Prelude.{◌≡◌, ◌≢◌, IfOk};
 ghost use Rattle.rustsec_commands.specs.Output.{refused_as};
-ghost use Rattle.rustsec_versions.specs.declared.error.ErrorKind.TheVariants as failure;
+ghost use Rattle.rustsec_error.specs.declared.error.ErrorKind.TheVariants as failure;
 
 use crate::output::Output;
-use crate::shown::push_shown;
-use rustsec_versions::{Error, ErrorKind, refused_file};
+use rustsec_error::{Error, ErrorKind, refused_file};
+use rustsec_shown::push_shown;
 use std::alloc::{AllocError, Global};
 
 /// Returns the note that says why something is refused, with its cause, on one line.

@@ -2,7 +2,7 @@
 
 ghost use Rattle.std.specs.Prelude.{◌≡◌, ◌⊎◌, [], IfErr, IfOk, None, Some, map, string_bytes};
 ghost use Rattle.rustsec_values.specs.Reading.{read_all};
-ghost use Rattle.rustsec_versions.specs.Failure.{IsRefusal};
+ghost use Rattle.rustsec_error.specs.Failure.{IsRefusal};
 ghost use Rattle.rustsec_folders.specs.Allowed.{AllowSame};
 ghost use Rattle.rustsec_texts.specs.Ids.{id_of};
 ghost use Rattle.rustsec_report.specs.Trees.{report_tree};
@@ -17,12 +17,12 @@ use crate::overview::{LookedAt, Paths, overview};
 use crate::refusal::refusal;
 use crate::{misuse, options};
 use rustsec_database::Database;
+use rustsec_error::ErrorKind;
 use rustsec_folders::Folders;
 use rustsec_lock::Lockfile;
 use rustsec_report::{Report, Settings};
 use rustsec_texts::{Id, Informational};
 use rustsec_values::Items;
-use rustsec_versions::ErrorKind;
 use std::alloc::{AllocError, Global};
 use std::marker::Model;
 
@@ -89,7 +89,7 @@ pub fn report_of<F: Folders>(
     folders: &mut F,
     paths: Paths<'_>,
     settings: &Settings,
-) -> rustsec_versions::Result<NotedReport>
+) -> rustsec_error::Result<NotedReport>
     ensures ok { IfOk result (IsReportOfPaths (F.allowed folders.old) paths.entry.root.now paths.entry.lock.now settings.now) }
     ensures err { IfErr result (IsReportRefusal (F.allowed folders.old) paths.entry.root.now paths.entry.lock.now) }
     ensures same { AllowSame (F.allowed folders.old) (F.allowed folders.new) }
@@ -133,7 +133,7 @@ pub fn report<F: Folders>(
 }
 
 /// Returns what helps against what a report found, and after it what the report looked at.
-fn advice_and_note(alloc: Global, noted: &NotedReport) -> rustsec_versions::Result<String> {
+fn advice_and_note(alloc: Global, noted: &NotedReport) -> rustsec_error::Result<String> {
     let mut note = advice(alloc, &noted.report)?;
     if let Some(looked) = &noted.note {
         note.push_str(looked)?;

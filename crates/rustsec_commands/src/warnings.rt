@@ -1,11 +1,9 @@
 //! Describes what others make of an advisory that is accepted: what the Rust crate refuses, and which requirements Cargo's
 //! matching reads differently.
 
-use crate::edition::new_form;
-use crate::shown::push_shown;
 use rustsec_advisory::Advisory;
-use rustsec_lint_database::{readings_of, upstream_remarks};
-use rustsec_values::beginning_of;
+use rustsec_lint_database::{edition_note, readings_of, upstream_remarks};
+use rustsec_shown::push_shown;
 use std::alloc::{AllocError, Global};
 use std::fmt::Write as _;
 
@@ -19,33 +17,12 @@ fn add_warning(note: &mut String, words: &str) -> Result<(), AllocError> {
     note.push('\n')
 }
 
-/// Returns the front matter of an advisory's text, from the end of the line of its opening on.
-fn front_of(text: &str) -> Option<&str> {
-    let body = text.strip_prefix("```toml")?;
-    match body.split_once("\n```") {
-        Some((front, _)) => Some(front),
-        None => None,
-    }
-}
-
-/// Returns the line in which the rest of a front matter begins, from 1 on.
-fn line_of(front: &str, rest: &str) -> usize {
-    let read = front.len().saturating_sub(rest.len());
-    let line_feeds = beginning_of(front, read).matches('\n').count();
-    line_feeds.saturating_add(1)
-}
-
 /// Appends the warning about the first form of TOML 1.1 that the Rust crate refuses.
 fn add_edition(alloc: Global, note: &mut String, text: &str) -> Result<(), AllocError> {
-    let Some(front) = front_of(text) else {
-        return Ok(());
-    };
-    let Some((rest, form)) = new_form(alloc, front)? else {
-        return Ok(());
-    };
-    let line = line_of(front, rest);
-    let words = format!(in alloc; "line {line}: the Rust crate refuses {form} (TOML 1.1)")?;
-    add_warning(note, &words)
+    match edition_note(alloc, text)? {
+        Some(words) => add_warning(note, words.as_str()),
+        None => Ok(()),
+    }
 }
 
 /// Appends a warning for each part of an advisory that the Rust crate refuses.

@@ -2,23 +2,23 @@
 use Rattle.std.proofs.Common.{◌≡◌, ◌∙◌, ◌⊎◌, ◌+◌, ◌<◌, ◌++◌, ℕ, List, [], ◌∷◌, Option, Some, None, inl, inr, get_or, length, take, refl, subst, sym, ap}
 use Rattle.std.proofs.lemmas.List.{append_assoc}
 use Rattle.std.specs.Prelude.{Err, IfErr, IfOk, Ok, Result}
-use Rattle.rustsec_versions.specs.Failure.{Failure, IsMemory}
+use Rattle.rustsec_error.specs.Failure.{Failure, IsMemory}
 use Rattle.rustsec_advisory.specs.declared.advisory.Advisory.{Advisory}
 use Rattle.rustsec_folders.specs.Allowed.{Allowed, AllowSame}
 use Rattle.rustsec_folders.specs.Listed.{FailsAtFile, IsFile, Pairwise, Paths}
 use Rattle.rustsec_folders.specs.declared.source_file.SourceFile.{SourceFile}
 use Rattle.rustsec_folders.proofs.Lists.{contains-item, pairwise-step}
 use Rattle.rustsec_folders.proofs.Same.{listed-fails, listed-found}
-use Rattle.rustsec_versions.proofs.Refusals.{refused_by}
-use Rattle.rustsec_versions.specs.declared.error.ErrorKind.TheVariants as kind
+use Rattle.rustsec_error.proofs.Refusals.{refused_by}
+use Rattle.rustsec_error.specs.declared.error.ErrorKind.TheVariants as kind
 use Rattle.rustsec_database.specs.Loaded.{AreLoaded, IsAdded, IsFault, IsFirstFault}
 use Rattle.rustsec_database.specs.Opened.{AreOpened, AreRead, IsLoadOf, IsOpenRefusal, IsReadRefusal}
 use Rattle.rustsec_database.proofs.Files.{loaded-more}
 
 -- ---- the result of loading one more file, from the result for the files before it
 
-behind : (files : List SourceFile) (f : SourceFile) (e : Failure) → IsFirstFault files e → IsFirstFault (files ++ f ∷ []) e
-behind files f e h = record {
+refused-still : (files : List SourceFile) (f : SourceFile) (e : Failure) → IsFirstFault files e → IsFirstFault (files ++ f ∷ []) e
+refused-still files f e h = record {
   good = h.good;
   bad = h.bad;
   rest = h.rest ++ f ∷ [];
@@ -32,7 +32,7 @@ behind files f e h = record {
 -- a refusal stays the result with one more file
 pub still-refused : (files : List SourceFile) (f : SourceFile) (e : Failure) → IsFirstFault files e ⊎ IsMemory e
     → IsFirstFault (files ++ f ∷ []) e ⊎ IsMemory e
-still-refused files f e (inl h) = inl (behind files f e h)
+still-refused files f e (inl h) = inl (refused-still files f e h)
 still-refused files f e (inr memory) = inr memory
 
 -- the last file is at fault

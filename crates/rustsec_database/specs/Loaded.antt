@@ -1,9 +1,9 @@
 -- The result of loading files: their advisories, or the first fault.
 use Rattle.std.specs.Prelude.{◌≡◌, ◌⊎◌, ◌++◌, ◌∷◌, [], ℕ, Bool, true, false, List, Option, Some, None, codes, if◌then◌else◌, length, not}
 use Rattle.std.specs.List.{All, AllPairs, AllZip, filter, list_any}
-use Rattle.rustsec_versions.specs.Failure.{Failure, IsMemory}
-use Rattle.rustsec_versions.specs.declared.error.ErrorKind.{ErrorKind}
-use Rattle.rustsec_versions.specs.declared.error.ErrorKind.TheVariants as kind
+use Rattle.rustsec_error.specs.Failure.{Failure, IsMemory}
+use Rattle.rustsec_error.specs.declared.error.ErrorKind.{ErrorKind}
+use Rattle.rustsec_error.specs.declared.error.ErrorKind.TheVariants as kind
 use Rattle.rustsec_texts.specs.IdOrder.{id_eq}
 use Rattle.rustsec_texts.specs.Ids.{IdValue, is_placeholder}
 use Rattle.rustsec_advisory.specs.declared.advisory.Advisory.{Advisory}

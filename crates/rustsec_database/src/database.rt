@@ -5,7 +5,7 @@ ghost use Rattle.std.specs.Iterator.Adapters.{IterYieldsInOrder};
 ghost use Rattle.std.specs.List.{filter, find};
 ghost use Rattle.std.specs.Option.{option_copied};
 ghost use Rattle.std.specs.Slice.Iter.{iter_rest};
-ghost use Rattle.rustsec_versions.specs.Failure.{IsMemory};
+ghost use Rattle.rustsec_error.specs.Failure.{IsMemory};
 ghost use Rattle.rustsec_advisory.specs.declared.advisory.Advisory as given;
 ghost use Rattle.rustsec_query.specs.Pairs.{as_vulnerability, is_audited, pairs, pairs_of, vulnerability_of};
 ghost use Rattle.rustsec_query.specs.Query.{crate_scope, of_package};
@@ -15,15 +15,16 @@ ghost use Rattle.rustsec_database.specs.Places.{IsIndexOf, at_places, is_under, 
 
 use crate::entries::Entries;
 use crate::index::Index;
+use crate::matches::{Matches, MatchesPackage};
 use crate::slot::Slot;
 use rustsec_advisory::Advisory;
+use rustsec_error::Result;
 use rustsec_folders::SourceFile;
 use rustsec_lock::Lockfile;
 use rustsec_lock::package::{Name, Package};
 use rustsec_query::{Query, Vulnerability};
 use rustsec_texts::{Collection, Id};
 use rustsec_values::{Items, Test};
-use rustsec_versions::Result;
 use std::alloc::{AllocError, Global};
 use std::marker::Model;
 use std::{slice, vec};
@@ -112,40 +113,6 @@ fn load_one(
             Ok(())
         }
         None => Ok(()),
-    }
-}
-
-/// The test whether an advisory matches a query.
-#[derive(Drop)]
-struct Matches<'a> {
-    query: &'a Query,
-}
-
-impl<'a> Test<Advisory> for Matches<'a> {
-    ghost use Rattle.rustsec_query.specs.Selects.{selects};
-
-    ghost passes = { λ test a. selects test.query.now a };
-
-    fn passes(&self, advisory: &Advisory) -> bool {
-        self.query.matches(advisory)
-    }
-}
-
-/// The test whether an advisory matches a query for a package.
-#[derive(Drop)]
-struct MatchesPackage<'a> {
-    query: &'a Query,
-    package: &'a Package,
-}
-
-impl<'a> Test<Advisory> for MatchesPackage<'a> {
-    ghost use Rattle.rustsec_query.specs.Query.{of_package};
-    ghost use Rattle.rustsec_query.specs.Selects.{selects};
-
-    ghost passes = { λ test a. selects (of_package test.query.now test.«package».now) a };
-
-    fn passes(&self, advisory: &Advisory) -> bool {
-        self.query.matches_package(self.package, advisory)
     }
 }
 
@@ -335,8 +302,13 @@ impl Database {
         Ok(found)
     }
 
-    /// Returns the advisories that a query finds for a package. It does not copy the query.
-    fn query_of_package(
+    /// Returns the advisories that a query selects with the name, the version and the source of a package, whichever
+    /// those of the query are; in the order in which they were loaded. The query and the package are not copied.
+    ///
+    /// # Errors
+    ///
+    /// Out of memory.
+    pub fn query_of_package(
         &self,
         alloc: Global,
         query: &Query,

@@ -5,6 +5,7 @@ mod database;
 mod entries;
 pub mod filing;
 mod index;
+mod matches;
 mod open;
 mod slot;
 

@@ -6,9 +6,9 @@ ghost use Rattle.rustsec_folders.specs.declared.source_file.SourceFile.{SourceFi
 ghost use Rattle.rustsec_database.specs.Opened.{AreOpened, AreRead, IsLoadOf, IsOpenRefusal, IsReadRefusal};
 
 use crate::database::Database;
+use rustsec_error::Result;
 use rustsec_folders::{Folders, RealFolders, source_paths};
 use rustsec_values::Text;
-use rustsec_versions::Result;
 use std::alloc::Global;
 use std::rt::Files;
 

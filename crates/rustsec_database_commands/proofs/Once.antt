@@ -6,8 +6,8 @@ use Rattle.rustsec_commands.specs.Output.{Output, refused_as}
 use Rattle.rustsec_commands.proofs.Once.{kinds-of, no-memory, same-output}
 use Rattle.semver.specs.Parse.{Parts, version_parts}
 use Rattle.rustsec_values.specs.Reading.{value_of}
-use Rattle.rustsec_versions.specs.Failure.{Failure}
-use Rattle.rustsec_versions.specs.declared.error.ErrorKind.TheVariants as kind
+use Rattle.rustsec_error.specs.Failure.{Failure}
+use Rattle.rustsec_error.specs.declared.error.ErrorKind.TheVariants as kind
 use Rattle.rustsec_lock.specs.Names.{name_of}
 use Rattle.rustsec_advisory.specs.declared.advisory.Advisory.{Advisory}
 use Rattle.rustsec_database.specs.Opened.{IsOpenRefusal}

@@ -3,7 +3,7 @@ use Rattle.std.specs.Prelude.{◌≡◌, ◌==◌, ℕ, Bool, List, [], ◌∷�
 use Rattle.rustsec_values.specs.ClosedTables.{value_named}
 use Rattle.rustsec_folders.specs.Allowed.{Allowed}
 use Rattle.rustsec_folders.specs.Listed.{Paths}
-use Rattle.rustsec_versions.specs.declared.error.ErrorKind.TheVariants as kind
+use Rattle.rustsec_error.specs.declared.error.ErrorKind.TheVariants as kind
 use Rattle.rustsec_lint_database.specs.Counts.{faults, notes}
 use Rattle.rustsec_lint_database.specs.Entries.{AreEntries}
 use Rattle.rustsec_lint_database.specs.declared.counts.Counts.{Counts}

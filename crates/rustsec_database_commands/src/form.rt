@@ -1,11 +1,11 @@
 //! The forms of an output.
 
 ghost use Rattle.std.specs.Prelude.{◌≡◌, IfErr, IfOk, None, Some, option_map};
-ghost use Rattle.rustsec_versions.specs.Failure.{IsRefusal};
+ghost use Rattle.rustsec_error.specs.Failure.{IsRefusal};
 ghost use Rattle.rustsec_database_commands.specs.Lint.{form_named};
 
+use rustsec_error::{ErrorKind, Result, refused_text};
 use rustsec_values::{Named, value_named};
-use rustsec_versions::{ErrorKind, Result, refused_text};
 use std::alloc::Global;
 
 /// The form of an output.

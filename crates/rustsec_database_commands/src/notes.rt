@@ -1,9 +1,9 @@
 //! Notes on the files of a database, for a person.
 
+use rustsec_error::{Error, ErrorKind, refused_file};
 use rustsec_lint_database::{Step, Watcher};
 use rustsec_program::output::why;
 use rustsec_shown::push_shown;
-use rustsec_versions::{Error, ErrorKind, refused_file};
 use std::alloc::{AllocError, Global};
 use std::io::Write;
 
@@ -47,8 +47,8 @@ fn notes_on(alloc: Global, step: &Step<'_>, progress: bool) -> Result<String, Al
     if let Some(error) = &step.notes.refusal {
         add_refusal(alloc, &mut note, step.path, error)?;
     }
-    for reading in step.notes.readings.as_slice() {
-        add_line(&mut note, step.path, reading.as_str())?;
+    for words in step.notes.words.as_slice() {
+        add_line(&mut note, step.path, words.as_str())?;
     }
     if progress && step.done % EACH == 0 {
         add_progress(alloc, &mut note, step)?;

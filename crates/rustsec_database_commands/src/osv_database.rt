@@ -10,10 +10,10 @@ ghost use Rattle.rustsec_database_commands.specs.Osv.{IsDatabaseOutput, choice_o
 
 use crate::misuse;
 use rustsec_database::Database;
+use rustsec_error::Result;
 use rustsec_folders::Folders;
 use rustsec_osv_database::{Choice, Exported, export};
 use rustsec_program::output::{self, Output, refusal};
-use rustsec_versions::Result;
 use std::alloc::{AllocError, Global};
 
 /// Returns whether a word asks to leave out withdrawn advisories.

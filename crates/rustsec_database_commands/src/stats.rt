@@ -5,8 +5,8 @@ ghost use Rattle.serde_json.specs.View.{view};
 ghost use Rattle.rustsec_folders.specs.Allowed.{AllowSame};
 ghost use Rattle.rustsec_advisory.specs.declared.advisory.Advisory as given;
 ghost use Rattle.rustsec_database.specs.Opened.{AreOpened, IsOpenRefusal};
-ghost use Rattle.rustsec_versions.specs.Failure.{IsMemory};
-ghost use Rattle.rustsec_versions.specs.declared.error.ErrorKind.TheVariants as failure;
+ghost use Rattle.rustsec_error.specs.Failure.{IsMemory};
+ghost use Rattle.rustsec_error.specs.declared.error.ErrorKind.TheVariants as failure;
 ghost use Rattle.rustsec_commands.specs.Output.{refused_as, tree_line};
 ghost use Rattle.rustsec_stats.specs.Stats.{stats_of};
 ghost use Rattle.rustsec_stats.specs.StatsTree.{stats_tree};
@@ -17,10 +17,10 @@ use crate::misuse;
 use rustsec_advisory::Advisory;
 use rustsec_commands::tree_line;
 use rustsec_database::Database;
+use rustsec_error::Result;
 use rustsec_folders::Folders;
 use rustsec_program::output::{self, Output, refusal};
 use rustsec_stats::{Stats, stats_of, stats_text, stats_tree};
-use rustsec_versions::Result;
 use std::alloc::{AllocError, Global};
 
 /// Returns the name of the form that the words ask for, if any; `None` for words that are not `--format` and a name.

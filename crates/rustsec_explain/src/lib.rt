@@ -5,8 +5,6 @@ mod explanation;
 mod held;
 mod pairs;
 mod reason;
-#[cfg(test)]
-mod tests;
 mod tests_of_pairs;
 mod wording;
 

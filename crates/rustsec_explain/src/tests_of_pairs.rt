@@ -4,15 +4,15 @@ ghost use Rattle.std.specs.Prelude.{◌≡◌, IfErr, IfOk};
 ghost use Rattle.rustsec_query.specs.Query.{crate_scope, of_package};
 ghost use Rattle.rustsec_query.specs.Selects.{has_name, has_source, in_collection, is_severe, on_arch, on_os};
 ghost use Rattle.rustsec_report.specs.Report.{is_wanted, query_of};
-ghost use Rattle.rustsec_versions.specs.Failure.{IsMemory};
+ghost use Rattle.rustsec_error.specs.Failure.{IsMemory};
 ghost use Rattle.rustsec_explain.specs.Reasons.{fails, is_elsewhere, is_ignored, warns};
 
 use rustsec_advisory::Advisory;
+use rustsec_error::Result;
 use rustsec_lock::package::Package;
 use rustsec_query::Query;
 use rustsec_report::Settings;
 use rustsec_texts::Collection;
-use rustsec_versions::Result;
 use std::alloc::Global;
 
 /// Returns whether a package's source is there and is not the default registry.

@@ -4,8 +4,6 @@
 mod entry_tree;
 mod object;
 mod rules;
-#[cfg(test)]
-mod tests;
 mod text;
 mod tree;
 mod words;

@@ -72,7 +72,7 @@ fn has_markdown_extension(name: &str) -> bool
 
 /// Returns what comes in a file's name after its beginning: `.md`, if the name is the beginning with `.md`
 /// after it.
-fn behind<'a>(name: &'a str, stem: &'a str) -> Option<&'a str>
+fn after_stem<'a>(name: &'a str, stem: &'a str) -> Option<&'a str>
     ensures { MatchOption result (is_markdown_name stem.now name.now ≡ false)
         (λ rest. is_markdown_name stem.now name.now ≡ bytes_eq rest.now (codes ".md")) }
 {
@@ -83,7 +83,7 @@ fn behind<'a>(name: &'a str, stem: &'a str) -> Option<&'a str>
 fn is_markdown_name(stem: &str, name: &str) -> bool
     ensures { result ≡ is_markdown_name stem.now name.now }
 {
-    match behind(name, stem) {
+    match after_stem(name, stem) {
         Some(rest) => rest == ".md",
         None => false,
     }

@@ -7,9 +7,9 @@ ghost use Rattle.std.specs.IoError.{error_kind};
 ghost use Rattle.std.specs.Str.Lossy.{utf8_valid_len};
 ghost use Rattle.std.specs.Io.KnownBytes.{Consumes, IsAtEnd, Keeps};
 ghost use Rattle.rustsec_files.specs.ReadFailures.{IsIoFailure, IsReadFailure, KeepsMemory, io_failure, not_utf8_from, open_message, read_message};
-ghost use Rattle.rustsec_versions.specs.Failure.{IsMemory, IsOfKind, IsRefusal, out_of_memory};
+ghost use Rattle.rustsec_error.specs.Failure.{IsMemory, IsOfKind, IsRefusal, out_of_memory};
 
-use rustsec_versions::{Error, ErrorKind, Result};
+use rustsec_error::{Error, ErrorKind, Result};
 use std::alloc::{AllocError, Global};
 use std::fs::{Metadata, OpenFile};
 use std::io::{ErrorKind as IoErrorKind, Read};
@@ -251,6 +251,7 @@ fn text_of_open<T: Read + OpenFile>(alloc: Global, file: &mut T, path: &str) -> 
 
 /// Opens a file and returns its text.
 fn text_of_regular<R: Files>(rt: &R, alloc: Global, path: &str) -> Result<String>
+    ensures text { IfOk result (λ s. (file : R.File) × IfSome (R.File.remaining file) (λ bytes. string_bytes s ≡ bytes)) }
     ensures kind { IfErr result (IsOfKind ErrorKind.Io) }
     ensures names { IfErr result (IsReadFailure path.now) }
 {
@@ -267,6 +268,7 @@ fn text_of_regular<R: Files>(rt: &R, alloc: Global, path: &str) -> Result<String
 /// `Io` if the file is not a regular one or cannot be opened; then as `text_of`. The message says whether
 /// the file couldn't be opened or couldn't be read.
 pub fn text_of_file<R: Files>(rt: &R, alloc: Global, path: &str) -> Result<String>
+    ensures text { IfOk result (λ s. (file : R.File) × IfSome (R.File.remaining file) (λ bytes. string_bytes s ≡ bytes)) }
     ensures kind { IfErr result (IsOfKind ErrorKind.Io) }
     ensures names { IfErr result (IsReadFailure path.now) }
 {

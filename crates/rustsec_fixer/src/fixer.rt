@@ -1,15 +1,15 @@
 //! Builds the command that updates the vulnerable packages of a lockfile.
 
 ghost use Rattle.std.specs.Prelude.{◌≡◌, IfErr, IfOk, option_map, string_bytes};
-ghost use Rattle.rustsec_versions.specs.Failure.{IsMemory};
+ghost use Rattle.rustsec_error.specs.Failure.{IsMemory};
 ghost use Rattle.rustsec_fixer.specs.Words.{fix_words, program_of};
 
 use crate::command::FixCommand;
 use crate::words::{add_dry_run, add_manifest, add_packages, add_word};
+use rustsec_error::Result;
 use rustsec_lock::Lockfile;
 use rustsec_query::Vulnerability;
 use rustsec_values::{Items, Text};
-use rustsec_versions::Result;
 use std::alloc::Global;
 use std::marker::Model;
 

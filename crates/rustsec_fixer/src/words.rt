@@ -1,12 +1,13 @@
 //! Builds the arguments of the command, group by group.
 
 ghost use Rattle.std.specs.Prelude.{◌≡◌, ◌++◌, ◌∷◌, [], IfErr, IfOk, OnOk, Some};
-ghost use Rattle.rustsec_versions.specs.Failure.{IsMemory};
+ghost use Rattle.rustsec_error.specs.Failure.{IsMemory};
 ghost use Rattle.rustsec_fixer.specs.Words.{dry_run_words, manifest_words, package_word, package_words};
 
+use rustsec_error::Result;
 use rustsec_lock::package::{Name, Package};
 use rustsec_values::{Items, Text};
-use rustsec_versions::{Result, Versions};
+use rustsec_versions::Versions;
 use std::alloc::Global;
 
 /// Appends an argument.

@@ -1,6 +1,7 @@
 //! Versions, requirements and lists of texts.
 
-use rustsec_versions::{Error, ErrorKind, OsvRange, UnaffectedRange, Versions};
+use rustsec_error::{Error, ErrorKind};
+use rustsec_versions::{OsvRange, UnaffectedRange, Versions};
 use semver::{Version, VersionReq};
 use std::alloc::Global;
 use std::test::Fail;

@@ -4,7 +4,7 @@ use Rattle.std.specs.List.{filter}
 use Rattle.rustsec_files.specs.ReadFailures.{IsIoFailure, open_message}
 use Rattle.rustsec_folders.specs.Entries.{IsListFailure}
 use Rattle.rustsec_folders.specs.Names.{under}
-use Rattle.rustsec_versions.specs.Failure.{Failure}
+use Rattle.rustsec_error.specs.Failure.{Failure}
 
 at-path : (p q : List ℕ) (e : Failure) → p ≡ q → IsIoFailure (open_message p) e → IsIoFailure (open_message q) e
 at-path p q e is h = rw (← is) h

@@ -11,7 +11,7 @@ use Rattle.rustsec_folders.proofs.InOrder.{in-order-once}
 
 -- ---- lists that are related place by place
 
-pairwise-once : {A B : Type 0} (R : A → B → Type 0) → ((x : A) (y z : B) → R x y → R x z → y ≡ z) → (xs : List A) (ys zs : List B)
+pub pairwise-once : {A B : Type 0} (R : A → B → Type 0) → ((x : A) (y z : B) → R x y → R x z → y ≡ z) → (xs : List A) (ys zs : List B)
     → Pairwise R xs ys → Pairwise R xs zs → ys ≡ zs
 pairwise-once R once [] [] [] h k = refl
 pairwise-once R once [] [] (z ∷ zs) h k = absurd k

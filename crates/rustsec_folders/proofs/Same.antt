@@ -7,8 +7,8 @@ use Rattle.rustsec_folders.specs.Names.{under}
 use Rattle.rustsec_folders.specs.declared.entry.FolderEntry.{FolderEntry}
 use Rattle.rustsec_folders.specs.declared.source_file.SourceFile.{SourceFile}
 use Rattle.rustsec_folders.proofs.Lists.{contains-item, joined-push, pairwise-push, pairwise-step, pairwise-weaker}
-use Rattle.rustsec_versions.specs.Failure.{Failure, IsRefusal}
-use Rattle.rustsec_versions.specs.declared.error.ErrorKind.{ErrorKind}
+use Rattle.rustsec_error.specs.Failure.{Failure, IsRefusal}
+use Rattle.rustsec_error.specs.declared.error.ErrorKind.{ErrorKind}
 
 pub same-refl : (a : Allowed) → AllowSame a a
 same-refl a = record { lists = λ path answer. (λ h. h, λ h. h); reads = λ path answer. (λ h. h, λ h. h) }

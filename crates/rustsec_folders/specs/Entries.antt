@@ -1,11 +1,12 @@
 -- The names in a folder's listing, and the failure of a folder that cannot be listed.
 use Rattle.std.specs.Prelude.{◌≡◌, ◌++◌, ◌==◌, ◌||◌, ◌⊎◌, ℕ, Bool, IfSome, List, Option, codes, filter, length, not}
 use Rattle.std.specs.Fmt.{decimal}
-use Rattle.std.specs.List.{slice_split}
-use Rattle.std.specs.Str.{bytes_eq}
+use Rattle.std.specs.List.{find, slice_split}
+use Rattle.std.specs.Str.{bytes_eq, is_utf8}
+use Rattle.std.specs.Str.Lossy.{utf8_lossy}
 use Rattle.rustsec_files.specs.ReadFailures.{IsReadFailure}
 use Rattle.rustsec_folders.specs.Names.{under}
-use Rattle.rustsec_versions.specs.Failure.{Failure}
+use Rattle.rustsec_error.specs.Failure.{Failure, or_empty}
 
 -- whether a part of a listing is the name of an entry: it is not empty, and neither the folder itself nor its parent
 abbrev pub is_entry_name : List ℕ → Bool
@@ -19,9 +20,13 @@ entry_names listing = filter is_entry_name (slice_split (λ b. b == 0) listing)
 abbrev pub ListsNames : Option (List ℕ) → List (List ℕ) → Type 0
 ListsNames left names = IfSome left (λ bytes. names ≡ entry_names bytes)
 
--- the reason that a listing is not UTF-8 from this offset on
-abbrev pub name_not_utf8_at : ℕ → List ℕ
-name_not_utf8_at offset = codes "the name of an entry is not UTF-8, at byte offset " ++ (decimal offset ++ codes " of the listing")
+-- the first name in the bytes of a listing that is not UTF-8, if any
+abbrev pub first_not_utf8 : List ℕ → Option (List ℕ)
+first_not_utf8 listing = find (λ name. not (is_utf8 name)) (slice_split (λ b. b == 0) listing)
+
+-- the reason that a listing is not UTF-8 from this offset on: the name, with U+FFFD for what is not UTF-8
+abbrev pub name_not_utf8_in : List ℕ → ℕ → List ℕ
+name_not_utf8_in listing offset = codes "the name of the entry `" ++ (utf8_lossy (or_empty (first_not_utf8 listing)) ++ (codes "` is not UTF-8, at byte offset " ++ (decimal offset ++ codes " of the listing")))
 
 -- the failure of a folder that cannot be listed, or of an entry of it that cannot be looked at
 abbrev pub IsListFailure : List ℕ → Failure → Type 0

@@ -1,10 +1,10 @@
 //! Entries of folders.
 
 ghost use Rattle.std.specs.Prelude.{◌≡◌, IfErr, IfOk};
-ghost use Rattle.rustsec_versions.specs.Failure.{IsMemory};
+ghost use Rattle.rustsec_error.specs.Failure.{IsMemory};
 
+use rustsec_error::Result;
 use rustsec_values::{ExactClone, ExactEq, Text};
-use rustsec_versions::Result;
 use std::alloc::Global;
 
 /// An entry of a folder.

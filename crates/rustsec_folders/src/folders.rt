@@ -3,12 +3,12 @@
 ghost use Rattle.std.specs.Prelude.{ℕ, ⊤, IfErr, IfOk, List, None, Some};
 ghost use Rattle.rustsec_folders.specs.Allowed.{Allowed, AllowSame};
 ghost use Rattle.rustsec_folders.specs.Names.{AreNames};
-ghost use Rattle.rustsec_versions.specs.Failure.{Failure, IsRefusal};
+ghost use Rattle.rustsec_error.specs.Failure.{Failure, IsRefusal};
 
 use crate::entry::FolderEntry;
 use crate::names::names_of;
+use rustsec_error::{ErrorKind, Result};
 use rustsec_values::{Items, Text};
-use rustsec_versions::{ErrorKind, Result};
 use std::alloc::Global;
 
 /// Folders that are listed and files that are read, each by its path.

@@ -4,13 +4,13 @@ ghost use Rattle.std.specs.Prelude.{◌≡◌, ◌⊎◌, IfErr, IfOk, None, Som
 ghost use Rattle.rustsec_folders.specs.Allowed.{AllowSame};
 ghost use Rattle.rustsec_folders.specs.Listed.{AreFolders, FailsAtFile, FailsAtFolder, FailsBelow, IsCollection, IsCollectionIfThere, IsFile, IsFolder, Listed, Pairwise, Paths, crates_of, rust_of};
 ghost use Rattle.rustsec_folders.specs.Names.{under};
-ghost use Rattle.rustsec_versions.specs.Failure.{IsRefusal};
+ghost use Rattle.rustsec_error.specs.Failure.{IsRefusal};
 
 use crate::folders::Folders;
 use crate::names::{folders_in, joined, names_in};
 use crate::source_file::SourceFile;
+use rustsec_error::{ErrorKind, Result};
 use rustsec_values::{Items, Text};
-use rustsec_versions::{ErrorKind, Result};
 use std::alloc::{AllocError, Global};
 
 /// Returns the paths of names in a folder, in the order of the names.

@@ -4,12 +4,12 @@ ghost use Rattle.std.specs.Prelude.{◌≡◌, IfErr, IfOk, None, filter, string
 ghost use Rattle.rustsec_folders.specs.Allowed.{AllowSame};
 ghost use Rattle.rustsec_folders.specs.Listed.{ShowsFiles, ShowsFolders};
 ghost use Rattle.rustsec_folders.specs.Names.{AreInOrder, begins_with_dot, is_shown_name, names_of, under};
-ghost use Rattle.rustsec_versions.specs.Failure.{IsRefusal};
+ghost use Rattle.rustsec_error.specs.Failure.{IsRefusal};
 
 use crate::entry::FolderEntry;
 use crate::folders::Folders;
+use rustsec_error::{ErrorKind, Result};
 use rustsec_values::{Items, Test, Text};
-use rustsec_versions::{ErrorKind, Result};
 use std::alloc::{AllocError, Global};
 
 /// Returns the path of a name in a folder.

@@ -1,20 +1,20 @@
 //! The folders and files of a runtime.
 
-ghost use Rattle.std.specs.Prelude.{◌≡◌, ◌↔◌, IfErr, IfOk, IsOkAnd, IsTrue};
+ghost use Rattle.std.specs.Prelude.{◌≡◌, ◌↔◌, IfErr, IfOk, IfSome, IsOkAnd, IsTrue};
 ghost use Rattle.std.specs.Fs.{IsDir, file_type};
 ghost use Rattle.rustsec_files.specs.ReadFailures.{IsIoFailure, IsReadFailure, KeepsMemory, open_message};
 ghost use Rattle.rustsec_folders.specs.Allowed.{AllowSame, every_answer};
 ghost use Rattle.rustsec_folders.specs.Entries.{IsListFailure, ListsNames};
 ghost use Rattle.rustsec_folders.specs.Names.{AreNames, names_of};
-ghost use Rattle.rustsec_versions.specs.Failure.{IsOfKind, IsRefusal};
+ghost use Rattle.rustsec_error.specs.Failure.{IsOfKind, IsRefusal};
 
 use crate::entry::FolderEntry;
 use crate::folders::Folders;
 use crate::names::joined;
 use crate::split::opened_names;
+use rustsec_error::{ErrorKind, Result};
 use rustsec_files::reading;
 use rustsec_values::{Items, Text};
-use rustsec_versions::{ErrorKind, Result};
 use std::alloc::Global;
 use std::fs::Metadata;
 use std::rt::Files;
@@ -148,6 +148,7 @@ impl<'a, R: Files> Folders for RealFolders<'a, R> {
         ensures ok { IfOk result (λ text. every_answer.reads path.now (Some text)) }
         ensures err { IfErr result (IsRefusal ErrorKind.Io (every_answer.reads path.now None)) }
         ensures same { AllowSame every_answer every_answer }
+        ensures text { IfOk result (λ text. (file : R.File) × IfSome (R.File.remaining file) (λ bytes. text ≡ bytes)) }
         ensures refused { IfErr result (IsReadFailure path.now) }
     {
         let text = reading::text_of_file(self.files, alloc, path)?;

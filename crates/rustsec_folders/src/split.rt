@@ -1,15 +1,16 @@
 //! The names of a folder's entries, from its listing, which has a NUL after each name.
 
-ghost use Rattle.std.specs.Prelude.{◌≡◌, ◌⊎◌, ◌++◌, IfErr, IfOk, IsOkAnd, IsUtf8, OnOk, [], ◌∷◌, filter, string_bytes};
-ghost use Rattle.std.specs.Str.Lossy.{utf8_valid_len};
+ghost use Rattle.std.specs.Prelude.{◌≡◌, ◌⊎◌, ◌++◌, IfErr, IfOk, IsOkAnd, IsUtf8, OnOk, [], ◌∷◌, filter, not, option_map, string_bytes};
+ghost use Rattle.std.specs.Str.{is_utf8};
+ghost use Rattle.std.specs.Str.Lossy.{utf8_lossy, utf8_valid_len};
 ghost use Rattle.rustsec_files.specs.ReadFailures.{IsIoFailure, IsReadFailure, KeepsMemory, io_failure, read_message};
-ghost use Rattle.rustsec_folders.specs.Entries.{ListsNames, entry_names, is_entry_name, name_not_utf8_at};
-ghost use Rattle.rustsec_versions.specs.Failure.{IsMemory, IsOfKind, out_of_memory};
+ghost use Rattle.rustsec_folders.specs.Entries.{ListsNames, entry_names, first_not_utf8, is_entry_name, name_not_utf8_in};
+ghost use Rattle.rustsec_error.specs.Failure.{IsMemory, IsOfKind, or_empty, out_of_memory};
 
+use rustsec_error::{Error, ErrorKind, Result};
 use rustsec_files::reading;
 use rustsec_values::{Items, Text};
-use rustsec_versions::{Error, ErrorKind, Result};
-use std::alloc::Global;
+use std::alloc::{AllocError, Global};
 use std::io;
 use std::io::Read;
 
@@ -50,15 +51,56 @@ pub fn entry_names(alloc: Global, listing: &str) -> Result<Items<Text>>
     Ok(names)
 }
 
+/// Returns whether a name is not UTF-8.
+fn is_not_utf8(name: &[u8]) -> bool
+    ensures { result ≡ not (is_utf8 name.now) }
+{
+    match str::from_utf8(name) {
+        Ok(_) => false,
+        Err(_) => true,
+    }
+}
+
+/// Returns the first name in the bytes of a listing that is not UTF-8, if any.
+fn first_not_utf8(listing: &[u8]) -> Option<&[u8]>
+    ensures { option_map (λ name. name.now) result ≡ first_not_utf8 listing.now }
+{
+    listing
+        .split(|byte| *byte == 0)
+        .find(|name| is_not_utf8(name))
+}
+
+/// Returns the text of the first name in a listing that is not UTF-8, with U+FFFD for what is not.
+fn name_not_utf8(alloc: Global, listing: &[u8]) -> std::result::Result<String, AllocError>
+    ensures { IfOk result (λ t. string_bytes t ≡ utf8_lossy (or_empty (first_not_utf8 listing.now))) }
+{
+    match first_not_utf8(listing) {
+        Some(name) => String::from_utf8_lossy(alloc, name),
+        None => Ok(String::new(alloc)),
+    }
+}
+
+/// Returns the reason that a listing is not UTF-8 from an offset on. It names the entry.
+fn not_utf8_reason(
+    alloc: Global,
+    listing: &[u8],
+    offset: usize,
+) -> std::result::Result<String, AllocError>
+    ensures { IfOk result (λ t. string_bytes t ≡ name_not_utf8_in listing.now offset) }
+{
+    let name = name_not_utf8(alloc, listing)?;
+    format!(in alloc;
+        "the name of the entry `{name}` is not UTF-8, at byte offset {offset} of the listing"
+    )
+}
+
 /// Returns the failure of a folder whose listing is not UTF-8 from an offset on.
-fn name_not_utf8(alloc: Global, path: &str, offset: usize) -> Error
-    ensures exact { (result ≡ io_failure (read_message path.now) (name_not_utf8_at offset)) ⊎ (result ≡ out_of_memory) }
+fn not_utf8_failure(alloc: Global, path: &str, listing: &[u8], offset: usize) -> Error
+    ensures exact { (result ≡ io_failure (read_message path.now) (name_not_utf8_in listing.now offset)) ⊎ (result ≡ out_of_memory) }
     ensures names { IsIoFailure (read_message path.now) result }
 {
-    match format!(in alloc;
-        "the name of an entry is not UTF-8, at byte offset {offset} of the listing"
-    ) {
-        Ok(place) => reading::failure(alloc, path, &place),
+    match not_utf8_reason(alloc, listing, offset) {
+        Ok(why) => reading::failure(alloc, path, &why),
         Err(refused) => Error::from(refused),
     }
 }
@@ -67,13 +109,16 @@ fn name_not_utf8(alloc: Global, path: &str, offset: usize) -> Error
 fn listing_text(alloc: Global, bytes: Vec<u8>, path: &str) -> Result<String>
     ensures ok { IfOk result (λ s. string_bytes s ≡ bytes.items) }
     ensures none { IfErr result (λ e. ¬ IsUtf8 bytes.items) }
-    ensures exact { IfErr result (λ e. (e ≡ io_failure (read_message path.now) (name_not_utf8_at (utf8_valid_len bytes.items))) ⊎ (e ≡ out_of_memory)) }
+    ensures exact { IfErr result (λ e. (e ≡ io_failure (read_message path.now) (name_not_utf8_in bytes.items (utf8_valid_len bytes.items))) ⊎ (e ≡ out_of_memory)) }
     ensures kind { IfErr result (IsOfKind ErrorKind.Io) }
     ensures names { IfErr result (IsIoFailure (read_message path.now)) }
 {
     match String::from_utf8(bytes) {
         Ok(text) => Ok(text),
-        Err(e) => Err(name_not_utf8(alloc, path, e.utf8_error().valid_up_to())),
+        Err(e) => {
+            let offset = e.utf8_error().valid_up_to();
+            Err(not_utf8_failure(alloc, path, e.as_bytes(), offset))
+        }
     }
 }
 
@@ -97,7 +142,7 @@ fn names_of_answer(alloc: Global, answer: io::Result<Vec<u8>>, path: &str) -> Re
 /// # Errors
 ///
 /// `Io` if a read fails, the listing has not ended after 2^32 reads, or a name is not UTF-8; else
-/// `OutOfMemory`. The cause tells at which byte of the listing such a name is.
+/// `OutOfMemory`. The cause shows such a name, and tells at which byte of the listing it is not UTF-8.
 pub fn listed_names<D: Read>(alloc: Global, listing: &mut D, path: &str) -> Result<Items<Text>>
     ensures ok { IfOk result (ListsNames (D.remaining listing.old)) }
     ensures kind { IfErr result (IsOfKind ErrorKind.Io) }

@@ -5,18 +5,19 @@ use Rattle.std.specs.List.{All, cons_option, filter, list_all, range_with_len}
 use Rattle.std.specs.Option.{option_or}
 use Rattle.std.proofs.lemmas.Bool.{cases_lt}
 use Rattle.std.proofs.lemmas.List.{get_or_past}
-use Rattle.std.proofs.lemmas.List.Elements.{All-append, All-cons, All-contains, All-filter, All-from_get_or, All-head, All-nil}
+use Rattle.std.proofs.lemmas.List.Elements.{All-append, All-cons, All-filter, All-from_get_or, All-head, All-nil}
 use Rattle.std.proofs.lemmas.List.FromFn.{get_or-map-range_with_len, get_or-range_with_len, length-map-range_with_len, length-range_with_len, map-range_with_len_more}
+use Rattle.std.proofs.lemmas.List.Kept.{AllPairs-filter}
 use Rattle.toml.specs.Data.{Data, Items, Members, as_array, as_str}
 use Rattle.rustsec_values.specs.Reading.{◌>>=◌, only_if}
 use Rattle.rustsec_toml.specs.Fields.{list_of}
 use Rattle.rustsec_lock.specs.Package.{PackageValue}
-use Rattle.rustsec_graph.specs.declared.candidates.Candidate.{Candidate}
-use Rattle.rustsec_graph.specs.Candidates.{candidate_of, candidates, is_old}
+use Rattle.rustsec_graph.specs.Candidates.{Candidate, candidate_of, candidates, is_old}
 use Rattle.rustsec_graph.specs.Edges.{as_list, dependencies_at, edges_of, replace_at, replaced, targets_at, targets_of, targets_of_array, unresolved, unresolved_at}
 use Rattle.rustsec_graph.specs.Entries.{fits_at, fitting, if_same_release, is_local_at, is_same_release, named, named_by, only, only_local, places}
 use Rattle.rustsec_graph.specs.Graph.{IsClosed, roots_of}
-use Rattle.rustsec_graph.specs.Paths.{IsPathTo, LeadsTo, successors}
+use Rattle.rustsec_graph.specs.Paths.{successors}
+use Rattle.rustsec_graph.specs.Search.{Rise}
 
 -- one more place
 pub place-more : {A : Type 0} (f : ℕ → A) (i : ℕ) (old new : List A) (x : A) → old ≡ map f (range_with_len 0 i) → new ≡ old ++ x ∷ [] → x ≡ f i
@@ -137,20 +138,10 @@ module _ (ms : Members) (packages : List PackageValue) where
       let all : roots ≡ roots_of packages (edges_of ms packages) = r ∙ ap (roots_of packages) e in
       subst (λ es. IsClosed es roots) (sym e) (subst (IsClosed (edges_of ms packages)) (sym all) closed)
 
--- ---- no path leads out of a graph
-
-module _ (edges : List (List ℕ)) (roots : List ℕ) (place : ℕ) (c : IsClosed edges roots) where
-  ends-inside : (x : ℕ) (rest : List ℕ) → x < length edges → LeadsTo edges place (x ∷ rest) → place < length edges
-  ends-inside x [] l leads = omega arith
-  ends-inside x (y ∷ more) l leads = ends-inside y more (All-contains (λ t. t < length edges) (successors edges x) y (c.all_targets x) leads.0) leads.1
-
-  none-outside : length edges ≤ place → (path : List ℕ) → IsPathTo edges roots place path → ⊥
-  none-outside past [] p = p.starts
-  none-outside past (x ∷ rest) p =
-      let l = ends-inside x rest (All-contains (λ r. r < length edges) roots x c.all_roots p.starts) p.leads in
-      omega arith
-
-  pub no-outside : (all-edges : List (List ℕ)) (all-roots : List ℕ) → all-edges ≡ edges → all-roots ≡ roots → length edges ≤ place
-      → (path : List ℕ) → IsPathTo all-edges all-roots place path → ⊥
-  no-outside all-edges all-roots e r past path p =
-      none-outside past path (subst (λ es. IsPathTo es roots place path) e (subst (λ rs. IsPathTo all-edges rs place path) r p))
+-- the roots are in order
+pub roots-rise : (packages : List PackageValue) (edges : List (List ℕ)) (roots : List ℕ) → roots ≡ roots_of packages edges → Rise roots
+roots-rise packages edges roots is = subst Rise (sym is)
+    (AllPairs-filter (λ a b. a < b) _ (places (length edges)) (λ i j d l k. (
+    let m : j < length edges = omega (arith, k, length-range_with_len 0 (length edges)) in
+    omega (arith, l, get_or-range_with_len 0 (length edges) i d (omega (arith, l, m)), get_or-range_with_len 0 (length edges) j d m)
+    )))

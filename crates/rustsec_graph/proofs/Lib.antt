@@ -1,7 +1,7 @@
 pub mod Closed
-pub mod FirstPath
-pub mod Least
 pub mod Lists
-pub mod Rounds
-pub mod Settled
+pub mod Searches
+pub mod Shortest
 pub mod Sources
+pub mod Visits
+pub mod Words

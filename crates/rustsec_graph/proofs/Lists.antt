@@ -1,16 +1,18 @@
 -- Entries of a list, one after another.
-use Rattle.std.proofs.Common.{◌≡◌, ◌∙◌, ◌-◌, ℕ, suc, List, [], ◌∷◌, Option, Some, None, length, map, refl, sym, ap}
+use Rattle.std.proofs.Common.{◌≡◌, ◌∙◌, ◌+◌, ◌-◌, ◌<◌, ◌++◌, ℕ, suc, List, [], ◌∷◌, Option, Some, None, get_or, length, map, take, refl, sym, ap}
 use Rattle.std.specs.Prelude.{codes, filter_map, option_map}
 use Rattle.std.specs.Borrow.{Bor}
 use Rattle.std.specs.List.{cons_option, fold}
+use Rattle.std.proofs.lemmas.List.{take_more}
+use Rattle.std.proofs.lemmas.List.Elements.{filter_map-append}
 use Rattle.toml.specs.Data.{Data, Members, as_array, get_member}
 use Rattle.toml.specs.View.{items_view, view}
 use Rattle.toml.specs.declared.value.Value.{Value}
 use Rattle.rustsec_toml.specs.Fields.{list_of}
+use Rattle.rustsec_graph.specs.Candidates.{Candidate}
 use Rattle.rustsec_toml.proofs.Arrays.{list_of-view}
 use Rattle.rustsec_values.specs.Reading.{◌>>=◌}
-use Rattle.rustsec_graph.specs.declared.candidates.Candidate.{Candidate}
-use Rattle.rustsec_graph.specs.Edges.{targets_of, targets_of_array, unresolved_of, unresolved_of_array}
+use Rattle.rustsec_graph.specs.Edges.{as_list, targets_of, targets_of_array, unresolved_of, unresolved_of_array}
 use Rattle.rustsec_graph.specs.Entries.{found, named_by, next_found, only, packages_in}
 
 -- ---- the only element
@@ -30,6 +32,16 @@ only-none (x ∷ []) h = cc h
 only-none (x ∷ (y ∷ ys)) h = refl
 
 -- ---- the values of a list
+
+pub named-more : {A : Type 0} (f : A → Option ℕ) (xs : List A) (i : ℕ) (x : A) (old new : List ℕ) → i < length xs → x ≡ get_or xs i x
+    → old ≡ filter_map f (take i xs) → new ≡ old ++ as_list (f x) → new ≡ filter_map f (take (i + 1) xs)
+named-more f xs i x old new l is before more =
+    more ∙ ap (λ ys. ys ++ as_list (f x)) before ∙ ap (λ ys. filter_map f (take i xs) ++ ys) (one (f x)) ∙ sym (filter_map-append f (take i xs) (x ∷ []))
+    ∙ ap (filter_map f) (ap (λ y. take i xs ++ y ∷ []) is ∙ sym (take_more xs i x l))
+  where
+    one : (o : Option ℕ) → as_list o ≡ cons_option o []
+    one None = refl
+    one (Some y) = refl
 
 filter_map-map : {A : Type 0} (f : Data → Option A) (vs : List Value) → filter_map f (map view vs) ≡ filter_map (λ v. f (view v)) vs
 filter_map-map f [] = refl

@@ -6,7 +6,12 @@ use Rattle.semver.specs.Identifiers.{parts_text}
 use Rattle.toml.specs.Data.{Members, get_member}
 use Rattle.rustsec_lock.specs.Package.{PackageValue}
 use Rattle.rustsec_lock.specs.Source.{Source, source_text}
-use Rattle.rustsec_graph.specs.declared.candidates.Candidate.{Candidate}
+
+-- a package for entries: its name and version, the entries that fit it, and whether it is local, without a source
+pub record Candidate : Type 0 where
+  pub release : List ℕ
+  pub texts : List (List ℕ)
+  pub is_local : Bool
 
 -- a package's name and version
 abbrev pub with_version : PackageValue → List ℕ
@@ -40,18 +45,21 @@ is_old ms = is_none (get_member (codes "version") ms)
 abbrev pub in_entries : Bool → List ℕ → List ℕ
 in_entries old source = if old then without_master (without_precise source) else without_precise source
 
--- the entries that fit a package from a source: its name, its name and version, and both with the source, in full,
--- without its precise part, or as entries of the lockfile have it
+-- the entries with a source that fit a package from a source: its name and version with the source, in full, without
+-- its precise part, or as entries of the lockfile have it
+abbrev pub source_texts : Bool → PackageValue → Option Source → List (List ℕ)
+source_texts old p None = []
+source_texts old p (Some s) =
+    with_source p (source_text s) ∷ with_source p (without_precise (source_text s)) ∷ with_source p (in_entries old (source_text s)) ∷ []
+
+-- the entries that fit a package from a source: its name, its name and version, and those with the source
 abbrev pub texts_from : Bool → PackageValue → Option Source → List (List ℕ)
-texts_from old p None = p.name ∷ with_version p ∷ []
-texts_from old p (Some s) =
-    p.name ∷ with_version p ∷ with_source p (source_text s) ∷ with_source p (without_precise (source_text s))
-    ∷ with_source p (in_entries old (source_text s)) ∷ []
+texts_from old p source = p.name ∷ with_version p ∷ source_texts old p source
 
 abbrev pub texts_of : Bool → PackageValue → List (List ℕ)
 texts_of old p = texts_from old p p.source
 
--- a package for entries: its name and version, the entries that fit it, and whether it is local, without a source
+-- a package for entries
 abbrev pub candidate_of : Bool → PackageValue → Candidate
 candidate_of old p = record {
   release = with_version p;

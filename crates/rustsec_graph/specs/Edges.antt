@@ -4,8 +4,7 @@ use Rattle.std.specs.List.{filter, list_any}
 use Rattle.toml.specs.Data.{Data, Items, Members, as_array}
 use Rattle.rustsec_toml.specs.Fields.{list_of}
 use Rattle.rustsec_lock.specs.Package.{PackageValue}
-use Rattle.rustsec_graph.specs.declared.candidates.Candidate.{Candidate}
-use Rattle.rustsec_graph.specs.Candidates.{candidates}
+use Rattle.rustsec_graph.specs.Candidates.{Candidate, candidates}
 use Rattle.rustsec_graph.specs.Entries.{named_by, places, value_at}
 use Rattle.rustsec_graph.specs.Paths.{successors}
 

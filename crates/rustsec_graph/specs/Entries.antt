@@ -6,7 +6,7 @@ use Rattle.std.specs.Option.{option_map_or, option_or}
 use Rattle.toml.specs.Data.{Data, Members, as_array, as_str, as_table, get_member}
 use Rattle.rustsec_values.specs.Reading.{◌>>=◌, only_if}
 use Rattle.rustsec_toml.specs.Fields.{list_of}
-use Rattle.rustsec_graph.specs.declared.candidates.Candidate.{Candidate}
+use Rattle.rustsec_graph.specs.Candidates.{Candidate}
 
 -- whether an entry fits a package
 abbrev pub fits : List ℕ → Candidate → Bool

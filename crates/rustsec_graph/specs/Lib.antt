@@ -1,6 +1,7 @@
 pub mod Candidates
-pub mod Distances
 pub mod Edges
 pub mod Entries
 pub mod Graph
 pub mod Paths
+pub mod Search
+pub mod Words

@@ -1,14 +1,14 @@
 //! The edges between the packages of a lockfile.
 
-ghost use Rattle.std.specs.Prelude.{◌≡◌, ◌==◌, ◌&&◌, ◌||◌, not, IfOk, List, length, map, slice_get};
-ghost use Rattle.std.specs.List.{filter, list_any, range_with_len};
+ghost use Rattle.std.specs.Prelude.{◌≡◌, ◌<◌, ◌==◌, ◌&&◌, ◌||◌, not, false, IfOk, length, map, slice_get, slice_index_or, ℕ};
+ghost use Rattle.std.specs.List.{list_any, range_with_len};
 ghost use Rattle.toml.specs.View.{table_view};
 ghost use Rattle.rustsec_graph.specs.Edges.{dependents, is_needed, is_successor, targets_at, unresolved_at};
 ghost use Rattle.rustsec_graph.specs.Graph.{is_local, roots_of};
 
-use crate::candidates::Candidate;
 use crate::entries::{resolve, resolve_more, value_at};
-use crate::paths::successors_of;
+use crate::index::Index;
+use crate::search::successors_of;
 use rustsec_lock::package::Package;
 use rustsec_values::Items;
 use std::alloc::{AllocError, Global};
@@ -24,15 +24,16 @@ pub(crate) struct Resolved {
 fn resolve_at(
     alloc: Global,
     table: &Table,
-    candidates: &[Candidate],
+    index: &Index<'_>,
     place: usize,
 ) -> Result<(Items<usize>, usize), AllocError>
-    ensures targets { IfOk result (λ r. r.0 ≡ targets_at candidates.now (table_view table.now) place) }
-    ensures unresolved { IfOk result (λ r. r.1 ≡ unresolved_at candidates.now (table_view table.now) place) }
+    ensures targets { IfOk result (λ r. r.0 ≡ targets_at index.now (table_view table.now) place) }
+    ensures unresolved { IfOk result (λ r. r.1 ≡ unresolved_at index.now (table_view table.now) place) }
 {
-    let (targets, unresolved) = resolve(alloc, candidates, value_at(table, "dependencies", place))?;
+    let (targets, unresolved) = resolve(alloc, index, value_at(table, "dependencies", place))?;
     resolve_more(
-        candidates,
+        alloc,
+        index,
         value_at(table, "replace", place),
         targets,
         unresolved,
@@ -43,17 +44,17 @@ fn resolve_at(
 pub(crate) fn resolve_all(
     alloc: Global,
     table: &Table,
-    candidates: &[Candidate],
+    index: &Index<'_>,
 ) -> Result<Resolved, AllocError>
     ensures edges { IfOk result (λ r. r.edges
-        ≡ map (targets_at candidates.now (table_view table.now)) (range_with_len 0 (length candidates.now))) }
+        ≡ map (targets_at index.now (table_view table.now)) (range_with_len 0 (length index.now))) }
     ensures unresolved { IfOk result (λ r. r.unresolved
-        ≡ map (unresolved_at candidates.now (table_view table.now)) (range_with_len 0 (length candidates.now))) }
+        ≡ map (unresolved_at index.now (table_view table.now)) (range_with_len 0 (length index.now))) }
 {
     let mut edges = Items::new(alloc);
     let mut unresolved = Items::new(alloc);
-    for place in 0..candidates.len() {
-        let (targets, missing) = resolve_at(alloc, table, candidates, place)?;
+    for place in 0..index.candidates().len() {
+        let (targets, missing) = resolve_at(alloc, table, index, place)?;
         edges.push(targets)?;
         unresolved.push(missing)?;
     }
@@ -67,11 +68,39 @@ fn is_successor(edges: &[Items<usize>], place: usize, from: usize) -> bool
     successors_of(edges, from).iter().any(|to| *to == place)
 }
 
-/// Returns whether another place has an edge to a place.
-fn is_needed(edges: &[Items<usize>], place: usize) -> bool
-    ensures { result ≡ is_needed edges.now place }
+/// Marks the successors of a place, but not the place itself.
+fn mark(needed: &mut Vec<bool>, from: usize, successors: &[usize])
+    ensures len { length needed.new.items ≡ length needed.old.items }
+    ensures marks { (place : ℕ) → place < length needed.old.items → slice_index_or needed.new.items place false
+        ≡ (slice_index_or needed.old.items place false || (not (from == place) && list_any (λ to. to == place) successors.now)) }
 {
-    (0..edges.len()).any(|from| from != place && is_successor(edges, place, from))
+    for to in successors {
+        if *to != from && *to < needed.len() {
+            needed[*to] = true;
+        }
+    }
+}
+
+/// Returns for each place whether another one has an edge to it.
+fn needed_of(alloc: Global, edges: &[Items<usize>]) -> Result<Vec<bool>, AllocError>
+    ensures len { IfOk result (λ v. length v.items ≡ length edges.now) }
+    ensures needed { IfOk result (λ v. (place : ℕ) → place < length edges.now → slice_index_or v.items place false ≡ is_needed edges.now place) }
+{
+    let mut needed = vec![in alloc; false; edges.len()]?;
+    for (from, successors) in edges.iter().enumerate() {
+        mark(&mut needed, from, successors.as_slice());
+    }
+    Ok(needed)
+}
+
+/// Returns the mark at a place, or `false` past the end.
+fn is_marked(marks: &[bool], place: usize) -> bool
+    ensures { result ≡ slice_index_or marks.now place false }
+{
+    match marks.get(place) {
+        Some(mark) => *mark,
+        None => false,
+    }
 }
 
 /// Returns the places with an edge to a place, in order.
@@ -97,11 +126,11 @@ fn is_local(packages: &[Package], place: usize) -> bool
     }
 }
 
-/// Returns whether a package is local, or no other one depends on it.
-fn is_root(packages: &[Package], edges: &[Items<usize>], place: usize) -> bool
-    ensures { result ≡ (is_local (slice_get packages.now place) || not (is_needed edges.now place)) }
+/// Returns whether a package is local, or no other one depends on it, by the places to which another one has an edge.
+fn is_root(packages: &[Package], needed: &Vec<bool>, place: usize) -> bool
+    ensures { result ≡ (is_local (slice_get packages.now place) || not (slice_index_or needed.now.items place false)) }
 {
-    is_local(packages, place) || !is_needed(edges, place)
+    is_local(packages, place) || !is_marked(needed, place)
 }
 
 /// Returns the roots: the local packages, and those on which no other one depends.
@@ -112,7 +141,12 @@ pub(crate) fn roots_of(
 ) -> Result<Vec<usize>, AllocError>
     ensures { IfOk result (λ v. v.items ≡ roots_of packages.now edges.now) }
 {
-    (0..edges.len())
-        .filter(|place| is_root(packages, edges, *place))
-        .collect(alloc)
+    let needed = needed_of(alloc, edges)?;
+    let mut roots = Vec::new(alloc);
+    for place in 0..edges.len() {
+        if is_root(packages, &needed, place) {
+            roots.push(place)?;
+        }
+    }
+    Ok(roots)
 }

@@ -1,59 +1,87 @@
 //! Which package a dependency entry names.
 
-ghost use Rattle.std.specs.Prelude.{◌≡◌, ◌+◌, ◌-◌, ◌++◌, IfOk, filter_map, length, map, option_map};
+ghost use Rattle.std.specs.Prelude.{◌≡◌, ◌+◌, ◌-◌, ◌++◌, IfOk, OnOk, filter_map, length, map, option_map};
 ghost use Rattle.std.specs.List.{filter, list_all};
+ghost use Rattle.std.specs.Option.{option_or};
 ghost use Rattle.toml.specs.View.{table_view, view};
-ghost use Rattle.rustsec_graph.specs.Edges.{replaced, targets_of, unreplaced, unresolved_of};
-ghost use Rattle.rustsec_graph.specs.Entries.{fits, fits_at, fitting, found, is_local_at, is_same_release, named, named_by, next_found, only, only_local, packages_in, release_at, table_at, value_at};
+ghost use Rattle.rustsec_graph.specs.Edges.{as_list, replaced, targets_of, unreplaced, unresolved_of};
+ghost use Rattle.rustsec_graph.specs.Entries.{fits_at, found, is_local_at, is_same_release, named, named_by, next_found, only, only_local, packages_in, release_at, table_at, value_at};
 
 use crate::candidates::Candidate;
+use crate::index::Index;
 use rustsec_toml::{Section, TablePlace};
 use rustsec_values::Items;
 use std::alloc::{AllocError, Global};
 use toml::{Table, Value};
 
-/// Returns whether an entry is one of the texts that fit a package.
-fn fits(candidate: &Candidate, entry: &str) -> bool
-    ensures { result ≡ fits entry.now candidate.now }
-{
-    candidate.texts.iter().any(|text| text.as_str() == entry)
-}
-
 /// Returns whether an entry fits the package at a place.
-fn fits_at(candidates: &[Candidate], entry: &str, place: usize) -> bool
-    ensures { result ≡ fits_at candidates.now entry.now place }
+fn fits_at(
+    alloc: Global,
+    candidates: &[Candidate<'_>],
+    entry: &str,
+    place: usize,
+) -> Result<bool, AllocError>
+    ensures { IfOk result (λ b. b ≡ fits_at candidates.now entry.now place) }
 {
     match candidates.get(place) {
-        Some(candidate) => fits(candidate, entry),
-        None => false,
+        Some(candidate) => candidate.fits(alloc, entry),
+        None => Ok(false),
     }
 }
 
 /// Returns whether the package at a place is local.
-fn is_local_at(candidates: &[Candidate], place: usize) -> bool
+fn is_local_at(candidates: &[Candidate<'_>], place: usize) -> bool
     ensures { result ≡ is_local_at candidates.now place }
 {
     match candidates.get(place) {
-        Some(candidate) => candidate.is_local,
+        Some(candidate) => candidate.is_local(),
         None => false,
     }
 }
 
 /// Returns the name and the version of the package at a place.
-fn release_at(candidates: &[Candidate], place: usize) -> &str
+fn release_at<'c>(candidates: &'c [Candidate<'_>], place: usize) -> &'c str
     ensures { result.now ≡ release_at candidates.now place }
 {
     match candidates.get(place) {
-        Some(candidate) => candidate.release.as_str(),
+        Some(candidate) => candidate.release(),
         None => "",
     }
 }
 
 /// Returns whether the packages at two places have the same name and version.
-fn is_same_release(candidates: &[Candidate], a: usize, b: usize) -> bool
+fn is_same_release(candidates: &[Candidate<'_>], a: usize, b: usize) -> bool
     ensures { result ≡ is_same_release candidates.now a b }
 {
     release_at(candidates, a) == release_at(candidates, b)
+}
+
+/// Returns those of these places whose packages an entry fits.
+fn fitting_among(
+    alloc: Global,
+    candidates: &[Candidate<'_>],
+    entry: &str,
+    places: &[usize],
+) -> Result<Vec<usize>, AllocError>
+    ensures { IfOk result (λ v. v.items ≡ filter (fits_at candidates.now entry.now) places.now) }
+{
+    let mut fitting = Vec::new(alloc);
+    for place in places {
+        if fits_at(alloc, candidates, entry, *place)? {
+            fitting.push(*place)?;
+        }
+    }
+    Ok(fitting)
+}
+
+/// Returns the only place of a list.
+fn only(places: &[usize]) -> Option<usize>
+    ensures { result ≡ only places.now }
+{
+    match places {
+        [place] => Some(*place),
+        _ => None,
+    }
 }
 
 /// Returns what is found after one more place: the place if it is the only one, else none.
@@ -66,105 +94,106 @@ fn next_found(found: Option<Option<usize>>, place: usize) -> Option<Option<usize
     }
 }
 
-/// Returns what is found after all places of packages that an entry fits.
-fn found(candidates: &[Candidate], entry: &str) -> Option<Option<usize>>
-    ensures { result ≡ found (fitting candidates.now entry.now) }
+/// Returns what is found after all places of local packages of a list.
+fn found_local(candidates: &[Candidate<'_>], places: &[usize]) -> Option<Option<usize>>
+    ensures { result ≡ found (filter (is_local_at candidates.now) places.now) }
 {
-    let places = (0..candidates.len()).filter(|place| fits_at(candidates, entry, *place));
-    places.fold(None, |found, place| next_found(found, place))
+    let local = places
+        .iter()
+        .copied()
+        .filter(|place| is_local_at(candidates, *place));
+    local.fold(None, |found, place| next_found(found, place))
 }
 
-/// Returns what is found after all places of local packages that an entry fits.
-fn found_local(candidates: &[Candidate], entry: &str) -> Option<Option<usize>>
-    ensures { result ≡ found (filter (is_local_at candidates.now) (fitting candidates.now entry.now)) }
+/// Returns the place of the only local package of a list.
+fn only_local_among(candidates: &[Candidate<'_>], places: &[usize]) -> Option<usize>
+    ensures { result ≡ only (filter (is_local_at candidates.now) places.now) }
 {
-    let places = (0..candidates.len()).filter(|place| fits_at(candidates, entry, *place));
-    let places = places.filter(|place| is_local_at(candidates, *place));
-    places.fold(None, |found, place| next_found(found, place))
-}
-
-/// Returns the place of the only package that an entry fits.
-fn only_fitting(candidates: &[Candidate], entry: &str) -> Option<usize>
-    ensures { result ≡ only (fitting candidates.now entry.now) }
-{
-    match found(candidates, entry) {
+    match found_local(candidates, places) {
         Some(found) => found,
         None => None,
     }
 }
 
-/// Returns the place of the only local package that an entry fits.
-fn only_fitting_local(candidates: &[Candidate], entry: &str) -> Option<usize>
-    ensures { result ≡ only (filter (is_local_at candidates.now) (fitting candidates.now entry.now)) }
+/// Returns whether all packages of a list have the name and version of the one at a place.
+fn have_release(candidates: &[Candidate<'_>], places: &[usize], place: usize) -> bool
+    ensures { result ≡ list_all (λ x. is_same_release candidates.now x place) places.now }
 {
-    match found_local(candidates, entry) {
-        Some(found) => found,
-        None => None,
-    }
+    places
+        .iter()
+        .all(|other| is_same_release(candidates, *other, place))
 }
 
-/// Returns whether all packages that an entry fits have the name and version of the one at a place.
-fn have_release(candidates: &[Candidate], entry: &str, place: usize) -> bool
-    ensures { result ≡ list_all (λ x. is_same_release candidates.now x place) (fitting candidates.now entry.now) }
+/// Returns the place of the only local package of a list, if all packages of the list have its name and version.
+fn only_local(candidates: &[Candidate<'_>], places: &[usize]) -> Option<usize>
+    ensures { result ≡ only_local candidates.now places.now }
 {
-    let mut places = (0..candidates.len()).filter(|place| fits_at(candidates, entry, *place));
-    places.all(|other| is_same_release(candidates, other, place))
-}
-
-/// Returns the place of the only local package of those that an entry fits, if all of them have its name and version.
-fn only_local(candidates: &[Candidate], entry: &str) -> Option<usize>
-    ensures { result ≡ only_local candidates.now (fitting candidates.now entry.now) }
-{
-    let place = only_fitting_local(candidates, entry)?;
-    if have_release(candidates, entry, place) {
+    let place = only_local_among(candidates, places)?;
+    if have_release(candidates, places, place) {
         Some(place)
     } else {
         None
     }
 }
 
-/// Returns the place of the package that an entry names.
-fn named(candidates: &[Candidate], entry: &str) -> Option<usize>
-    ensures { result ≡ named candidates.now entry.now }
+/// Returns the place that an entry names, by the places of the packages that it fits.
+fn named_among(candidates: &[Candidate<'_>], places: &[usize]) -> Option<usize>
+    ensures { result ≡ option_or (only places.now) (only_local candidates.now places.now) }
 {
-    match only_fitting(candidates, entry) {
+    match only(places) {
         Some(place) => Some(place),
-        None => only_local(candidates, entry),
+        None => only_local(candidates, places),
     }
+}
+
+/// Returns the place of the package that an entry names.
+fn named(alloc: Global, index: &Index<'_>, entry: &str) -> Result<Option<usize>, AllocError>
+    ensures { IfOk result (λ place. place ≡ named index.now entry.now) }
+{
+    let candidates = index.candidates();
+    let fitting = fitting_among(alloc, candidates, entry, index.near(entry))?;
+    Ok(named_among(candidates, fitting.as_slice()))
 }
 
 /// Returns the place that a value of a list of entries names.
-fn named_by(candidates: &[Candidate], value: &Value) -> Option<usize>
-    ensures { result ≡ named_by candidates.now (view value.now) }
+fn named_by(alloc: Global, index: &Index<'_>, value: &Value) -> Result<Option<usize>, AllocError>
+    ensures { IfOk result (λ place. place ≡ named_by index.now (view value.now)) }
 {
     match value.as_str() {
-        Some(entry) => named(candidates, entry),
-        None => None,
+        Some(entry) => named(alloc, index, entry),
+        None => Ok(None),
     }
 }
 
-/// Returns the places that the entries of a list name, in their order.
-fn targets(
-    alloc: Global,
-    candidates: &[Candidate],
-    entries: &[Value],
-) -> Result<Vec<usize>, AllocError>
-    ensures { IfOk result (λ v. v.items ≡ filter_map (λ d. named_by candidates.now (view d)) entries.now) }
+/// Appends a place, if any.
+fn push_if(places: &mut Vec<usize>, place: Option<usize>) -> Result<(), AllocError>
+    ensures { OnOk result (places.new.items ≡ places.old.items ++ as_list place) }
 {
-    entries
-        .iter()
-        .filter_map(|entry| named_by(candidates, entry))
-        .collect(alloc)
+    if let Some(place) = place {
+        places.push(place)?;
+    }
+    Ok(())
+}
+
+/// Returns the places that the entries of a list name, in their order.
+fn targets(alloc: Global, index: &Index<'_>, entries: &[Value]) -> Result<Vec<usize>, AllocError>
+    ensures { IfOk result (λ v. v.items ≡ filter_map (λ d. named_by index.now (view d)) entries.now) }
+{
+    let mut targets = Vec::new(alloc);
+    for entry in entries {
+        push_if(&mut targets, named_by(alloc, index, entry)?)?;
+    }
+    Ok(targets)
 }
 
 /// Returns the places that the entries of a list name, and how many entries name none.
 pub(crate) fn resolve(
     alloc: Global,
-    candidates: &[Candidate],
+    index: &Index<'_>,
     dependencies: Option<&Value>,
 ) -> Result<(Items<usize>, usize), AllocError>
-    ensures targets { IfOk result (λ r. r.0 ≡ targets_of candidates.now (option_map (λ d. view d.now) dependencies.entry)) }
-    ensures unresolved { IfOk result (λ r. r.1 ≡ unresolved_of candidates.now (option_map (λ d. view d.now) dependencies.entry)) }
+    ensures targets { IfOk result (λ r. r.0 ≡ targets_of index.now (option_map (λ d. view d.now) dependencies.entry)) }
+    ensures unresolved { IfOk result (λ r. r.1 ≡ unresolved_of index.now (option_map (λ d. view d.now) dependencies.entry)) }
 {
     let Some(value) = dependencies else {
         return Ok((Items::new(alloc), 0));
@@ -173,25 +202,26 @@ pub(crate) fn resolve(
         return Ok((Items::new(alloc), 1));
     };
     let entries = entries.as_slice();
-    let targets = Items::from(targets(alloc, candidates, entries)?);
+    let targets = Items::from(targets(alloc, index, entries)?);
     let unresolved = entries.len().saturating_sub(targets.len());
     Ok((targets, unresolved))
 }
 
 /// Returns these places with the one that a further entry names, and the number of unresolved entries with that entry.
 pub(crate) fn resolve_more(
-    candidates: &[Candidate],
+    alloc: Global,
+    index: &Index<'_>,
     entry: Option<&Value>,
     targets: Items<usize>,
     unresolved: usize,
 ) -> Result<(Items<usize>, usize), AllocError>
-    ensures targets { IfOk result (λ r. r.0 ≡ targets ++ replaced candidates.now (option_map (λ d. view d.now) entry.entry)) }
-    ensures unresolved { IfOk result (λ r. r.1 ≡ unresolved + unreplaced candidates.now (option_map (λ d. view d.now) entry.entry)) }
+    ensures targets { IfOk result (λ r. r.0 ≡ targets ++ replaced index.now (option_map (λ d. view d.now) entry.entry)) }
+    ensures unresolved { IfOk result (λ r. r.1 ≡ unresolved + unreplaced index.now (option_map (λ d. view d.now) entry.entry)) }
 {
     let Some(value) = entry else {
         return Ok((targets, unresolved));
     };
-    let Some(place) = named_by(candidates, value) else {
+    let Some(place) = named_by(alloc, index, value)? else {
         let more = unresolved.checked_add(1).ok_or(AllocError)?;
         return Ok((targets, more));
     };

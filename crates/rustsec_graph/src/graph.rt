@@ -2,17 +2,18 @@
 
 ghost use Rattle.std.specs.Prelude.{◌≡◌, IfErr, IfOk, option_map};
 ghost use Rattle.toml.specs.View.{table_view};
-ghost use Rattle.rustsec_versions.specs.Failure.{IsMemory};
+ghost use Rattle.rustsec_error.specs.Failure.{IsMemory};
 ghost use Rattle.rustsec_graph.specs.Edges.{dependents};
 ghost use Rattle.rustsec_graph.specs.Graph.{graph_of};
 ghost use Rattle.rustsec_graph.specs.Paths.{IsAnswer};
 
-use crate::candidates::{candidates, is_old};
+use crate::candidates::is_old;
 use crate::edges::{Resolved, dependents, resolve_all, roots_of};
-use crate::paths::first_path;
+use crate::index::Index;
+use crate::search::{Search, path_to, search_from};
+use rustsec_error::Result;
 use rustsec_lock::Lockfile;
 use rustsec_values::Items;
-use rustsec_versions::Result;
 use std::alloc::Global;
 use std::marker::Model;
 use toml::Table;
@@ -23,16 +24,18 @@ pub struct Graph {
     edges: Items<Items<usize>>,
     roots: Items<usize>,
     unresolved: Items<usize>,
+    search: Search,
 }
 
 impl Model for Graph {
     ghost use Rattle.rustsec_graph.specs.Graph.{GraphValue, IsClosed};
+    ghost use Rattle.rustsec_graph.specs.Search.{IsWhole};
 
     ghost Value = { GraphValue };
 
     ghost view = { λ g. record { edges = g.edges; roots = g.roots; unresolved = g.unresolved } };
 
-    ghost invariant = { λ g. IsClosed g.edges g.roots };
+    ghost invariant = { λ g. IsClosed g.edges g.roots × IsWhole g.edges g.roots g.search };
 }
 
 impl Graph {
@@ -49,13 +52,17 @@ impl Graph {
         ensures err { IfErr result IsMemory }
     {
         let packages = lockfile.packages.as_slice();
-        let candidates = candidates(alloc, is_old(table), packages)?;
-        let Resolved { edges, unresolved } = resolve_all(alloc, table, &candidates)?;
-        let roots = roots_of(alloc, packages, edges.as_slice())?;
+        let index = Index::new(alloc, is_old(table), packages)?;
+        let Resolved { edges, unresolved } = resolve_all(alloc, table, &index)?;
+        let edge_lists = edges.as_slice();
+        let roots = roots_of(alloc, packages, edge_lists)?;
+        let root_places = roots.as_slice();
+        let search = search_from(alloc, edge_lists, root_places)?;
         Ok(Graph {
             edges,
             roots: Items::from(roots),
             unresolved,
+            search,
         })
     }
 
@@ -69,10 +76,7 @@ impl Graph {
         ensures ok { IfOk result (λ path. IsAnswer self.now.edges self.now.roots place (option_map (λ v. v.items) path)) }
         ensures err { IfErr result IsMemory }
     {
-        if place >= self.edges.len() {
-            return Ok(None);
-        }
-        let path = first_path(alloc, self.edges.as_slice(), self.roots.as_slice(), place)?;
+        let path = path_to(alloc, &self.search, place)?;
         Ok(path)
     }
 

@@ -2,12 +2,10 @@
 #![tactic(auto)]
 
 mod candidates;
-mod distances;
 mod edges;
 mod entries;
 mod graph;
-mod paths;
-#[cfg(test)]
-mod tests;
+mod index;
+mod search;
 
 pub use crate::graph::Graph;

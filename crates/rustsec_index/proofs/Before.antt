@@ -2,9 +2,9 @@
 use Rattle.std.proofs.Common.{◌≡◌, ℕ, List, [], ◌∷◌, None, Ok, Some, Err, inl, inr}
 use Rattle.std.specs.List.{AllByRecursion}
 use Rattle.rustsec_folders.specs.Allowed.{Allowed, AllowSame}
-use Rattle.rustsec_versions.specs.Failure.{Failure}
-use Rattle.rustsec_versions.specs.declared.error.ErrorKind.TheVariants as kind
-use Rattle.rustsec_versions.proofs.Refusals.{refused_by}
+use Rattle.rustsec_error.specs.Failure.{Failure}
+use Rattle.rustsec_error.specs.declared.error.ErrorKind.TheVariants as kind
+use Rattle.rustsec_error.proofs.Refusals.{refused_by}
 use Rattle.rustsec_lock.specs.Package.{PackageValue}
 use Rattle.rustsec_index.specs.IndexFolder.{IsPlace}
 use Rattle.rustsec_index.specs.YankedPackages.{Found, IsFirstError, IsFound, IsYankedIn, IsYankedRefusal, asked}

@@ -9,7 +9,7 @@ use Rattle.std.proofs.lemmas.Map.Keys.{sorted_head, sorted_tail}
 use Rattle.rustsec_folders.specs.Allowed.{Allowed, AnswersOnce}
 use Rattle.rustsec_folders.specs.Names.{AreNames, names_of, under}
 use Rattle.rustsec_folders.proofs.Once.{read-or-not, text-once}
-use Rattle.rustsec_versions.specs.Failure.{Failure, IsMemory}
+use Rattle.rustsec_error.specs.Failure.{Failure, IsMemory}
 use Rattle.rustsec_lock.specs.Package.{PackageValue, package_cmp, package_total}
 use Rattle.rustsec_registry.specs.Packages.{AreDistinct}
 use Rattle.rustsec_registry.specs.declared.lookup.IndexVersion.{IndexVersion}

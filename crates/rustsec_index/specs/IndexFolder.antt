@@ -5,8 +5,8 @@ use Rattle.std.specs.List.{list_any}
 use Rattle.rustsec_folders.specs.Allowed.{Allowed}
 use Rattle.rustsec_folders.specs.Names.{AreNames, under}
 use Rattle.rustsec_folders.specs.declared.source_file.SourceFile.{SourceFile}
-use Rattle.rustsec_versions.specs.Failure.{Failure}
-use Rattle.rustsec_versions.specs.declared.error.ErrorKind.TheVariants as kind
+use Rattle.rustsec_error.specs.Failure.{Failure}
+use Rattle.rustsec_error.specs.declared.error.ErrorKind.TheVariants as kind
 use Rattle.rustsec_lock.specs.Package.{PackageValue}
 use Rattle.rustsec_registry.specs.Lookups.{Answer, at}
 use Rattle.rustsec_registry.specs.Packages.{has_name}

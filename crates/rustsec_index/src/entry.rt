@@ -3,13 +3,13 @@
 ghost use Rattle.std.specs.Prelude.{◌≡◌, IfErr, IfOk, option_map};
 ghost use Rattle.serde_json.specs.Find.{get_member};
 ghost use Rattle.serde_json.specs.View.{members_view, view};
-ghost use Rattle.rustsec_versions.specs.Failure.{IsMemory};
+ghost use Rattle.rustsec_error.specs.Failure.{IsMemory};
 ghost use Rattle.rustsec_index.specs.CacheFile.{cut, pair_says};
 ghost use Rattle.rustsec_index.specs.IndexLines.{entry_in, line_entry, line_says, text_at, version_for, yanked_of};
 
+use rustsec_error::{Error, Result};
 use rustsec_registry::IndexVersion;
 use rustsec_values::Text;
-use rustsec_versions::{Error, Result};
 use serde_json::{Map, Value};
 use std::alloc::{AllocError, Global};
 

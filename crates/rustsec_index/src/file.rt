@@ -2,16 +2,16 @@
 
 ghost use Rattle.std.specs.Prelude.{◌≡◌, ◌-◌, ◌⊎◌, ◌≤◌, ◌++◌, ◌∷◌, [], IfErr, IfOk, MatchResult, OnOk, count_by, length, option_map, string_bytes};
 ghost use Rattle.std.specs.List.{after_first, before_first};
-ghost use Rattle.rustsec_versions.specs.Failure.{IsMemory};
+ghost use Rattle.rustsec_error.specs.Failure.{IsMemory};
 ghost use Rattle.rustsec_index.specs.CacheFile.{after_formats, after_pair, cache_entries};
 ghost use Rattle.rustsec_index.specs.IndexFile.{cache_message, checkout_message, IsDamage, IsDamagedEntry, Lists, ListsEntries, after_entry, damage, damage_message, entries_of, first_says, is_newline, line_number, versions_said};
 
 use crate::entry::{Said, cut, line_says, pair_says};
 use crate::form::IndexForm;
+use rustsec_error::{Error, ErrorKind, Result};
 use rustsec_folders::SourceFile;
 use rustsec_registry::IndexVersion;
 use rustsec_values::Items;
-use rustsec_versions::{Error, ErrorKind, Result};
 use std::alloc::{AllocError, Global};
 
 /// The beginning of each file of a cache: 3, the version of the cache's format, and 2, the version of the index's

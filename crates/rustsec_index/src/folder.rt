@@ -2,7 +2,7 @@
 
 ghost use Rattle.std.specs.Prelude.{◌≡◌, ◌⊎◌, Err, IfErr, IfOk, None, Ok, OnOk, option_copied};
 ghost use Rattle.rustsec_folders.specs.Allowed.{AllowSame};
-ghost use Rattle.rustsec_versions.specs.Failure.{IsMemory, IsRefusal};
+ghost use Rattle.rustsec_error.specs.Failure.{IsMemory, IsRefusal};
 ghost use Rattle.rustsec_registry.specs.Lookups.{at};
 ghost use Rattle.rustsec_index.specs.IndexFolder.{AnswersAll, AreAnswers, IsAnswer, IsAdded, IsFileAnswer, IsGiven, IsIndex, IsTextAnswer, IsUnreadAnswer};
 ghost use Rattle.rustsec_index.specs.IndexPath.{below};
@@ -10,11 +10,11 @@ ghost use Rattle.rustsec_index.specs.IndexPath.{below};
 use crate::file::versions_in;
 use crate::path::index_path;
 use crate::place::{Place, find_place, is_missing};
+use rustsec_error::{Error, ErrorKind, Result};
 use rustsec_folders::{Folders, SourceFile};
 use rustsec_lock::package::{Name, Package};
 use rustsec_registry::{IndexVersion, Lookup};
 use rustsec_values::{Items, SortedMap, Text};
-use rustsec_versions::{Error, ErrorKind, Result};
 use std::alloc::{AllocError, Global};
 use std::marker::Model;
 

@@ -7,8 +7,6 @@ mod folder;
 mod form;
 mod path;
 mod place;
-#[cfg(test)]
-mod tests;
 mod yanked;
 
 pub use crate::file::versions_in;

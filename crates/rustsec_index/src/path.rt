@@ -4,11 +4,11 @@ ghost use Rattle.std.specs.Prelude.{◌≡◌, ◌<◌, ◌∷◌, [], IfErr, If
 ghost use Rattle.std.specs.List.{list_all};
 ghost use Rattle.std.specs.Str.{IsAscii};
 ghost use Rattle.rustsec_values.specs.Reading.{only_if};
-ghost use Rattle.rustsec_versions.specs.Failure.{IsMemory};
+ghost use Rattle.rustsec_error.specs.Failure.{IsMemory};
 ghost use Rattle.rustsec_index.specs.IndexPath.{folders_of, index_path, is_name_byte, lower_case};
 
+use rustsec_error::Result;
 use rustsec_values::{Items, Text};
-use rustsec_versions::Result;
 use std::alloc::{AllocError, Global};
 
 /// Returns whether a byte may be in a package's name.

@@ -3,13 +3,13 @@
 ghost use Rattle.std.specs.Prelude.{◌≡◌, IfErr, IfOk, MatchBool, None, option_map};
 ghost use Rattle.rustsec_folders.specs.Allowed.{AllowSame};
 ghost use Rattle.rustsec_folders.specs.Names.{AreNames, under};
-ghost use Rattle.rustsec_versions.specs.Failure.{IsMemory, IsRefusal};
+ghost use Rattle.rustsec_error.specs.Failure.{IsMemory, IsRefusal};
 ghost use Rattle.rustsec_index.specs.IndexFolder.{IsListed, IsMissing, IsPlace, Shows, has, place_of};
 
 use crate::form::IndexForm;
+use rustsec_error::{ErrorKind, Result};
 use rustsec_folders::Folders;
 use rustsec_values::{Items, Text};
-use rustsec_versions::{ErrorKind, Result};
 use std::alloc::{AllocError, Global};
 
 /// The folder with the files of an index, and their form.

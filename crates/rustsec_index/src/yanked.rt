@@ -2,16 +2,16 @@
 
 ghost use Rattle.std.specs.Prelude.{◌≡◌, ◌≢◌, ◌⊎◌, ◌++◌, ◌∷◌, [], Err, IfErr, IfOk, OnOk, map};
 ghost use Rattle.rustsec_folders.specs.Allowed.{AllowSame};
-ghost use Rattle.rustsec_versions.specs.Failure.{IsMemory};
+ghost use Rattle.rustsec_error.specs.Failure.{IsMemory};
 ghost use Rattle.rustsec_registry.specs.Yanked.{seen};
 ghost use Rattle.rustsec_index.specs.YankedPackages.{AreTaken, IsFirstOther, IsGivenFor, IsRefusedFor, IsTaken, IsYankedIn, IsYankedRefusal, asked, is_asked, messages_in, packages_in};
 
 use crate::folder::IndexFolder;
+use rustsec_error::{Error, ErrorKind, Result};
 use rustsec_folders::Folders;
 use rustsec_lock::package::Package;
 use rustsec_registry::CachedIndex;
 use rustsec_values::{Items, Text};
-use rustsec_versions::{Error, ErrorKind, Result};
 use std::alloc::Global;
 
 /// Which packages are yanked, and which ones the index does not list.

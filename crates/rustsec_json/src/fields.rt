@@ -1,15 +1,15 @@
 //! Reads the values at the keys of a JSON object (RFC 8259, section 4).
 
-ghost use Rattle.std.specs.Prelude.{◌≡◌, [], IfErr, IfOk, None, Some, option_map};
+ghost use Rattle.std.specs.Prelude.{◌≡◌, ◌≢◌, [], IfErr, IfOk, None, OnErr, Some, option_map};
 ghost use Rattle.serde_json.specs.Find.{as_object, get_member};
 ghost use Rattle.serde_json.specs.View.{members_view, view};
 ghost use Rattle.rustsec_json.specs.Fields.{defaulted, every, optional, required};
-ghost use Rattle.rustsec_versions.specs.Failure.{IsRefusal};
+ghost use Rattle.rustsec_error.specs.Failure.{IsRefusal};
 
 use crate::read::FromTree;
 use crate::refusal::{at_key, missing, unexpected};
+use rustsec_error::{ErrorKind, Result};
 use rustsec_values::Items;
-use rustsec_versions::{ErrorKind, Result};
 use serde_json::{Map, Value};
 use std::alloc::Global;
 
@@ -66,6 +66,7 @@ pub fn optional_at<T: FromTree>(
 ) -> Result<Option<T>>
     ensures ok { IfOk result (λ x. optional T.reads key.now (members_view fields.now.entries) ≡ Some x) }
     ensures err { IfErr result (IsRefusal ErrorKind.Parse (optional T.reads key.now (members_view fields.now.entries) ≡ None)) }
+    ensures none { OnErr result (get_member key.now (members_view fields.now.entries) ≢ None) }
 {
     let Some(tree) = member(fields, key) else {
         return Ok(None);
@@ -88,6 +89,7 @@ pub fn list_at<T: FromTree>(
 ) -> Result<Items<T>>
     ensures ok { IfOk result (λ xs. defaulted [] (every T.reads) key.now (members_view fields.now.entries) ≡ Some xs) }
     ensures err { IfErr result (IsRefusal ErrorKind.Parse (defaulted [] (every T.reads) key.now (members_view fields.now.entries) ≡ None)) }
+    ensures none { OnErr result (get_member key.now (members_view fields.now.entries) ≢ None) }
 {
     let Some(tree) = member(fields, key) else {
         return Ok(Items::new(alloc));

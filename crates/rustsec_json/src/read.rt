@@ -5,11 +5,11 @@ ghost use Rattle.serde_json.specs.Data.{Data};
 ghost use Rattle.serde_json.specs.View.{items_view, view};
 ghost use Rattle.rustsec_json.specs.Fields.{list_of, text};
 ghost use Rattle.rustsec_values.specs.Reading.{read_all};
-ghost use Rattle.rustsec_versions.specs.Failure.{IsRefusal};
+ghost use Rattle.rustsec_error.specs.Failure.{IsRefusal};
 
 use crate::refusal::{at_index, unexpected};
+use rustsec_error::{ErrorKind, FromText, Result};
 use rustsec_values::Items;
-use rustsec_versions::{ErrorKind, FromText, Result};
 use serde_json::Value;
 use std::alloc::Global;
 

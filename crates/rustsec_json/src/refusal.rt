@@ -1,10 +1,10 @@
 //! Errors about JSON trees: they name the path of keys and positions that leads to a value; for a tree of another kind, also what was found
 //! and what was expected.
 
-ghost use Rattle.rustsec_versions.specs.Failure.{IsMemory, IsOfKind};
+ghost use Rattle.rustsec_error.specs.Failure.{IsMemory, IsOfKind};
 
+use rustsec_error::{Error, ErrorKind, refused_text};
 use rustsec_values::beginning_of;
-use rustsec_versions::{Error, ErrorKind, refused_text};
 use serde_json::Value;
 use std::alloc::{AllocError, Global};
 use std::fmt;

@@ -7,6 +7,7 @@ use crate::make::ToTree;
 use crate::read::{FromTree, read_text};
 use crate::refusal::unexpected;
 use rustsec_advisory::Address;
+use rustsec_error::Result;
 use rustsec_lock::package::Name;
 use rustsec_lock::platforms::{Arch, OS};
 use rustsec_lock::{Cvss, SourceId};
@@ -14,7 +15,6 @@ use rustsec_texts::{
     Category, Collection, Date, FunctionPath, Id, Informational, Keyword, License,
 };
 use rustsec_values::Text;
-use rustsec_versions::Result;
 use serde_json::Value;
 use std::alloc::{AllocError, Global};
 

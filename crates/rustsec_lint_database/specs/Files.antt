@@ -2,14 +2,15 @@
 use Rattle.std.specs.Prelude.{◌≡◌, ℕ, ◌++◌, ◌∷◌, [], List, Option, None, Some, codes, if◌then◌else◌, map}
 use Rattle.rustsec_files.specs.Paths.{is_draft}
 use Rattle.rustsec_folders.specs.Allowed.{Allowed}
-use Rattle.rustsec_versions.specs.Failure.{kind_text}
-use Rattle.rustsec_versions.specs.declared.error.ErrorKind.{ErrorKind}
-use Rattle.rustsec_versions.specs.declared.error.ErrorKind.TheVariants as failure
+use Rattle.rustsec_error.specs.Failure.{kind_text}
+use Rattle.rustsec_error.specs.declared.error.ErrorKind.{ErrorKind}
+use Rattle.rustsec_error.specs.declared.error.ErrorKind.TheVariants as failure
 use Rattle.rustsec_texts.specs.Ids.{IdValue, is_placeholder}
 use Rattle.rustsec_advisory.specs.Advisory.{IsAdvisory}
 use Rattle.rustsec_advisory.specs.LintErrors.{LintError, lint_error_text}
 use Rattle.rustsec_advisory.specs.Lints.{Lints}
 use Rattle.rustsec_advisory.specs.declared.advisory.Advisory.{Advisory}
+use Rattle.rustsec_lint_database.specs.Edition.{edition_remarks}
 use Rattle.rustsec_lint_database.specs.Placement.{placement_remarks}
 use Rattle.rustsec_lint_database.specs.Remarks.{remark}
 use Rattle.rustsec_lint_database.specs.Upstream.{upstream_remarks}
@@ -25,13 +26,13 @@ lint_remark e = remark kind.Lint (lint_error_text e)
 abbrev pub own_id : Advisory → Option IdValue
 own_id a = if is_placeholder a.metadata.id.text then None else Some a.metadata.id
 
--- the remarks on the file of an advisory with these lint errors
-abbrev pub advisory_remarks : List ℕ → Advisory → List LintError → List Remark
-advisory_remarks path a errors = map lint_remark errors ++ (placement_remarks path a ++ upstream_remarks a)
+-- the remarks on the file of an advisory with this path, this text and these lint errors
+abbrev pub advisory_remarks : List ℕ → List ℕ → Advisory → List LintError → List Remark
+advisory_remarks path text a errors = map lint_remark errors ++ (placement_remarks path a ++ (upstream_remarks a ++ edition_remarks text))
 
 -- the remarks on the file of an advisory
-abbrev pub of_advisory : List ℕ → Advisory → List LintError → FileLint
-of_advisory path a errors = record { path = path; id = own_id a; remarks = advisory_remarks path a errors }
+abbrev pub of_advisory : List ℕ → List ℕ → Advisory → List LintError → FileLint
+of_advisory path text a errors = record { path = path; id = own_id a; remarks = advisory_remarks path text a errors }
 
 -- the remarks on a file that is refused
 abbrev pub of_refusal : List ℕ → ErrorKind → FileLint
@@ -39,7 +40,7 @@ of_refusal path k = record { path = path; id = None; remarks = remark kind.Refus
 
 -- the remarks on a text at a path: those on its advisory, or that it is not one
 pub data IsLintOf (path text : List ℕ) (f : FileLint) : Type 0 where
-  linted : (a : Advisory) (errors : List LintError) → Lints text (Some (is_draft path)) a errors → f ≡ of_advisory path a errors → IsLintOf path text f
+  linted : (a : Advisory) (errors : List LintError) → Lints text (Some (is_draft path)) a errors → f ≡ of_advisory path text a errors → IsLintOf path text f
   refused : ((a : Advisory) → ¬ IsAdvisory text a) → f ≡ of_refusal path failure.Parse → IsLintOf path text f
 
 -- the remarks on the file at a path: that of a text that may be read there, or that it cannot be read

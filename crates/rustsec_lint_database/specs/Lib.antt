@@ -5,3 +5,4 @@ pub mod Files
 pub mod Entries
 pub mod Firsts
 pub mod Counts
+pub mod Edition

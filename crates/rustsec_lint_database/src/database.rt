@@ -3,17 +3,17 @@
 ghost use Rattle.std.specs.Prelude.{◌≡◌, ◌++◌, ◌∷◌, [], IfErr, IfOk, List, None, OnOk, map};
 ghost use Rattle.rustsec_folders.specs.Allowed.{AllowSame};
 ghost use Rattle.rustsec_folders.specs.Listed.{Paths};
-ghost use Rattle.rustsec_versions.specs.Failure.{IsRefusal};
+ghost use Rattle.rustsec_error.specs.Failure.{IsRefusal};
 ghost use Rattle.rustsec_lint_database.specs.Entries.{AreEntries, AreLintedAt, first_with};
 ghost use Rattle.rustsec_lint_database.specs.Files.{IsLintAt};
 ghost use Rattle.rustsec_lint_database.specs.Firsts.{AreFirsts, IsAdded, file_of};
 ghost use Rattle.rustsec_lint_database.specs.declared.file.FileLint.{FileLint};
 
 use crate::file::{FileLint, FileNotes, lint_file};
+use rustsec_error::{ErrorKind, Result};
 use rustsec_folders::{Folders, source_paths};
 use rustsec_texts::Id;
 use rustsec_values::{Items, Text};
-use rustsec_versions::{ErrorKind, Result};
 use std::alloc::{AllocError, Global};
 use std::collections::BTreeMap;
 

@@ -4,21 +4,22 @@ ghost use Rattle.std.specs.Prelude.{◌≡◌, ◌++◌, ◌≢◌, IfOk, OnOk, 
 ghost use Rattle.rustsec_folders.specs.Allowed.{AllowSame};
 ghost use Rattle.rustsec_advisory.specs.LintErrors.{LintError};
 ghost use Rattle.rustsec_advisory.specs.declared.advisory.Advisory as given;
-ghost use Rattle.rustsec_versions.specs.declared.error.ErrorKind.TheVariants as failure;
+ghost use Rattle.rustsec_error.specs.declared.error.ErrorKind.TheVariants as failure;
 ghost use Rattle.rustsec_lint_database.specs.Placement.{HasNone};
 ghost use Rattle.rustsec_lint_database.specs.Files.{IsLintAt, IsLintOf, advisory_remarks, lint_remark, of_advisory, of_refusal, own_id};
 
+use crate::edition::push_edition;
 use crate::placement::push_placement;
-use crate::readings::readings_of;
 use crate::remark::{Remark, RemarkKind, push_remark};
 use crate::upstream::push_upstream;
+use crate::words::words_of;
 use rustsec_advisory::Advisory;
 use rustsec_advisory::linter::{self, Linter};
+use rustsec_error::{Error, ErrorKind};
 use rustsec_files::path;
 use rustsec_folders::Folders;
 use rustsec_texts::Id;
 use rustsec_values::{Items, Text};
-use rustsec_versions::{Error, ErrorKind};
 use std::alloc::{AllocError, Global};
 
 /// A file with its remarks.
@@ -48,14 +49,20 @@ fn push_lints(
 }
 
 /// Returns the remarks on the file of an advisory.
-fn remarks_of(alloc: Global, path: &str, linter: &Linter) -> Result<Items<Remark>, AllocError>
-    ensures { IfOk result (λ rs. rs ≡ advisory_remarks path.now linter.now.advisory linter.now.errors) }
+fn remarks_of(
+    alloc: Global,
+    path: &str,
+    text: &str,
+    linter: &Linter,
+) -> Result<Items<Remark>, AllocError>
+    ensures { IfOk result (λ rs. rs ≡ advisory_remarks path.now text.now linter.now.advisory linter.now.errors) }
 {
     let mut remarks = Items::new(alloc);
     let advisory = linter.advisory();
     push_lints(alloc, &mut remarks, linter.errors())?;
     push_placement(alloc, &mut remarks, path, advisory)?;
     push_upstream(alloc, &mut remarks, advisory)?;
+    push_edition(alloc, &mut remarks, text)?;
     Ok(remarks)
 }
 
@@ -72,10 +79,15 @@ fn own_id(advisory: &Advisory) -> Result<Option<Id>, AllocError>
 }
 
 /// Returns the remarks on the file of an advisory.
-fn of_advisory(alloc: Global, path: &str, linter: &Linter) -> Result<FileLint, AllocError>
-    ensures { IfOk result (λ f. f ≡ of_advisory path.now linter.now.advisory linter.now.errors) }
+fn of_advisory(
+    alloc: Global,
+    path: &str,
+    text: &str,
+    linter: &Linter,
+) -> Result<FileLint, AllocError>
+    ensures { IfOk result (λ f. f ≡ of_advisory path.now text.now linter.now.advisory linter.now.errors) }
 {
-    let remarks = remarks_of(alloc, path, linter)?;
+    let remarks = remarks_of(alloc, path, text, linter)?;
     let id = own_id(linter.advisory())?;
     let path = Text::from_str(alloc, path)?;
     Ok(FileLint { path, id, remarks })
@@ -105,8 +117,9 @@ fn of_refusal(alloc: Global, path: &str, error: &Error) -> Result<FileLint, Allo
 pub struct FileNotes {
     /// Why the file was refused, if it was.
     pub refusal: Option<Error>,
-    /// The requirements that Cargo's matching reads differently.
-    pub readings: Items<Text>,
+    /// Words on the advisory: the line of each lint error, the first form of TOML 1.1, and the requirements that Cargo's
+    /// matching reads differently.
+    pub words: Items<Text>,
 }
 
 /// A file with its remarks, and the notes on it.
@@ -125,21 +138,20 @@ fn refused(alloc: Global, path: &str, error: Error) -> Result<Linted, AllocError
     let lint = of_refusal(alloc, path, &error)?;
     let notes = FileNotes {
         refusal: Some(error),
-        readings: Items::new(alloc),
+        words: Items::new(alloc),
     };
     Ok(Linted { lint, notes })
 }
 
-/// Returns the remarks on the file of an advisory, and the notes on it.
-fn accepted(alloc: Global, path: &str, linter: &Linter) -> Result<Linted, AllocError>
-    ensures { IfOk result (λ r. r.lint ≡ of_advisory path.now linter.now.advisory linter.now.errors) }
+/// Returns the remarks on the file of an advisory with this text, and the notes on it.
+fn accepted(alloc: Global, path: &str, text: &str, linter: &Linter) -> Result<Linted, AllocError>
+    ensures { IfOk result (λ r. r.lint ≡ of_advisory path.now text.now linter.now.advisory linter.now.errors) }
 {
-    let lint = of_advisory(alloc, path, linter)?;
-    let advisory = linter.advisory();
-    let readings = readings_of(alloc, &advisory.versions)?;
+    let lint = of_advisory(alloc, path, text, linter)?;
+    let words = words_of(alloc, text, linter)?;
     let notes = FileNotes {
         refusal: None,
-        readings,
+        words,
     };
     Ok(Linted { lint, notes })
 }
@@ -158,7 +170,7 @@ pub fn lint_source(alloc: Global, path: &str, text: &str) -> Result<Linted, Allo
     ensures placed { (a : given.Advisory) → HasNone path.now a }
 {
     match Linter::lint_string(alloc, text, Some(path::is_draft(path))) {
-        Ok(linter) => accepted(alloc, path, &linter),
+        Ok(linter) => accepted(alloc, path, text, &linter),
         Err(error) => refused(alloc, path, error),
     }
 }

@@ -3,14 +3,17 @@
 
 mod counts;
 mod database;
+mod edition;
 mod file;
 mod placement;
 mod readings;
 mod remark;
 mod upstream;
+mod words;
 
 pub use crate::counts::{Counts, counts_of};
 pub use crate::database::{Entry, Step, Watcher, lint_database};
+pub use crate::edition::edition_note;
 pub use crate::file::{FileLint, FileNotes, Linted, lint_file, lint_source};
 pub use crate::readings::{reading_of, readings_of};
 pub use crate::remark::{Remark, RemarkKind};

@@ -21,7 +21,12 @@ fn is_named_after(path: &str, id: &str) -> bool
 }
 
 /// Returns a name between two texts.
-fn between(alloc: Global, before: &str, name: &str, after: &str) -> Result<String, AllocError>
+pub(crate) fn between(
+    alloc: Global,
+    before: &str,
+    name: &str,
+    after: &str,
+) -> Result<String, AllocError>
     ensures { IfOk result (λ t. string_bytes t ≡ before.now ++ (name.now ++ after.now)) }
 {
     let mut text = String::from_str(alloc, before)?;

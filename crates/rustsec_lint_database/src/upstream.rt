@@ -8,9 +8,10 @@ ghost use Rattle.rustsec_lint_database.specs.Upstream.{overlap_remarks, source_r
 
 use crate::remark::{Remark, RemarkKind, push_remark};
 use rustsec_advisory::{Address, Advisory};
+use rustsec_error::ErrorKind;
 use rustsec_lock::SourceId;
 use rustsec_values::Items;
-use rustsec_versions::{ErrorKind, Versions};
+use rustsec_versions::Versions;
 use semver::VersionReq;
 use std::alloc::{AllocError, Global};
 

@@ -12,13 +12,13 @@ use Rattle.std.specs.Str.Pattern.{FindsTextPrefix, StripsPrefix}
 use Rattle.std.specs.declared.iter.Take.{Take}
 use denote.Ref.{Bor}
 use Rattle.rustsec_values.specs.Reading.{only_if}
-use Rattle.rustsec_lock.specs.Cvss.{base_of, behind, given, lone, metrics_of, parts_of}
+use Rattle.rustsec_lock.specs.Cvss.{base_of, after_prefix, given, lone, metrics_of, parts_of}
 
-pub behind_from_strip : (p s : List ℕ) (r : Option (Bor (List ℕ)))
+pub after_prefix_from_strip : (p s : List ℕ) (r : Option (Bor (List ℕ)))
     → MatchOption r (FindsTextPrefix p s None) (λ x. StripsPrefix (FindsTextPrefix p) s x.now)
-    → option_map (λ t. t.now) r ≡ behind p s
-behind_from_strip p s None h = rw (sym (starts_text false p s h)) refl
-behind_from_strip p s (Some x) (n, finds, cut, rest) =
+    → option_map (λ t. t.now) r ≡ after_prefix p s
+after_prefix_from_strip p s None h = rw (sym (starts_text false p s h)) refl
+after_prefix_from_strip p s (Some x) (n, finds, cut, rest) =
     let e : true ≡ starts_with nat_eq s p = starts_text true p s (n, finds, subst (λ k. IsCharBoundary s k) (sym finds.0) finds.2) in
     rw (sym e) (ap Some (cut ∙ ap (λ k. drop k s) finds.0))
 
@@ -29,7 +29,7 @@ listed (Some x) = x.now ∷ []
 
 -- what is found among the parts that are left, from an index on
 abbrev pub found_from : List ℕ → List (Bor (List ℕ)) → ℕ → List (List ℕ)
-found_from name parts k = filter_map (behind name) (map (λ p. p.now) (drop k parts))
+found_from name parts k = filter_map (after_prefix name) (map (λ p. p.now) (drop k parts))
 
 -- a value that may be missing, put before a list
 abbrev pub put_before : Option (List ℕ) → List (List ℕ) → List (List ℕ)
@@ -42,16 +42,16 @@ filter-cons h x xs None e = rw e refl
 filter-cons h x xs (Some y) e = rw e refl
 
 pub found_more : (name : List ℕ) (parts : List (Bor (List ℕ))) (k : ℕ) (d : Bor (List ℕ)) (o : Option (List ℕ)) → k < length parts
-    → behind name (get_or parts k d).now ≡ o → found_from name parts k ≡ put_before o (found_from name parts (k + 1))
+    → after_prefix name (get_or parts k d).now ≡ o → found_from name parts k ≡ put_before o (found_from name parts (k + 1))
 found_more name parts k d o h e =
-    rw (add-one, drop-cons parts k d h) (filter-cons (behind name) (get_or parts k d).now _ o e)
+    rw (add-one, drop-cons parts k d h) (filter-cons (after_prefix name) (get_or parts k d).now _ o e)
 
 pub lone_listed : (r : Option (Bor (List ℕ))) → lone (listed r) ≡ option_map (λ t. t.now) r
 lone_listed None = refl
 lone_listed (Some x) = refl
 
 pub found_past : (name : List ℕ) (parts : List (Bor (List ℕ))) (k : ℕ) → length parts ≤ k → found_from name parts k ≡ []
-found_past name parts k h = ap (λ ps. filter_map (behind name) (map (λ p. p.now) ps)) (drop_all k parts h)
+found_past name parts k h = ap (λ ps. filter_map (after_prefix name) (map (λ p. p.now) ps)) (drop_all k parts h)
 
 -- all that was found, when no part is left
 pub given_at_end : (name : List ℕ) (parts : List (Bor (List ℕ))) (k : ℕ) (r : Option (Bor (List ℕ))) → length parts ≤ k
@@ -66,7 +66,7 @@ two_are_none x y rest = refl
 
 -- a second part that begins with the name
 pub given_twice : (name : List ℕ) (parts : List (Bor (List ℕ))) (k : ℕ) (d x : Bor (List ℕ)) (v : List ℕ) → k < length parts
-    → behind name (get_or parts k d).now ≡ Some v
+    → after_prefix name (get_or parts k d).now ≡ Some v
     → listed (Some x) ++ found_from name parts k ≡ found_from name parts 0 → None ≡ given name (map (λ p. p.now) parts)
 unfolding given
 given_twice name parts k d x v h found e =
@@ -74,7 +74,7 @@ given_twice name parts k d x v h found e =
     ∙ (ap (λ xs. lone (x.now ∷ xs)) (sym (found_more name parts k d (Some v) h found)) ∙ ap lone e)
 
 pub given_again : (name : List ℕ) (parts : List (Bor (List ℕ))) (k : ℕ) (d : Bor (List ℕ)) (r : Option (Bor (List ℕ))) (v : List ℕ)
-    → k < length parts → Some v ≡ behind name (get_or parts k d).now → true ≡ is_some r
+    → k < length parts → Some v ≡ after_prefix name (get_or parts k d).now → true ≡ is_some r
     → listed r ++ found_from name parts k ≡ found_from name parts 0 → None ≡ given name (map (λ p. p.now) parts)
 given_again name parts k d None v h found some e = cc some
 given_again name parts k d (Some x) v h found some e = given_twice name parts k d x v h (sym found) e

@@ -4,7 +4,7 @@ use Rattle.std.proofs.lemmas.List.Sorted.{length_permutation}
 use Rattle.rustsec_values.specs.Reading.{◌>>=◌, only_if}
 use Rattle.rustsec_versions.proofs.RangeEnds.{one-IsPermutation}
 use Rattle.rustsec_versions.proofs.Shuffled.{IsPermutation-filter_map}
-use Rattle.rustsec_lock.specs.Cvss.{base_of, behind, cvss_of, given, lone, metrics_of, or_else, parts_of}
+use Rattle.rustsec_lock.specs.Cvss.{base_of, after_prefix, cvss_of, given, lone, metrics_of, or_else, parts_of}
 use Rattle.rustsec_lock.specs.declared.cvss.Cvss.{Cvss}
 use Rattle.rustsec_lock.specs.declared.cvss.Cvss.TheVariants as cvss
 
@@ -18,7 +18,7 @@ lone-permuted (x ∷ w ∷ xs) (y ∷ z ∷ ys) h = refl
 
 given-permuted : (name : List ℕ) (ps qs : List (List ℕ)) → IsPermutation ps qs → given name ps ≡ given name qs
 unfolding given
-given-permuted name ps qs h = lone-permuted _ _ (IsPermutation-filter_map (behind name) ps qs h)
+given-permuted name ps qs h = lone-permuted _ _ (IsPermutation-filter_map (after_prefix name) ps qs h)
 
 -- parts in another order give the same metrics
 pub metrics_of-permuted : (minor : ℕ) (ps qs : List (List ℕ)) → IsPermutation ps qs → metrics_of minor ps ≡ metrics_of minor qs

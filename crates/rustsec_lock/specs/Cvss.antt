@@ -13,8 +13,8 @@ use Rattle.rustsec_lock.specs.Metrics.{attack_complexity_letter, attack_complexi
 use Rattle.rustsec_lock.specs.Score.{score_tenths_of, severity_of}
 
 -- the text after a prefix, if it begins with the prefix
-abbrev pub behind : List ℕ → List ℕ → Option (List ℕ)
-behind beginning text = if starts_with nat_eq text beginning then Some (drop (length beginning) text) else None
+abbrev pub after_prefix : List ℕ → List ℕ → Option (List ℕ)
+after_prefix beginning text = if starts_with nat_eq text beginning then Some (drop (length beginning) text) else None
 
 -- the member of a list that has exactly one
 abbrev pub lone : {A : Type 0} → List A → Option A
@@ -24,7 +24,7 @@ lone (x ∷ y ∷ rest) = None
 
 -- the text after a metric's name in the only part that begins with it
 unfoldable pub given : List ℕ → List (List ℕ) → Option (List ℕ)
-given name parts = lone (filter_map (behind name) parts)
+given name parts = lone (filter_map (after_prefix name) parts)
 
 -- the parts of a text between its slashes
 abbrev pub parts_of : List ℕ → List (List ℕ)
@@ -59,13 +59,13 @@ or_else (Some x) other = Some x
 
 -- a vector of version 4, kept as it is
 abbrev pub kept_vector : List ℕ → Option Cvss
-kept_vector text = option_map (λ rest. cvss.CvssV40 text) (behind (codes "CVSS:4.0/") text)
+kept_vector text = option_map (λ rest. cvss.CvssV40 text) (after_prefix (codes "CVSS:4.0/") text)
 
 -- the vector of a text, if it is a vector
 abbrev pub cvss_of : List ℕ → Option Cvss
 cvss_of text =
-    or_else (behind (codes "CVSS:3.0/") text >>= base_of 0 >>= λ b. Some (cvss.CvssV30 b))
-    (or_else (behind (codes "CVSS:3.1/") text >>= base_of 1 >>= λ b. Some (cvss.CvssV31 b))
+    or_else (after_prefix (codes "CVSS:3.0/") text >>= base_of 0 >>= λ b. Some (cvss.CvssV30 b))
+    (or_else (after_prefix (codes "CVSS:3.1/") text >>= base_of 1 >>= λ b. Some (cvss.CvssV31 b))
     (kept_vector text))
 
 -- how base metrics print: their version, and the metrics in the standard's order

@@ -2,14 +2,14 @@
 
 ghost use Rattle.std.specs.Prelude.{◌≡◌, ◌==◌, ℕ, List, OnErr, Some, None, IfErr, IfOk, IfSome, length, map, option_map};
 ghost use Rattle.std.specs.Fmt.{DisplaysOnOk};
-ghost use Rattle.rustsec_versions.specs.Failure.{IsMemory, IsRefusal};
+ghost use Rattle.rustsec_error.specs.Failure.{IsMemory, IsRefusal};
 ghost use Rattle.rustsec_lock.specs.declared.cvss.Cvss.TheVariants as cvss;
-ghost use Rattle.rustsec_lock.specs.Cvss.{base_of, base_text, behind, cvss_of, cvss_severity, cvss_text, given, metric, metrics_of, parts_of};
+ghost use Rattle.rustsec_lock.specs.Cvss.{base_of, base_text, after_prefix, cvss_of, cvss_severity, cvss_text, given, metric, metrics_of, parts_of};
 
 use crate::metrics::Base;
 use crate::severity::Severity;
+use rustsec_error::{ErrorKind, FromText, Result, refused_text};
 use rustsec_values::{ExactClone, ExactEq, Named, Text, value_named};
-use rustsec_versions::{ErrorKind, FromText, Result, refused_text};
 use std::alloc::{AllocError, Global};
 use std::fmt;
 
@@ -25,8 +25,8 @@ pub enum Cvss {
 }
 
 /// Returns the text after a prefix, if it begins with the prefix.
-fn behind<'a>(beginning: &str, text: &'a str) -> Option<&'a str>
-    ensures { option_map (λ t. t.now) result ≡ behind beginning.now text.now }
+fn after_prefix<'a>(beginning: &str, text: &'a str) -> Option<&'a str>
+    ensures { option_map (λ t. t.now) result ≡ after_prefix beginning.now text.now }
 {
     text.strip_prefix(beginning)
 }
@@ -37,7 +37,7 @@ fn given<'a>(name: &str, parts: &[&'a str]) -> Option<&'a str>
 {
     let mut found = None;
     for part in parts {
-        if let Some(value) = behind(name, part) {
+        if let Some(value) = after_prefix(name, part) {
             if found.is_some() {
                 return None;
             }
@@ -111,15 +111,15 @@ impl Cvss {
         ensures again { IfOk result (λ v. cvss_of (cvss_text v) ≡ Some v) }
         ensures err { IfErr result (IsRefusal ErrorKind.Parse (cvss_of text.now ≡ None)) }
     {
-        if let Some(rest) = behind("CVSS:3.0/", text) {
+        if let Some(rest) = after_prefix("CVSS:3.0/", text) {
             let base = base(alloc, 0, rest)?;
             return Ok(Cvss::CvssV30(base));
         }
-        if let Some(rest) = behind("CVSS:3.1/", text) {
+        if let Some(rest) = after_prefix("CVSS:3.1/", text) {
             let base = base(alloc, 1, rest)?;
             return Ok(Cvss::CvssV31(base));
         }
-        if behind("CVSS:4.0/", text).is_some() {
+        if after_prefix("CVSS:4.0/", text).is_some() {
             let text = Text::from_str(alloc, text)?;
             return Ok(Cvss::CvssV40(text));
         }

@@ -5,7 +5,7 @@ ghost use Rattle.semver.specs.Identifiers.{parts_of};
 ghost use Rattle.toml.specs.View.{array_view, table_view, view};
 ghost use Rattle.rustsec_values.specs.Reading.{read_all, read_optional};
 ghost use Rattle.rustsec_folders.specs.Allowed.{AllowSame, real_folders};
-ghost use Rattle.rustsec_versions.specs.Failure.{IsMemory, IsOfKind, IsRefusal};
+ghost use Rattle.rustsec_error.specs.Failure.{IsMemory, IsOfKind, IsRefusal};
 ghost use Rattle.rustsec_toml.specs.Fields.{list_of};
 ghost use Rattle.rustsec_lock.specs.Lockfile.{AreValid, IsLockfileAt, IsLockfileRefusal, IsParseFailure, NamesLockfile, lockfile_of, package_in, package_of, packages_of, version_of};
 ghost use Rattle.rustsec_lock.specs.Source.{source_id_of};
@@ -13,12 +13,11 @@ ghost use Rattle.rustsec_lock.specs.Source.{source_id_of};
 use crate::names::Name;
 use crate::packages::Package;
 use crate::source::SourceId;
+use rustsec_error::{Error, ErrorKind, Result, refused_at, refused_file, refused_text};
 use rustsec_folders::{Folders, RealFolders};
 use rustsec_toml::{Section, TablePlace, document};
 use rustsec_values::{ExactClone, ExactEq, Items, Text, beginning_of};
-use rustsec_versions::{
-    Error, ErrorKind, Result, read_version, refused_at, refused_file, refused_text,
-};
+use rustsec_versions::read_version;
 use semver::Version;
 use std::alloc::{AllocError, Global};
 use std::rt::Files;

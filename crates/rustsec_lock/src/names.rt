@@ -1,11 +1,11 @@
 //! Names of packages.
 
 ghost use Rattle.std.specs.Prelude.{◌≡◌, ◌<◌, IfErr, IfOk, None, Some, length};
-ghost use Rattle.rustsec_versions.specs.Failure.{IsMemory, IsRefusal};
+ghost use Rattle.rustsec_error.specs.Failure.{IsMemory, IsRefusal};
 ghost use Rattle.rustsec_lock.specs.Names.{name_cmp, name_of};
 
+use rustsec_error::{ErrorKind, FromText, Result, refused_text};
 use rustsec_values::{ExactClone, ExactEq, StatedOrder, Text};
-use rustsec_versions::{ErrorKind, FromText, Result, refused_text};
 use std::alloc::{AllocError, Global};
 use std::convert::AsStr;
 use std::fmt;

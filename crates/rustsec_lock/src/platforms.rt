@@ -1,11 +1,11 @@
 //! Architectures and operating systems: two closed tables of names.
 
 ghost use Rattle.std.specs.Prelude.{◌≡◌, IfErr, IfOk, None, Some};
-ghost use Rattle.rustsec_versions.specs.Failure.{IsRefusal};
+ghost use Rattle.rustsec_error.specs.Failure.{IsRefusal};
 ghost use Rattle.rustsec_lock.specs.Platforms.{arch_of, arch_text, os_of, os_text};
 
+use rustsec_error::{ErrorKind, FromText, Result, refused_text};
 use rustsec_values::{ExactClone, ExactEq, Named, value_named};
-use rustsec_versions::{ErrorKind, FromText, Result, refused_text};
 use std::alloc::Global;
 use std::fmt;
 

@@ -2,11 +2,11 @@
 
 ghost use Rattle.std.specs.Prelude.{◌≡◌, ◌==◌, ◌<◌, IfErr, IfOk, None, Some, length};
 ghost use Rattle.std.specs.List.{before_first};
-ghost use Rattle.rustsec_versions.specs.Failure.{IsMemory, IsRefusal};
+ghost use Rattle.rustsec_error.specs.Failure.{IsMemory, IsRefusal};
 ghost use Rattle.rustsec_lock.specs.Source.{default_source, is_default, kind_word, location_of, source_id_of, source_text, url_of};
 
+use rustsec_error::{ErrorKind, FromText, Result, refused_text};
 use rustsec_values::{ExactClone, ExactEq, Named, Text, value_named};
-use rustsec_versions::{ErrorKind, FromText, Result, refused_text};
 use std::alloc::{AllocError, Global};
 use std::fmt;
 use std::marker::Model;
@@ -152,7 +152,7 @@ impl SourceId {
                 alloc,
                 "no address in the source",
                 text,
-                "one behind the first `+`",
+                "one after the first `+`",
             ));
         }
         let address = Text::from_str(alloc, address)?;

@@ -7,7 +7,7 @@ use Rattle.std.specs.Fmt.{decimal, digit_glyph, digits, digits_onto}
 use Rattle.std.specs.List.{list_all}
 use Rattle.std.specs.Str.{chars}
 use Rattle.std.proofs.lemmas.List.Folds.{list_all-append}
-use Rattle.rustsec_check_output.specs.Shown.{is_hidden}
+use Rattle.rustsec_shown.specs.Shown.{is_hidden}
 use Rattle.rustsec_markdown.specs.Escaped.{escaped, escaped_char, is_harmless, is_linking, is_plain, joiner, parted, reference, referred}
 
 -- ---- truth tables

@@ -8,10 +8,11 @@ use Rattle.rustsec_lock.specs.Package.{PackageValue}
 use Rattle.rustsec_lock.specs.Score.{severity_text}
 use Rattle.rustsec_lock.specs.declared.severity.Severity.{Severity}
 use Rattle.rustsec_texts.specs.Ids.{IdValue}
+use Rattle.rustsec_policy.specs.Entries.{entry_with}
 use Rattle.rustsec_policy.specs.declared.ignored.Ignored.{Ignored}
 use Rattle.rustsec_check.specs.Values.{FindingValue, IgnoredValue, YankedValue}
 use Rattle.rustsec_check_output.specs.CheckText.{arrow, counted, old_words}
-use Rattle.rustsec_check_output.specs.CheckTree.{WrittenValue, entry_with, kind_text, reason_of, score_text, severity_of, tenths_of, until_of}
+use Rattle.rustsec_check_output.specs.CheckTree.{WrittenValue, kind_text, reason_of, score_text, severity_of, tenths_of, until_of}
 use Rattle.rustsec_markdown.specs.Escaped.{escaped, escaped_version}
 
 -- ---- words

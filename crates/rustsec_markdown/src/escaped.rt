@@ -5,34 +5,15 @@ ghost use Rattle.std.specs.Char.Escape.{escape_unicode};
 ghost use Rattle.std.specs.List.{flat_map, list_all};
 ghost use Rattle.std.specs.Str.{chars};
 ghost use Rattle.semver.specs.Identifiers.{parts_of};
-ghost use Rattle.rustsec_versions.specs.Failure.{IsMemory};
-ghost use Rattle.rustsec_check_output.specs.Shown.{is_hidden};
+ghost use Rattle.rustsec_error.specs.Failure.{IsMemory};
+ghost use Rattle.rustsec_shown.specs.Shown.{is_hidden};
 ghost use Rattle.rustsec_markdown.specs.Escaped.{escaped, escaped_char, escaped_version, is_harmless, is_linking, is_plain, joiner, parted, reference, referred};
 
-use rustsec_versions::Result;
+use rustsec_error::Result;
+use rustsec_shown::is_hidden;
 use semver::Version;
 use std::alloc::{AllocError, Global};
 use std::fmt::Write as _;
-
-/// Returns whether a character is a control character, or an invisible one that turns the direction of
-/// others, joins them or ends their line.
-fn is_hidden(c: char) -> bool
-    ensures { result ≡ is_hidden c }
-{
-    c.is_control()
-        || matches!(
-            c,
-            '\u{AD}'
-                | '\u{61C}'
-                | '\u{180E}'
-                | '\u{200B}'..='\u{200F}'
-                | '\u{2028}'..='\u{202E}'
-                | '\u{2060}'..='\u{206F}'
-                | '\u{FEFF}'
-                | '\u{FFF9}'..='\u{FFFB}'
-                | '\u{E0000}'..='\u{E007F}'
-        )
-}
 
 /// Returns whether a character is written as itself.
 fn is_plain(c: char) -> bool

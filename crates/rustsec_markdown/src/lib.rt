@@ -3,13 +3,9 @@
 #![tactic(auto)]
 
 mod escaped;
-#[cfg(test)]
-mod escaped_tests;
 mod fitting;
 mod lines;
 mod row;
-#[cfg(test)]
-mod tests;
 mod text;
 mod words;
 

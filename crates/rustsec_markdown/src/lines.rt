@@ -7,8 +7,8 @@ ghost use Rattle.rustsec_markdown.specs.MarkdownText.{below_line, below_lines, f
 
 use crate::words::{push_code, push_denied, push_labelled, push_old, push_package};
 use rustsec_check::{IgnoredPair, Yanked};
-use rustsec_check_output::{Written, entry_with};
-use rustsec_policy::Ignored;
+use rustsec_check_output::Written;
+use rustsec_policy::{Ignored, entry_with};
 use rustsec_texts::Id;
 use rustsec_values::Text;
 use std::alloc::{AllocError, Global};

@@ -1,20 +1,20 @@
 -- The interval of a requirement and Cargo's matching agree on each release if they agree on the first patches.
-use Rattle.std.proofs.Common.{◌≡◌, ◌<◌, ◌≤◌, ◌+◌, ◌∙◌, ℕ, length, map, take, slice_index_or, Bool, List, [], ◌∷◌, Option, None, Some, false, true, ap, inl, inr, refl, subst, sym}
+use Rattle.std.proofs.Common.{◌≡◌, ◌<◌, ◌≤◌, ◌+◌, ◌∙◌, ℕ, length, map, take, slice_index_or, Bool, List, [], ◌∷◌, None, Some, false, true, inl, inr, refl, subst, sym}
 use Rattle.std.specs.Prelude.{◌&&◌, unwrap_or}
-use Rattle.std.specs.List.{All, list_all}
+use Rattle.std.specs.List.{All, Any}
 use Rattle.std.proofs.lemmas.Bool.{cases_Bool}
-use Rattle.std.proofs.lemmas.List.{map_more, take_all}
+use Rattle.std.proofs.lemmas.List.{get_or-map, length-map, map_more, take_all}
 use Rattle.std.proofs.lemmas.List.Elements.{All-append, All-cons, All-head, All-nil, All-tail}
 use Rattle.semver.specs.Identifiers.{comparator_view}
 use Rattle.semver.specs.declared.Comparator.{Comparator}
-use Rattle.semver.specs.EvalViews.{matches_views, view_op}
+use Rattle.semver.specs.EvalViews.{view_op}
 use Rattle.semver.specs.Parse.{Held, Parts}
-use Rattle.rustsec_values.specs.Reading.{only_if}
 use Rattle.rustsec_versions.specs.Interval.{Endpoint, Interval, exclusive, holds, inclusive, is_after, is_before, reaches, unbounded}
 use Rattle.rustsec_versions.specs.Precedence.{is_at_most, is_below, precedence}
-use Rattle.rustsec_versions.specs.Requirement.{Side, admitted, interval_of, is_admissible, lower, neither, of_sides, side_of, stated, upper}
+use Rattle.rustsec_versions.specs.Requirement.{Side, interval_of, lower, neither, of_sides, side_of, stated, upper}
 use Rattle.rustsec_versions.proofs.PrecedenceLaws.{at_most-below, at_most-trans, below-at_most, below-weak, not_at_most}
 use Rattle.rustsec_matching.specs.Matching.{Agree, IsRelease, LeavesLast, first_patch}
+use Rattle.rustsec_matching.proofs.Requirements.{admitted-is, and-swap, both, given, none-or-some, of-one, of-release, of-two, some-same}
 use Rattle.rustsec_matching.proofs.Sides.{EndOr, StartOr, end-or, start-or}
 use Rattle.rustsec_matching.proofs.Single.{one-agrees}
 
@@ -40,9 +40,6 @@ not-before e k v low h = elim (cases_Bool (is_before e v)) [
   | inl before ↦ true-or-false (is_before e k) (before-down e k v low before) h
   | inr past ↦ past
 ]
-
-both : (a b c d : Bool) → a ≡ c → b ≡ d → (a && b) ≡ (c && d)
-both a b c d h k = rw (h, k) refl
 
 -- a release that only the second one of each holds
 last-differs : {P : Type 0} (a b c d : Bool) → (a && b) ≡ (c && d) → a ≡ true → b ≡ false → c ≡ true → d ≡ true → P
@@ -86,48 +83,6 @@ module _ (c d : Held) (s e : Endpoint) (in_order : reaches precedence s e ≡ tr
 
 -- ---- a requirement
 
-and-first : (a b : Bool) → (a && b) ≡ true → a ≡ true
-and-first true b h = refl
-and-first false b h = cc h
-
-given : (b : Bool) (o : Option Interval) (i : Interval) → only_if b o ≡ Some i → o ≡ Some i
-given true o i is = is
-given false o i is = cc is
-
-none-or-some : {P : Type 0} (i : Interval) → None ≡ Some i → P
-none-or-some i h = cc h
-
--- what is admitted is in order, and it is what the comparators give
-some-same : (i j : Interval) → Some i ≡ Some j → i ≡ j
-some-same i j is = cc is
-
-admitted-some : (j i : Interval) (b : Bool) → is_admissible j ≡ b → only_if b (Some j) ≡ Some i → (Some j ≡ Some i) × (reaches precedence i.start i.end ≡ true)
-admitted-some j i true good is = (is, subst (λ (k : Interval). reaches precedence k.start k.end ≡ true) (some-same j i is) (and-first _ _ good))
-admitted-some j i false bad is = cc is
-
-admitted-is : (o : Option Interval) (i : Interval) → admitted o ≡ Some i → (o ≡ Some i) × (reaches precedence i.start i.end ≡ true)
-admitted-is None i is = cc is
-admitted-is (Some j) i is = admitted-some j i (is_admissible j) refl is
-
-and-true : (a : Bool) → (a && true) ≡ a
-and-true true = refl
-and-true false = refl
-
-and-swap : (a b : Bool) → (a && b) ≡ (b && a)
-and-swap true b = sym (and-true b)
-and-swap false true = refl
-and-swap false false = refl
-
--- what the comparators match of a release
-of-release : (cs : List Held) (v : Parts) → v.3 ≡ [] → matches_views cs v ≡ list_all (λ c. view_op c.0 c v) cs
-of-release cs v none = rw none (and-true _)
-
-of-one : (c : Held) (v : Parts) → v.3 ≡ [] → matches_views (c ∷ []) v ≡ view_op c.0 c v
-of-one c v none = of-release (c ∷ []) v none ∙ and-true (view_op c.0 c v)
-
-of-two : (c d : Held) (v : Parts) → v.3 ≡ [] → matches_views (c ∷ d ∷ []) v ≡ (view_op c.0 c v && view_op d.0 d v)
-of-two c d v none = of-release (c ∷ d ∷ []) v none ∙ ap (λ b. view_op c.0 c v && b) (and-true (view_op d.0 d v))
-
 -- a start and an end
 sides-agree : (c d : Held) (s e : Endpoint) → LeavesLast c → LeavesLast d → side_of c.0 c ≡ lower s → side_of d.0 d ≡ upper e → reaches precedence s e ≡ true
     → AgreeBoth c d s e (first_patch c) → AgreeBoth c d s e (first_patch d) → (v : Parts) → v.3 ≡ [] → AgreeBoth c d s e v
@@ -160,7 +115,7 @@ two-agree c d i one other (upper e) (upper f) is also same in_order at on v none
 two-agree c d i one other (upper e) neither is also same in_order at on v none = cc same
 two-agree c d i one other neither b is also same in_order at on v none = cc same
 
-abbrev AgreeAtPatches : List Held → Interval → Type 0
+abbrev pub AgreeAtPatches : List Held → Interval → Type 0
 AgreeAtPatches cs i = All (λ c. Agree cs i (first_patch c)) cs
 
 pub agreement : (cs : List Held) (i : Interval) → All LeavesLast cs → interval_of cs ≡ Some i → AgreeAtPatches cs i → (v : Parts) → v.3 ≡ [] → Agree cs i v
@@ -207,3 +162,10 @@ first-more cs i items k d within before at =
 pub first-all : (cs : List Held) (i : Interval) (items : List Comparator) (k : ℕ) → length items ≤ k
     → All (AgreeOnFirst cs i) (map comparator_view (take k items)) → All (AgreeOnFirst cs i) (map comparator_view items)
 first-all cs i items k past h = subst (λ xs. All (AgreeOnFirst cs i) (map comparator_view xs)) (take_all k items past) h
+
+-- one of the comparators is the one at a place
+pub any-at : (P : Held → Type 0) (items : List Comparator) (k : ℕ) (d : Comparator) → k < length items → P (comparator_view (slice_index_or items k d))
+    → Any P (map comparator_view items)
+any-at P items k d within holds =
+    let c = comparator_view (slice_index_or items k d) in
+    (k, c, subst (λ n. k < n) (sym (length-map items comparator_view)) within, get_or-map comparator_view items k d c within, holds)

@@ -49,14 +49,18 @@ module _ (v : Parts) (none : v.3 ≡ []) where
 
   -- ---- `^`
 
-  pub caret-one : (a : ℕ) → is_at_most (a, 0, 0, [], []) v && is_below v (least_of (a + 1) 0 0) ≡ view_op op.Caret (op.Caret, a, None, None, []) v
-  caret-one a = grind (arith, nat_tests)
+  pub caret-one : (a : ℕ) (p : List ℕ) → is_at_most (a, 0, 0, p, []) v && is_below v (least_of (a + 1) 0 0) ≡ view_op op.Caret (op.Caret, a, None, None, p) v
+  caret-one a [] = grind (arith, nat_tests)
+  caret-one a (q ∷ qs) = grind (arith, nat_tests)
 
-  pub caret-two : (a b : ℕ) → is_at_most (suc a, b, 0, [], []) v && is_below v (least_of (suc a + 1) 0 0) ≡ view_op op.Caret (op.Caret, suc a, Some b, None, []) v
-  caret-two a b = grind (arith, nat_tests)
+  pub caret-two : (a b : ℕ) (p : List ℕ) → is_at_most (suc a, b, 0, p, []) v && is_below v (least_of (suc a + 1) 0 0)
+      ≡ view_op op.Caret (op.Caret, suc a, Some b, None, p) v
+  caret-two a b [] = grind (arith, nat_tests)
+  caret-two a b (q ∷ qs) = grind (arith, nat_tests)
 
-  pub caret-zero_two : (b : ℕ) → is_at_most (0, b, 0, [], []) v && is_below v (least_of 0 (b + 1) 0) ≡ view_op op.Caret (op.Caret, 0, Some b, None, []) v
-  caret-zero_two b = grind (arith, nat_tests)
+  pub caret-zero_two : (b : ℕ) (p : List ℕ) → is_at_most (0, b, 0, p, []) v && is_below v (least_of 0 (b + 1) 0) ≡ view_op op.Caret (op.Caret, 0, Some b, None, p) v
+  caret-zero_two b [] = grind (arith, nat_tests)
+  caret-zero_two b (q ∷ qs) = grind (arith, nat_tests)
 
   pub caret-full : (a b c : ℕ) (p : List ℕ) → is_at_most (suc a, b, c, p, []) v && is_below v (least_of (suc a + 1) 0 0)
       ≡ view_op op.Caret (op.Caret, suc a, Some b, Some c, p) v
@@ -75,11 +79,13 @@ module _ (v : Parts) (none : v.3 ≡ []) where
 
   -- ---- `~`
 
-  pub tilde-one : (a : ℕ) → is_at_most (a, 0, 0, [], []) v && is_below v (least_of (a + 1) 0 0) ≡ view_op op.Tilde (op.Tilde, a, None, None, []) v
-  tilde-one a = grind (arith, nat_tests)
+  pub tilde-one : (a : ℕ) (p : List ℕ) → is_at_most (a, 0, 0, p, []) v && is_below v (least_of (a + 1) 0 0) ≡ view_op op.Tilde (op.Tilde, a, None, None, p) v
+  tilde-one a [] = grind (arith, nat_tests)
+  tilde-one a (q ∷ qs) = grind (arith, nat_tests)
 
-  pub tilde-two : (a b : ℕ) → is_at_most (a, b, 0, [], []) v && is_below v (least_of a (b + 1) 0) ≡ view_op op.Tilde (op.Tilde, a, Some b, None, []) v
-  tilde-two a b = grind (arith, nat_tests)
+  pub tilde-two : (a b : ℕ) (p : List ℕ) → is_at_most (a, b, 0, p, []) v && is_below v (least_of a (b + 1) 0) ≡ view_op op.Tilde (op.Tilde, a, Some b, None, p) v
+  tilde-two a b [] = grind (arith, nat_tests)
+  tilde-two a b (q ∷ qs) = grind (arith, nat_tests)
 
   pub tilde-full : (a b c : ℕ) (p : List ℕ) → is_at_most (a, b, c, p, []) v && is_below v (least_of a (b + 1) 0)
       ≡ view_op op.Tilde (op.Tilde, a, Some b, Some c, p) v

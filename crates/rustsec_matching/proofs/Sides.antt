@@ -10,6 +10,7 @@ use Rattle.rustsec_versions.specs.Precedence.{is_at_most, is_below, precedence}
 use Rattle.rustsec_versions.specs.Requirement.{lower, side_of, upper}
 use Rattle.rustsec_matching.specs.Matching.{LeavesLast, first_patch}
 use Rattle.rustsec_matching.proofs.Releases as release
+use Rattle.rustsec_matching.proofs.Zeros.{same-end, same-start}
 
 -- the start and the comparator agree on each release
 abbrev pub IsSameStart : Held → Endpoint → Type 0
@@ -84,12 +85,6 @@ narrower-one : (a : ℕ) → IsNarrowerEnd (op.LessEq, a, None, None, []) (inclu
 narrower-one a = record { end = refl; not_held = grind (arith, nat_tests); is_matched = grind (arith, nat_tests) }
 
 -- ---- all starts and ends
-
-same-start : (s t : Endpoint) → lower s ≡ lower t → s ≡ t
-same-start s t h = cc h
-
-same-end : (s t : Endpoint) → upper s ≡ upper t → s ≡ t
-same-end s t h = cc h
 
 pub start-or : (c : Held) (s : Endpoint) → LeavesLast c → side_of c.0 c ≡ lower s → StartOr c s
 start-or (op.Greater, a, Some b, Some n, p) s last is =

@@ -1,25 +1,18 @@
 -- The interval of one comparator and Cargo's matching agree on each release if they agree on the first patch.
-use Rattle.std.proofs.Common.{◌≡◌, ◌∙◌, ℕ, suc, zero, Bool, List, [], Option, None, Some, false, true, arith, inl, inr, refl, subst, sym}
-use Rattle.std.specs.Prelude.{◌+◌, ◌&&◌, option_map}
+use Rattle.std.proofs.Common.{◌≡◌, ◌∙◌, ℕ, Bool, List, [], Option, None, Some, false, true, arith, inl, inr, refl, subst, sym}
+use Rattle.std.specs.Prelude.{◌&&◌}
 use Rattle.std.proofs.lemmas.Bool.Decides.{nat_tests}
 use Rattle.semver.specs.EvalViews.{view_op}
 use Rattle.semver.specs.declared.Op.TheVariants as op
 use Rattle.semver.specs.Parse.{Held, Parts}
-use Rattle.rustsec_values.specs.Reading.{only_if}
-use Rattle.rustsec_versions.specs.Interval.{Endpoint, Interval, holds, inclusive, is_after, is_before, unbounded}
+use Rattle.rustsec_versions.specs.Interval.{Endpoint, Interval, inclusive, is_after, is_before, unbounded}
 use Rattle.rustsec_versions.specs.Precedence.{is_at_most}
-use Rattle.rustsec_versions.specs.Requirement.{fits, least_of, named, of_one, up_to}
+use Rattle.rustsec_versions.specs.Requirement.{named, of_one}
 use Rattle.rustsec_matching.specs.Matching.{LeavesLast, first_patch}
 use Rattle.rustsec_matching.proofs.Releases as release
+use Rattle.rustsec_matching.proofs.Requirements.{AgreeOn, and-true, some-same}
 use Rattle.rustsec_matching.proofs.Sides.{EndOr, StartOr, end-or, start-or}
-
--- the interval and the comparator agree on a version
-abbrev pub AgreeOn : Held → Interval → Parts → Type 0
-AgreeOn c i v = holds i v ≡ view_op c.0 c v
-
-and-true : (a : Bool) → (a && true) ≡ a
-and-true true = refl
-and-true false = refl
+use Rattle.rustsec_matching.proofs.Zeros.{caret, tilde}
 
 opposite : {P : Type 0} (a b : Bool) → a ≡ b → a ≡ true → b ≡ false → P
 opposite a b same h k = absurd (cc (sym h ∙ (same ∙ k)))
@@ -43,62 +36,9 @@ exact-one : {P : Type 0} (a : ℕ) → is_at_most (a, 0, 0, [], []) (a, 0, 1, []
     ≡ view_op op.Exact (op.Exact, a, None, None, []) (a, 0, 1, [], []) → P
 exact-one a same = absurd (grind (arith, nat_tests))
 
--- an interval with an end that fits
-mapped : {A : Type 0} (f : A → Interval) (b : Bool) (x : A) (i : Interval) → option_map f (only_if b (Some x)) ≡ Some i → f x ≡ i
-mapped f true x i is = cc is
-mapped f false x i is = cc is
-
-some-same : (i j : Interval) → Some i ≡ Some j → i ≡ j
-some-same i j is = cc is
-
 module _ (i : Interval) (v : Parts) (none : v.3 ≡ []) where
   abbrev Same : Held → Interval → Type 0
   Same c j = AgreeOn c j v
-
-  -- the interval is the one that the operator gives
-  at-end : (c : Held) (e : Parts) (b : Bool) → option_map (up_to (named c)) (only_if b (Some e)) ≡ Some i → Same c (up_to (named c) e) → Same c i
-  at-end c e b is same = subst (λ j. Same c j) (mapped (up_to (named c)) b e i is) same
-
-  -- a comparator without a patch has an empty pre-release
-  plain : (c : List ℕ → Held) (e : Parts) (p : List ℕ) → p ≡ [] → Same (c []) (up_to (named (c [])) e) → Same (c p) (up_to (named (c p)) e)
-  plain c e p is same = subst (λ (q : List ℕ). Same (c q) (up_to (named (c q)) e)) (sym is) same
-
-  caret : (a : ℕ) (m n : Option ℕ) (p : List ℕ) → LeavesLast (op.Caret, a, m, n, p) → of_one op.Caret (op.Caret, a, m, n, p) ≡ Some i
-      → Same (op.Caret, a, m, n, p) i
-  caret a None (Some n) p last is = cc (last.patch refl)
-  caret (suc a) None None p last is =
-      at-end (op.Caret, suc a, None, None, p) (least_of (suc a + 1) 0 0) (fits (suc a + 1)) is
-      (plain (λ q. (op.Caret, suc a, None, None, q)) (least_of (suc a + 1) 0 0) p (last.pre refl) (release.caret-one v none (suc a)))
-  caret zero None None p last is =
-      at-end (op.Caret, 0, None, None, p) (least_of 1 0 0) (fits 1) is
-      (plain (λ q. (op.Caret, 0, None, None, q)) (least_of 1 0 0) p (last.pre refl) (release.caret-one v none 0))
-  caret (suc a) (Some b) None p last is =
-      at-end (op.Caret, suc a, Some b, None, p) (least_of (suc a + 1) 0 0) (fits (suc a + 1)) is
-      (plain (λ q. (op.Caret, suc a, Some b, None, q)) (least_of (suc a + 1) 0 0) p (last.pre refl) (release.caret-two v none a b))
-  caret zero (Some zero) None p last is =
-      at-end (op.Caret, 0, Some 0, None, p) (least_of 0 1 0) (fits 1) is
-      (plain (λ q. (op.Caret, 0, Some 0, None, q)) (least_of 0 1 0) p (last.pre refl) (release.caret-zero_two v none 0))
-  caret zero (Some (suc b)) None p last is =
-      at-end (op.Caret, 0, Some (suc b), None, p) (least_of 0 (suc b + 1) 0) (fits (suc b + 1)) is
-      (plain (λ q. (op.Caret, 0, Some (suc b), None, q)) (least_of 0 (suc b + 1) 0) p (last.pre refl) (release.caret-zero_two v none (suc b)))
-  caret (suc a) (Some b) (Some n) p last is =
-      at-end (op.Caret, suc a, Some b, Some n, p) (least_of (suc a + 1) 0 0) (fits (suc a + 1)) is (release.caret-full v none a b n p)
-  caret zero (Some (suc b)) (Some n) p last is =
-      at-end (op.Caret, 0, Some (suc b), Some n, p) (least_of 0 (suc b + 1) 0) (fits (suc b + 1)) is (release.caret-zero_full v none b n p)
-  caret zero (Some zero) (Some n) p last is =
-      at-end (op.Caret, 0, Some 0, Some n, p) (least_of 0 0 (n + 1)) (fits (n + 1)) is (release.caret-zeros_full v none n p)
-
-  tilde : (a : ℕ) (m n : Option ℕ) (p : List ℕ) → LeavesLast (op.Tilde, a, m, n, p) → of_one op.Tilde (op.Tilde, a, m, n, p) ≡ Some i
-      → Same (op.Tilde, a, m, n, p) i
-  tilde a None (Some n) p last is = cc (last.patch refl)
-  tilde a None None p last is =
-      at-end (op.Tilde, a, None, None, p) (least_of (a + 1) 0 0) (fits (a + 1)) is
-      (plain (λ q. (op.Tilde, a, None, None, q)) (least_of (a + 1) 0 0) p (last.pre refl) (release.tilde-one v none a))
-  tilde a (Some b) None p last is =
-      at-end (op.Tilde, a, Some b, None, p) (least_of a (b + 1) 0) (fits (b + 1)) is
-      (plain (λ q. (op.Tilde, a, Some b, None, q)) (least_of a (b + 1) 0) p (last.pre refl) (release.tilde-two v none a b))
-  tilde a (Some b) (Some n) p last is =
-      at-end (op.Tilde, a, Some b, Some n, p) (least_of a (b + 1) 0) (fits (b + 1)) is (release.tilde-full v none a b n p)
 
   abbrev point : Held → Interval
   point c = record { start = inclusive (named c); end = inclusive (named c) }
@@ -126,6 +66,6 @@ module _ (i : Interval) (v : Parts) (none : v.3 ≡ []) where
   one-agrees (op.LessEq, a, m, n, p) last is =
       given (op.LessEq, a, m, n, p) _ is (λ at. from-end (op.LessEq, a, m, n, p) _ (end-or (op.LessEq, a, m, n, p) _ last refl) at v none)
   one-agrees (op.Exact, a, m, n, p) last is = given (op.Exact, a, m, n, p) _ is (exact a m n p last)
-  one-agrees (op.Caret, a, m, n, p) last is = λ at. caret a m n p last is
-  one-agrees (op.Tilde, a, m, n, p) last is = λ at. tilde a m n p last is
+  one-agrees (op.Caret, a, m, n, p) last is = λ at. caret v none i a m n p is
+  one-agrees (op.Tilde, a, m, n, p) last is = λ at. tilde v none i a m n p is
   one-agrees (op.Wildcard, a, m, n, p) last is = cc is

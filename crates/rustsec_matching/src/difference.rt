@@ -1,17 +1,18 @@
 //! Finds a release that the interval of a requirement holds and Cargo's matching does not, or the other way round.
 
-ghost use Rattle.std.specs.Prelude.{◌≡◌, IfErr, IfOk, IfSome, None, Some};
-ghost use Rattle.std.specs.List.{All};
+ghost use Rattle.std.specs.Prelude.{◌≡◌, ◌∷◌, ℕ, [], IfErr, IfOk, IfSome, IsSomeAnd, List, None, Ok, Some, map, true};
+ghost use Rattle.std.specs.List.{All, Any};
 ghost use Rattle.semver.specs.EvalViews.{matches_views};
 ghost use Rattle.semver.specs.Identifiers.{comparator_view, parts_of};
-ghost use Rattle.semver.specs.Parse.{Parts};
-ghost use Rattle.rustsec_versions.specs.Failure.{IsRefusal};
+ghost use Rattle.semver.specs.Parse.{Held, Parts, req_of};
+ghost use Rattle.rustsec_error.specs.Failure.{IsRefusal};
 ghost use Rattle.rustsec_versions.specs.Interval.{Interval};
 ghost use Rattle.rustsec_versions.specs.Requirement.{interval_of};
 ghost use Rattle.rustsec_versions.specs.Views.{comparators_of};
-ghost use Rattle.rustsec_matching.specs.Matching.{Agree, IsDifference, IsRelease, LeavesLast, first_patch};
+ghost use Rattle.rustsec_matching.specs.Matching.{Agree, IsDifference, IsReadAlike, IsReadAs, IsRelease, IsWhole, LeavesLast, first_patch, is_greater, is_read_differently, with_zeros};
 
-use rustsec_versions::{ErrorKind, Result, UnaffectedRange};
+use rustsec_error::{ErrorKind, Result};
+use rustsec_versions::UnaffectedRange;
 use semver::{BuildMetadata, Comparator, Prerelease, Version, VersionReq};
 use std::alloc::Global;
 
@@ -51,6 +52,7 @@ fn difference_at(
     comparator: &Comparator,
 ) -> Option<Difference>
     ensures found { IfSome result (λ d. IsDifference (comparators_of requirement.now) interval.now (parts_of d.release) d.is_held) }
+    ensures first { IfSome result (λ d. parts_of d.release ≡ first_patch (comparator_view comparator.now)) }
     ensures none { result ≡ None → Agree (comparators_of requirement.now) interval.now (first_patch (comparator_view comparator.now)) }
 {
     let release = first_patch(comparator);
@@ -64,6 +66,7 @@ fn difference_at(
 /// Returns the first one of the comparators' first patches on which the interval and the matching differ.
 fn first_difference(requirement: &VersionReq, interval: &UnaffectedRange) -> Option<Difference>
     ensures found { IfSome result (λ d. IsDifference (comparators_of requirement.now) interval.now (parts_of d.release) d.is_held) }
+    ensures first { IfSome result (λ d. Any (λ c. parts_of d.release ≡ first_patch c) (comparators_of requirement.now)) }
     ensures none { result ≡ None → All (λ c. Agree (comparators_of requirement.now) interval.now (first_patch c)) (comparators_of requirement.now) }
 {
     for comparator in requirement.comparators.as_slice() {
@@ -76,7 +79,8 @@ fn first_difference(requirement: &VersionReq, interval: &UnaffectedRange) -> Opt
 
 /// Returns a release that the interval of a requirement holds and `VersionReq::matches` does not match, or the other way
 /// round, if any. Such a requirement does not mean here what it means to Cargo: `<= 2` ends at 2.0.0 here, while
-/// Cargo's matching takes each version of major number 2.
+/// Cargo's matching takes each version of major number 2. Only comparators with `>`, `<=` or `=` and without a patch
+/// number are read differently.
 ///
 /// # Errors
 ///
@@ -88,8 +92,33 @@ pub fn find_difference(alloc: Global, requirement: &VersionReq) -> Result<Option
     // If none is found, the interval and Cargo's matching agree on each release.
     ensures none { IfOk result (λ o. All LeavesLast (comparators_of requirement.now) → o ≡ None → (i : Interval)
         → interval_of (comparators_of requirement.now) ≡ Some i → (v : Parts) → IsRelease v → Agree (comparators_of requirement.now) i v) }
+
+    // What is found is the first patch of a comparator.
+    ensures first { IfOk result (λ o. IfSome o (λ d. Any (λ c. parts_of d.release ≡ first_patch c) (comparators_of requirement.now))) }
+
+    // A requirement is read as Cargo's matching reads it with zeros for the numbers that `>`, `>=`, `<`, `<=` and `=` leave out.
+    ensures zeros { IsReadAs (comparators_of requirement.now) (map with_zeros (comparators_of requirement.now)) }
+
+    // If all comparators give three numbers, Cargo's matching reads the requirement alike, and nothing is found.
+    ensures whole { All IsWhole (comparators_of requirement.now) → IsReadAs (comparators_of requirement.now) (comparators_of requirement.now) }
+    ensures whole_none { IfOk result (λ o. All IsWhole (comparators_of requirement.now) → o ≡ None) }
+
+    // So it does if a comparator leaves out its patch only after `>=`, `<`, `^` or `~`.
+    ensures alike { All LeavesLast (comparators_of requirement.now) → All IsReadAlike (comparators_of requirement.now)
+        → IsReadAs (comparators_of requirement.now) (comparators_of requirement.now) }
+    ensures alike_none { IfOk result (λ o. All LeavesLast (comparators_of requirement.now) → All IsReadAlike (comparators_of requirement.now) → o ≡ None) }
+
+    // One comparator of another operator without a patch is read differently; its first patch shows it, and is found.
+    ensures single { (c : Held) → comparators_of requirement.now ≡ c ∷ [] → LeavesLast c → is_read_differently c ≡ true → (i : Interval)
+        → interval_of (comparators_of requirement.now) ≡ Some i → IsDifference (comparators_of requirement.now) i (first_patch c) (is_greater c.0) }
+    ensures single_found { IfOk result (λ o. (c : Held) → comparators_of requirement.now ≡ c ∷ [] → LeavesLast c → is_read_differently c ≡ true
+        → IsSomeAnd o (λ d. (parts_of d.release ≡ first_patch c) × (d.is_held ≡ is_greater c.0))) }
+
+    // The comparators of a requirement that is read from a text leave out their last numbers alone.
+    ensures read { (text : List ℕ) → req_of text ≡ Ok (comparators_of requirement.now) → All LeavesLast (comparators_of requirement.now) }
     ensures err { IfErr result (IsRefusal ErrorKind.BadParam (interval_of (comparators_of requirement.now) ≡ None)) }
 {
     let interval = UnaffectedRange::from_req(alloc, requirement)?;
-    Ok(first_difference(requirement, &interval))
+    let found = first_difference(requirement, &interval);
+    Ok(found)
 }

@@ -2,7 +2,5 @@
 #![tactic(auto)]
 
 mod difference;
-#[cfg(test)]
-mod tests;
 
 pub use crate::difference::{Difference, find_difference};

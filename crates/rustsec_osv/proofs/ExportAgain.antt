@@ -17,7 +17,7 @@ use Rattle.rustsec_advisory.specs.Metadata.{IsMetadata}
 use Rattle.rustsec_advisory.specs.declared.advisory.Advisory.{Advisory}
 use Rattle.rustsec_advisory.specs.declared.affected.Affected.{Affected}
 use Rattle.rustsec_advisory.specs.declared.metadata.Metadata.{Metadata}
-use Rattle.rustsec_versions.specs.Failure.{Failure}
+use Rattle.rustsec_error.specs.Failure.{Failure}
 use Rattle.rustsec_osv.specs.DocumentAgain.{AreEventsValid, IfThere, IsAffectedAgain, IsAffectsAgain, IsDocumentAgain, IsIdAgain, IsRangeAgain, IsReferenceAgain, IsSeverityAgain}
 use Rattle.rustsec_osv.specs.DocumentEvents.{JsonRange}
 use Rattle.rustsec_osv.specs.Documents.{Document}

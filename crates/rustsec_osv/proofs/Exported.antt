@@ -6,9 +6,9 @@ use Rattle.rustsec_advisory.specs.FieldGroups.{kinds_of}
 use Rattle.rustsec_advisory.specs.declared.advisory.Advisory.{Advisory}
 use Rattle.rustsec_advisory.specs.declared.affected.Affected.{Affected}
 use Rattle.rustsec_advisory.specs.declared.metadata.Metadata.{Metadata}
-use Rattle.rustsec_versions.specs.Failure.{Failure, IsRefusal}
+use Rattle.rustsec_error.specs.Failure.{Failure, IsRefusal}
 use Rattle.rustsec_versions.specs.Lists.{Lists}
-use Rattle.rustsec_versions.specs.declared.error.ErrorKind.TheVariants as kind
+use Rattle.rustsec_error.specs.declared.error.ErrorKind.TheVariants as kind
 use Rattle.rustsec_versions.specs.AcceptedRanges.{HasUnboundedInterval}
 use Rattle.rustsec_osv.specs.DocumentAgain.{AreEventsValid, IfThere, IsRangeAgain}
 use Rattle.rustsec_osv.specs.DocumentEvents.{Event, JsonRange}

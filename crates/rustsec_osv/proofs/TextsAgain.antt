@@ -5,7 +5,7 @@ use Rattle.std.specs.Prelude.{unwrap_or}
 use Rattle.std.specs.Str.{bytes_eq}
 use Rattle.rustsec_values.specs.ClosedTables.{value_named}
 use Rattle.rustsec_values.specs.Reading.{◌>>=◌, only_if}
-use Rattle.rustsec_lock.specs.Cvss.{base_of, behind, cvss_of, cvss_text, metric, metrics_of, or_else, parts_of}
+use Rattle.rustsec_lock.specs.Cvss.{base_of, after_prefix, cvss_of, cvss_text, metric, metrics_of, or_else, parts_of}
 use Rattle.rustsec_lock.specs.Metrics.{attack_complexity_letter, attack_complexity_values, attack_vector_letter, attack_vector_values, availability_letter, availability_values, confidentiality_letter, confidentiality_values, integrity_letter, integrity_values, privileges_required_letter, privileges_required_values, scope_letter, scope_values, user_interaction_letter, user_interaction_values}
 use Rattle.rustsec_lock.specs.declared.cvss.Cvss.{Cvss}
 use Rattle.rustsec_lock.specs.declared.cvss.Cvss.TheVariants as cvss
@@ -102,5 +102,5 @@ cvss-by None None (Some r) t v h k e w = subst (λ (u : Cvss). cvss_of (cvss_tex
 
 pub cvss-again : (t : List ℕ) (v : Cvss) → cvss_of t ≡ Some v → cvss_of (cvss_text v) ≡ Some v
 cvss-again t v e =
-    cvss-by (behind (codes "CVSS:3.0/") t >>= base_of 0) (behind (codes "CVSS:3.1/") t >>= base_of 1) (behind (codes "CVSS:4.0/") t) t v
-    (base-minor 0 (behind (codes "CVSS:3.0/") t)) (base-minor 1 (behind (codes "CVSS:3.1/") t)) e e
+    cvss-by (after_prefix (codes "CVSS:3.0/") t >>= base_of 0) (after_prefix (codes "CVSS:3.1/") t >>= base_of 1) (after_prefix (codes "CVSS:4.0/") t) t v
+    (base-minor 0 (after_prefix (codes "CVSS:3.0/") t)) (base-minor 1 (after_prefix (codes "CVSS:3.1/") t)) e e

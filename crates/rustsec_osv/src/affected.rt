@@ -1,14 +1,14 @@
 //! The affected packages of an OSV document (OSV schema, `affected[]`).
 
 ghost use Rattle.std.specs.Prelude.{◌≡◌, IfErr, IfOk};
-ghost use Rattle.rustsec_versions.specs.Failure.{IsMemory};
+ghost use Rattle.rustsec_error.specs.Failure.{IsMemory};
 
 use crate::ranges::OsvJsonRange;
+use rustsec_error::Result;
 use rustsec_lock::Cvss;
 use rustsec_lock::platforms::{Arch, OS};
 use rustsec_texts::{Category, FunctionPath, Informational};
 use rustsec_values::{ExactClone, Items, Text};
-use rustsec_versions::Result;
 use std::alloc::{AllocError, Global};
 
 /// A package (OSV schema, `affected[].package`).

@@ -1,14 +1,14 @@
 //! OSV documents (OSV schema, top level).
 
 ghost use Rattle.std.specs.Prelude.{◌≡◌, IfErr, IfOk, None, is_some};
-ghost use Rattle.rustsec_versions.specs.Failure.{IsMemory};
+ghost use Rattle.rustsec_error.specs.Failure.{IsMemory};
 
 use crate::affected::OsvAffected;
 use crate::reference::OsvReference;
 use crate::severity::OsvSeverity;
+use rustsec_error::Result;
 use rustsec_texts::Id;
 use rustsec_values::{ExactClone, Items, Text};
-use rustsec_versions::Result;
 use semver::Version;
 use std::alloc::{AllocError, Global};
 use std::marker::Model;

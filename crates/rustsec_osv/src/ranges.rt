@@ -1,11 +1,11 @@
 //! Ranges of affected versions (OSV schema, `affected[].ranges[]`).
 
 ghost use Rattle.std.specs.Prelude.{◌≡◌, IfErr, IfOk};
-ghost use Rattle.rustsec_versions.specs.Failure.{IsMemory};
+ghost use Rattle.rustsec_error.specs.Failure.{IsMemory};
 
 use crate::timeline::OsvTimelineEvent;
+use rustsec_error::Result;
 use rustsec_values::{ExactClone, Text};
-use rustsec_versions::Result;
 use std::alloc::{AllocError, Global};
 use std::marker::Model;
 

@@ -1,11 +1,11 @@
 //! The severity of a vulnerability (OSV schema, `severity`).
 
 ghost use Rattle.std.specs.Prelude.{◌≡◌, IfErr, IfOk};
-ghost use Rattle.rustsec_versions.specs.Failure.{IsMemory};
+ghost use Rattle.rustsec_error.specs.Failure.{IsMemory};
 
+use rustsec_error::Result;
 use rustsec_lock::Base;
 use rustsec_values::{ExactClone, Text};
-use rustsec_versions::Result;
 use std::alloc::{AllocError, Global};
 
 /// A CVSS vector, by its version.

@@ -3,6 +3,7 @@ use Rattle.std.proofs.Common.{◌≡◌, ◌∙◌, ℕ, All, Bool, false, true,
 use Rattle.std.proofs.lemmas.List.Elements.{All-cons, All-contains, All-nil}
 use Rattle.std.specs.List.{flat_map, list_any}
 use Rattle.semver.specs.Parse.{Parts}
+use Rattle.rustsec_folders.proofs.Once.{pairwise-once}
 use Rattle.rustsec_folders.specs.Listed.{Pairwise}
 use Rattle.rustsec_advisory.specs.declared.advisory.Advisory.{Advisory}
 use Rattle.rustsec_osv.specs.Documents.{Document}
@@ -36,21 +37,9 @@ part-once c modified a p q (without h none is) (left_out k also) = both _ k h
 part-once c modified a p q (without h none is) (exported d k document also) = document-or-none a modified d document none
 part-once c modified a p q (without h none is) (without k other also) = is ∙ sym also
 
-pairwise-one : {A B : Type 0} (R : A → B → Type 0) → ((x : A) (y z : B) → R x y → R x z → y ≡ z) → (xs : List A) (ys zs : List B) → Pairwise R xs ys
-    → Pairwise R xs zs → ys ≡ zs
-pairwise-one R one [] [] [] h k = refl
-pairwise-one R one [] [] (z ∷ zs) h k = absurd k
-pairwise-one R one [] (y ∷ ys) zs h k = absurd h
-pairwise-one R one (x ∷ xs) [] zs h k = absurd h
-pairwise-one R one (x ∷ xs) (y ∷ ys) [] h k = absurd k
-pairwise-one R one (x ∷ xs) (y ∷ ys) (z ∷ zs) h k =
-    let first = one x y z h.0 k.0 in
-    let rest = pairwise-one R one xs ys zs h.1 k.1 in
-    λ i. first i ∷ rest i
-
 parts-one : (c : Choice) (modified : List ℕ) (xs : List Advisory) (ps qs : List Part) → Pairwise (IsPart c modified) xs ps → Pairwise (IsPart c modified) xs qs
     → ps ≡ qs
-parts-one c modified xs ps qs h k = pairwise-one (IsPart c modified) (part-once c modified) xs ps qs h k
+parts-one c modified xs ps qs h k = pairwise-once (IsPart c modified) (part-once c modified) xs ps qs h k
 
 pub text-once : (c : Choice) (modified : List ℕ) (xs : List Advisory) (text other : List ℕ) (missing also : Bool) → AreParts c modified xs text missing
     → AreParts c modified xs other also → (text ≡ other) × (missing ≡ also)
@@ -66,7 +55,7 @@ own-once a d e h k = document-once a (noon a.metadata.date) d e h k
 pub answer-once : (name : List ℕ) (version : Parts) (xs : List Advisory) (text other : List ℕ) → IsAnswerOf name version xs text
     → IsAnswerOf name version xs other → text ≡ other
 answer-once name version xs text other (ds, (each, is)) (es, (again, also)) =
-    is ∙ (ap answer_line (pairwise-one IsOwnDocument own-once (affecting name version xs) ds es each again) ∙ sym also)
+    is ∙ (ap answer_line (pairwise-once IsOwnDocument own-once (affecting name version xs) ds es each again) ∙ sym also)
 
 all-have : (xs : List Advisory) (ds : List Document) → AreDocuments xs ds → All (λ (a : Advisory). ¬ HasNoDocument a) xs
 all-have [] [] h = All-nil (λ (a : Advisory). ¬ HasNoDocument a)

@@ -4,7 +4,7 @@ use Rattle.std.specs.Prelude.{IfOk, Result, codes, filter}
 use Rattle.std.specs.Str.{bytes_eq}
 use Rattle.std.proofs.lemmas.Slice.Eq.{bytes_eq-Decides}
 use Rattle.semver.specs.Parse.{Parts}
-use Rattle.rustsec_versions.specs.Failure.{Failure}
+use Rattle.rustsec_error.specs.Failure.{Failure}
 use Rattle.rustsec_versions.specs.Lists.{affected}
 use Rattle.rustsec_versions.specs.Precedence.{IsVersion}
 use Rattle.rustsec_versions.proofs.Rising.{Rises}

@@ -7,13 +7,13 @@ ghost use Rattle.rustsec_osv.specs.References.{references_of};
 ghost use Rattle.rustsec_osv_evaluation.specs.Document.{IsAnswer};
 ghost use Rattle.rustsec_osv_evaluation.specs.Pairs.{HaveOwnVersions, normalized_document};
 ghost use Rattle.rustsec_versions.specs.AcceptedRanges.{HasUnboundedInterval};
-ghost use Rattle.rustsec_versions.specs.Failure.{IsRefusal};
+ghost use Rattle.rustsec_error.specs.Failure.{IsRefusal};
 ghost use Rattle.rustsec_versions.specs.Lists.{affected};
 ghost use Rattle.rustsec_versions.specs.Precedence.{IsVersion};
 
 use rustsec_advisory::Advisory;
+use rustsec_error::{ErrorKind, Result};
 use rustsec_osv::OsvAdvisory;
-use rustsec_versions::{ErrorKind, Result};
 use std::alloc::Global;
 
 /// Returns the OSV document of an advisory, as `OsvAdvisory::from_rustsec`. `modified` is when it was last changed, and

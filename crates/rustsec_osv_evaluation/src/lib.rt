@@ -6,8 +6,6 @@ mod event;
 mod export;
 mod pairs;
 mod range;
-#[cfg(test)]
-mod tests;
 
 pub use crate::document::{Question, is_affected};
 pub use crate::event::Event;

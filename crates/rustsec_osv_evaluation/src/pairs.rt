@@ -3,12 +3,12 @@
 ghost use Rattle.std.specs.Prelude.{◌≡◌, IfErr, IfOk, map, option_map};
 ghost use Rattle.rustsec_osv.specs.DocumentEvents.{event_of};
 ghost use Rattle.rustsec_osv_evaluation.specs.Pairs.{are_at_one, at, normalized, normalized_document, normalized_member, normalized_range};
-ghost use Rattle.rustsec_versions.specs.Failure.{IsMemory};
+ghost use Rattle.rustsec_error.specs.Failure.{IsMemory};
 ghost use Rattle.semver.specs.Identifiers.{parts_of};
 
+use rustsec_error::Result;
 use rustsec_osv::{OsvAdvisory, OsvAffected, OsvJsonRange, OsvTimelineEvent};
 use rustsec_values::Items;
-use rustsec_versions::Result;
 use semver::Version;
 use std::alloc::{AllocError, Global};
 use std::mem;

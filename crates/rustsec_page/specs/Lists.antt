@@ -3,9 +3,10 @@ use Rattle.std.specs.Prelude.{◌==◌, ◌++◌, ℕ, if◌then◌else◌, List
 use Rattle.std.specs.List.{flat_map}
 use Rattle.rustsec_lock.specs.Package.{PackageValue}
 use Rattle.rustsec_texts.specs.Ids.{IdValue}
+use Rattle.rustsec_policy.specs.Entries.{entry_with}
 use Rattle.rustsec_policy.specs.declared.ignored.Ignored.{Ignored}
 use Rattle.rustsec_check.specs.Values.{IgnoredValue, YankedValue}
-use Rattle.rustsec_check_output.specs.CheckTree.{WrittenValue, entry_with, reason_of, until_of}
+use Rattle.rustsec_check_output.specs.CheckTree.{WrittenValue, reason_of, until_of}
 use Rattle.rustsec_page.specs.Links.{denied_tag, linked_id, old_tag, package_code, path_rows}
 use Rattle.rustsec_page.specs.Pieces.{Piece, content, item, section}
 use Rattle.rustsec_page.specs.declared.section.Section.{Section}

@@ -2,11 +2,12 @@
 
 ghost use Rattle.std.specs.Prelude.{◌≡◌, IfErr, IfOk};
 ghost use Rattle.rustsec_versions.specs.AcceptedRanges.{AreRangesOf};
-ghost use Rattle.rustsec_versions.specs.Failure.{IsMemory};
+ghost use Rattle.rustsec_error.specs.Failure.{IsMemory};
 ghost use Rattle.rustsec_page.specs.Findings.{AreDrawn};
 
 use rustsec_check::Finding;
-use rustsec_versions::{OsvRange, Result, Versions, ranges_for_advisory};
+use rustsec_error::Result;
+use rustsec_versions::{OsvRange, Versions, ranges_for_advisory};
 use std::alloc::{AllocError, Global};
 use std::marker::Model;
 

@@ -3,7 +3,7 @@
 ghost use Rattle.std.specs.Prelude.{◌≡◌, ◌++◌, OnOk, map, option_map, string_bytes};
 ghost use Rattle.std.specs.List.{flat_map};
 ghost use Rattle.std.specs.Option.{option_copied};
-ghost use Rattle.rustsec_check_output.specs.CheckTree.{entry_with, reason_of, until_of};
+ghost use Rattle.rustsec_check_output.specs.CheckTree.{reason_of, until_of};
 ghost use Rattle.rustsec_page.specs.Lists.{id_list, id_row, ids, ignored, ignored_list, ignored_row, ignored_with, lists, note_list, note_row, notes, reason_words, until_words, yanked, yanked_list, yanked_row, yanked_rows};
 ghost use Rattle.rustsec_page.specs.Pieces.{text_of};
 
@@ -14,7 +14,7 @@ use crate::section::Section;
 use rustsec_check::{IgnoredPair, Yanked};
 use rustsec_check_output::Written;
 use rustsec_lock::package::Package;
-use rustsec_policy::Ignored;
+use rustsec_policy::{Ignored, entry_with};
 use rustsec_texts::Id;
 use rustsec_values::Text;
 use std::alloc::{AllocError, Global};
@@ -126,13 +126,6 @@ fn push_reason(text: &mut String, entry: Option<&Ignored>) -> Result<(), AllocEr
         push_content(text, reason.as_str())?;
     }
     Ok(())
-}
-
-/// Returns the first entry that has an ID.
-fn entry_with<'a>(entries: &'a [Ignored], id: &Id) -> Option<&'a Ignored>
-    ensures { option_copied result ≡ entry_with entries.now id.now }
-{
-    entries.iter().find(|entry| entry.id == *id)
 }
 
 /// Appends an ignored pair, whose advisory this entry ignores.

@@ -36,8 +36,16 @@ abbrev pub rest_of : Read (List ℕ) → List ℕ
 rest_of None = []
 rest_of (Some r) = r.1
 
--- the text after its first token: a string, or else one byte. Other characters than those of ASCII begin no token, so
--- that the text after them is empty.
+-- the byte order mark (RFC 3629, section 6)
+abbrev pub mark : List ℕ
+mark = 0xEF ∷ 0xBB ∷ 0xBF ∷ []
+
+-- a text without a byte order mark at its front
+abbrev pub skip_mark : List ℕ → List ℕ
+skip_mark text = if starts_with nat_eq text mark then drop (length mark) text else text
+
+-- the text after its first token: a string, or else one byte. NUL and characters outside of ASCII begin no token, so that
+-- the text after them is empty.
 unfoldable pub after_token : List ℕ → List ℕ
 after_token text =
     if starts_string text then rest_of (quoted text)
@@ -68,6 +76,10 @@ headers (suc n) p text =
     if length text == 0 then []
     else header_at p text ++ headers n (place_after p (up_to (next_token text) text)) (next_token text)
 
--- the places of the headers of packages, in order
-unfoldable pub package_places : List ℕ → List Place
-package_places text = headers (length text) (place_after beginning (up_to (skip_blank text) text)) (skip_blank text)
+-- the places of the headers of a document, in order
+unfoldable pub places_of : List ℕ → List Place
+places_of document = headers (length document) (place_after beginning (up_to (skip_blank document) document)) (skip_blank document)
+
+-- the places of the headers of packages, in order. A byte order mark takes no column.
+abbrev pub package_places : List ℕ → List Place
+package_places text = places_of (skip_mark text)

@@ -26,6 +26,14 @@ const ROWS: &[Row] = &[
         places: &[Place { line: 1, column: 1 }, Place { line: 4, column: 1 }],
     },
     Row {
+        text: "\u{feff}[[package]]\nname = \"a\"\n",
+        places: &[Place { line: 1, column: 1 }],
+    },
+    Row {
+        text: "\u{feff}version = 4\n [[package]]\n",
+        places: &[Place { line: 2, column: 2 }],
+    },
+    Row {
         text: "# [[package]]\nversion = 4 # [[package]] \u{e9}\n\n  [[package]] # one\n",
         places: &[Place { line: 4, column: 3 }],
     },

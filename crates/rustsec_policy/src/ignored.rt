@@ -5,15 +5,15 @@ ghost use Rattle.std.specs.List.{filter_map};
 ghost use Rattle.toml.specs.View.{array_view, table_view, view};
 ghost use Rattle.rustsec_toml.specs.Fields.{list_of, required, text};
 ghost use Rattle.rustsec_values.specs.Reading.{read_all};
-ghost use Rattle.rustsec_versions.specs.Failure.{IsOfKind, IsRefusal};
+ghost use Rattle.rustsec_error.specs.Failure.{IsOfKind, IsRefusal};
 ghost use Rattle.rustsec_policy.specs.Policies.{counts_until, id_on, ids_on, ignored_in, ignored_of, known_id};
 
 use crate::keys::{IgnoredKeys, expect_keys};
 use crate::nearest::{asking, with_nearest};
+use rustsec_error::{Error, ErrorKind, Result, refused_text};
 use rustsec_texts::{Date, Id};
 use rustsec_toml::{Section, TablePlace};
 use rustsec_values::{Items, Text};
-use rustsec_versions::{Error, ErrorKind, Result, refused_text};
 use std::alloc::Global;
 use toml::value::Array;
 use toml::{Table, Value};

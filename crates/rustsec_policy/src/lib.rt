@@ -12,8 +12,6 @@ mod places;
 mod policy;
 mod refused;
 mod sections;
-#[cfg(test)]
-mod tests;
 mod threshold;
 mod unused;
 mod words;

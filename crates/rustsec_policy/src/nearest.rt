@@ -1,11 +1,11 @@
 //! The known word that is nearest to an unknown one, for messages.
 
 ghost use Rattle.std.specs.Prelude.{◌≡◌, IfOk, map, option_map};
-ghost use Rattle.rustsec_versions.specs.Failure.{IsMemory, IsOfKind};
+ghost use Rattle.rustsec_error.specs.Failure.{IsMemory, IsOfKind};
 ghost use Rattle.rustsec_policy.specs.Nearest.{first_at, nearest};
 
+use rustsec_error::{Error, ErrorKind};
 use rustsec_values::{Named, beginning_of};
-use rustsec_versions::{Error, ErrorKind};
 use std::alloc::{AllocError, Global};
 use strsim::osa_distance;
 

@@ -1,11 +1,11 @@
 //! The places in a policy file at which it is refused: lines and columns, from 1 on. A column counts characters.
 
-ghost use Rattle.rustsec_versions.specs.Failure.{IsMemory, IsOfKind};
+ghost use Rattle.rustsec_error.specs.Failure.{IsMemory, IsOfKind};
 
 use crate::refused::Refused;
+use rustsec_error::{Error, refused_at};
 use rustsec_places::Place;
 use rustsec_toml::{element_at, key_at};
-use rustsec_versions::{Error, refused_at};
 use std::alloc::Global;
 
 /// Returns the name of a table without its brackets, or `None` for the table of the whole document.

@@ -2,8 +2,8 @@
 
 ghost use Rattle.std.specs.Prelude.{◌≡◌, Err, IfErr, IfOk, Ok};
 
+use rustsec_error::{Error, Result};
 use rustsec_toml::Section;
-use rustsec_versions::{Error, Result};
 
 /// A refusal, and the key that it is about.
 #[derive(Drop)]

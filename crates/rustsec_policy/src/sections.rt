@@ -5,7 +5,7 @@ ghost use Rattle.toml.specs.View.{table_view};
 ghost use Rattle.rustsec_lock.specs.Platforms.{arch_of, os_of};
 ghost use Rattle.rustsec_texts.specs.Informational.{informational_of};
 ghost use Rattle.rustsec_toml.specs.Fields.{defaulted, every, optional, text};
-ghost use Rattle.rustsec_versions.specs.Failure.{IsMemory, IsOfKind, IsRefusal};
+ghost use Rattle.rustsec_error.specs.Failure.{IsMemory, IsOfKind, IsRefusal};
 ghost use Rattle.rustsec_policy.specs.Policies.{advisories_in, ids_on, ignored_of, no_advisories, no_output, no_target, output_in, target_in, words_of};
 ghost use Rattle.rustsec_policy.specs.Words.{severity_named};
 
@@ -16,12 +16,12 @@ use crate::nearest::with_nearest_name;
 use crate::refused::{Read, Refused, at_key};
 use crate::threshold::Threshold;
 use crate::words::{Denied, OutputFormat};
+use rustsec_error::{Error, ErrorKind, FromText, Result};
 use rustsec_lock::Severity;
 use rustsec_lock::platforms::{Arch, OS};
 use rustsec_texts::{Date, Id, Informational};
 use rustsec_toml::{Section, TablePlace};
 use rustsec_values::{Items, Named, value_named};
-use rustsec_versions::{Error, ErrorKind, FromText, Result};
 use std::alloc::Global;
 use toml::{Table, Value};
 

@@ -1,12 +1,12 @@
 //! The words of a policy file.
 
 ghost use Rattle.std.specs.Prelude.{◌≡◌, IfErr, IfOk, Some, None};
-ghost use Rattle.rustsec_versions.specs.Failure.{IsRefusal};
+ghost use Rattle.rustsec_error.specs.Failure.{IsRefusal};
 ghost use Rattle.rustsec_policy.specs.Words.{denied_name, denied_of, denied_words, format_name, format_of, formats, package_source_name, package_source_of, package_sources};
 
 use crate::nearest::with_nearest_name;
+use rustsec_error::{ErrorKind, FromText, Result, refused_text};
 use rustsec_values::{ExactClone, ExactEq, Named, value_named};
-use rustsec_versions::{ErrorKind, FromText, Result, refused_text};
 use std::alloc::Global;
 
 /// What fails an audit beside vulnerabilities.

@@ -1,8 +1,8 @@
 -- What holds by the answers that folders allow later holds by those that they allowed before, where these are the same.
 use Rattle.std.proofs.Common.{ℕ, List, Option, None, Some, inl, inr}
-use Rattle.rustsec_versions.specs.Failure.{Failure}
-use Rattle.rustsec_versions.specs.declared.error.ErrorKind.TheVariants as kind
-use Rattle.rustsec_versions.proofs.Refusals.{refused_by}
+use Rattle.rustsec_error.specs.Failure.{Failure}
+use Rattle.rustsec_error.specs.declared.error.ErrorKind.TheVariants as kind
+use Rattle.rustsec_error.proofs.Refusals.{refused_by}
 use Rattle.rustsec_folders.specs.Allowed.{Allowed, AllowSame}
 use Rattle.rustsec_folders.specs.Listed.{Listed, Paths, crates_of, rust_of}
 use Rattle.rustsec_folders.proofs.Same.{collection-before, fails-at-file-before, fails-below-before, files-before, there-before}

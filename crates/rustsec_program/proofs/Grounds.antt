@@ -1,9 +1,9 @@
 -- From a plan, and what is made by it over folders that allow the same as before, to outputs and refusals of commands.
 use Rattle.std.proofs.Common.{◌≡◌, ◌⊎◌, ◌∙◌, ℕ, List, Option, None, ap, inl, inr, sym, subst, true, false}
 use Rattle.std.specs.Str.{is_utf8}
-use Rattle.rustsec_versions.specs.Failure.{Failure, IsRefusal}
-use Rattle.rustsec_versions.specs.declared.error.ErrorKind.TheVariants as kind
-use Rattle.rustsec_versions.proofs.Refusals.{refused_by}
+use Rattle.rustsec_error.specs.Failure.{Failure, IsRefusal}
+use Rattle.rustsec_error.specs.declared.error.ErrorKind.TheVariants as kind
+use Rattle.rustsec_error.proofs.Refusals.{refused_by}
 use Rattle.rustsec_folders.specs.Allowed.{Allowed, AllowSame}
 use Rattle.rustsec_folders.proofs.Lists.{pairwise-weaker}
 use Rattle.rustsec_advisory.specs.declared.advisory.Advisory.{Advisory}

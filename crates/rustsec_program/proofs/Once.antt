@@ -2,8 +2,8 @@
 use Rattle.std.proofs.Common.{◌≡◌, ◌≢◌, ◌∙◌, ℕ, List, [], ◌∷◌, Option, None, Some, true, ap, inl, inr, refl, subst, sym}
 use Rattle.std.specs.Prelude.{flat_map}
 use Rattle.std.specs.Str.{is_utf8}
-use Rattle.rustsec_versions.specs.Failure.{Failure}
-use Rattle.rustsec_versions.specs.declared.error.ErrorKind.TheVariants as kind
+use Rattle.rustsec_error.specs.Failure.{Failure}
+use Rattle.rustsec_error.specs.declared.error.ErrorKind.TheVariants as kind
 use Rattle.rustsec_folders.specs.Allowed.{Allowed, AnswersOnce}
 use Rattle.rustsec_folders.specs.Listed.{Pairwise}
 use Rattle.rustsec_lock.specs.Lockfile.{AreValid}

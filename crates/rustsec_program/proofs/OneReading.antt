@@ -7,9 +7,9 @@ use Rattle.toml.specs.Parse.{parse_document}
 use Rattle.std.specs.Prelude.{codes}
 use Rattle.rustsec_values.specs.Reading.{◌>>=◌, read_all}
 use Rattle.rustsec_toml.specs.Fields.{every, list_of, value_or}
-use Rattle.rustsec_versions.specs.Failure.{Failure, IsMemory, IsRefusal}
-use Rattle.rustsec_versions.specs.declared.error.ErrorKind.{ErrorKind}
-use Rattle.rustsec_versions.specs.declared.error.ErrorKind.TheVariants as kind
+use Rattle.rustsec_error.specs.Failure.{Failure, IsMemory, IsRefusal}
+use Rattle.rustsec_error.specs.declared.error.ErrorKind.{ErrorKind}
+use Rattle.rustsec_error.specs.declared.error.ErrorKind.TheVariants as kind
 use Rattle.rustsec_folders.specs.Allowed.{Allowed, AnswersOnce}
 use Rattle.rustsec_folders.proofs.Once.{read-or-not, text-once}
 use Rattle.rustsec_lock.specs.Lockfile.{AreValid, IsLockfileAt, IsLockfileRefusal, lockfile_of, package_of, packages_of}

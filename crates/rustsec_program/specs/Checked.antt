@@ -1,8 +1,8 @@
 -- What is written of the check of a lockfile.
 use Rattle.std.specs.Prelude.{◌≡◌, ◌≢◌, ◌⊎◌, ◌==◌, ◌&&◌, ◌||◌, ◌++◌, not, ℕ, Bool, true, false, List, [], Option, None, Some, if◌then◌else◌, length}
 use Rattle.rustsec_folders.specs.Allowed.{Allowed}
-use Rattle.rustsec_versions.specs.Failure.{Failure, IsRefusal}
-use Rattle.rustsec_versions.specs.declared.error.ErrorKind.TheVariants as kind
+use Rattle.rustsec_error.specs.Failure.{Failure, IsRefusal}
+use Rattle.rustsec_error.specs.declared.error.ErrorKind.TheVariants as kind
 use Rattle.rustsec_advisory.specs.declared.advisory.Advisory.{Advisory}
 use Rattle.rustsec_check.specs.Checks.{IsCheckOf}
 use Rattle.rustsec_check.specs.Findings.{fails}

@@ -1,8 +1,8 @@
 -- The output of `explain`.
 use Rattle.std.specs.Prelude.{◌≡◌, ◌≢◌, ◌⊎◌, ℕ, List, Option, None, Some}
 use Rattle.rustsec_folders.specs.Allowed.{Allowed}
-use Rattle.rustsec_versions.specs.Failure.{Failure}
-use Rattle.rustsec_versions.specs.declared.error.ErrorKind.TheVariants as kind
+use Rattle.rustsec_error.specs.Failure.{Failure}
+use Rattle.rustsec_error.specs.declared.error.ErrorKind.TheVariants as kind
 use Rattle.rustsec_lock.specs.Lockfile.{IsLockfileAt, IsLockfileRefusal}
 use Rattle.rustsec_lock.specs.Package.{PackageValue}
 use Rattle.rustsec_texts.specs.Ids.{IdValue}

@@ -3,8 +3,8 @@ use Rattle.std.specs.Prelude.{◌≡◌, ◌⊎◌, ◌++◌, ℕ, Bool, true, f
 use Rattle.rustsec_values.specs.ClosedTables.{value_named}
 use Rattle.rustsec_values.specs.Reading.{◌>>=◌, read_all, read_optional}
 use Rattle.rustsec_folders.specs.Allowed.{Allowed}
-use Rattle.rustsec_versions.specs.Failure.{Failure, IsRefusal}
-use Rattle.rustsec_versions.specs.declared.error.ErrorKind.TheVariants as kind
+use Rattle.rustsec_error.specs.Failure.{Failure, IsRefusal}
+use Rattle.rustsec_error.specs.declared.error.ErrorKind.TheVariants as kind
 use Rattle.rustsec_lock.specs.Platforms.{arch_of, os_of}
 use Rattle.rustsec_texts.specs.Dates.{date_of}
 use Rattle.rustsec_texts.specs.Ids.{IdValue, id_of}

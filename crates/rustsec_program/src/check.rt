@@ -15,8 +15,8 @@ use crate::output::{self, Output, refusal};
 use crate::plan::Plan;
 use rustsec_commands::Paths;
 use rustsec_database::Database;
+use rustsec_error::Result;
 use rustsec_folders::Folders;
-use rustsec_versions::Result;
 use std::alloc::{AllocError, Global};
 
 /// Opens the database and checks the lockfile by a plan.

@@ -3,7 +3,7 @@
 ghost use Rattle.std.specs.Prelude.{◌≡◌, IfErr, IfOk, option_map, string_bytes, true};
 ghost use Rattle.std.specs.Option.{option_copied};
 ghost use Rattle.rustsec_folders.specs.Allowed.{AllowSame};
-ghost use Rattle.rustsec_versions.specs.Failure.{IsMemory, IsOfKind, IsRefusal};
+ghost use Rattle.rustsec_error.specs.Failure.{IsMemory, IsOfKind, IsRefusal};
 ghost use Rattle.rustsec_check.specs.Subjects.{subject_view};
 ghost use Rattle.rustsec_program.specs.Checked.{AreYankedIf, FoundValue, IsCheckedOutput, IsCheckedRefusal, IsFound, IsLockfileOutput, IsOutputFor, IsWrittenText, is_empty, places_of, some_yanked_fail, status_of, subject_of};
 ghost use Rattle.rustsec_program.specs.Places.{places_view};
@@ -19,13 +19,13 @@ use crate::wanted::Wanted;
 use rustsec_check::{Check, Subject, Yanked, check, yanked_fail, yanked_packages};
 use rustsec_check_output::{Written, check_line, check_text, many_line};
 use rustsec_database::Database;
+use rustsec_error::{Error, ErrorKind, Result};
 use rustsec_folders::Folders;
 use rustsec_index::YankedPackages;
 use rustsec_markdown::markdown_text;
 use rustsec_page::page_text;
 use rustsec_places::package_places;
 use rustsec_sarif::sarif_text;
-use rustsec_versions::{Error, ErrorKind, Result};
 use std::alloc::Global;
 use std::marker::Model;
 

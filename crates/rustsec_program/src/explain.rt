@@ -9,7 +9,7 @@ ghost use Rattle.rustsec_folders.specs.Allowed.{AllowSame};
 ghost use Rattle.rustsec_lock.specs.Lockfile.{IsLockfileAt, IsLockfileRefusal};
 ghost use Rattle.rustsec_lock.specs.Package.{PackageValue};
 ghost use Rattle.rustsec_policy.specs.Policies.{known_id};
-ghost use Rattle.rustsec_versions.specs.Failure.{IsMemory};
+ghost use Rattle.rustsec_error.specs.Failure.{IsMemory};
 ghost use Rattle.rustsec_program.specs.Explain.{IsExplainOutput, IsExplainRefusal, IsExplained, pairs_of, pairs_output, pairs_text, rules_of};
 
 use crate::checked::Ground;
@@ -20,12 +20,12 @@ use crate::plan::Plan;
 use crate::shapes::Shape;
 use rustsec_commands::{Paths, tree_line};
 use rustsec_database::Database;
+use rustsec_error::{ErrorKind, Result};
 use rustsec_explain::{Explained, explain_id};
 use rustsec_explain_output::{Rules, explain_text, explain_tree};
 use rustsec_folders::Folders;
 use rustsec_lock::Lockfile;
 use rustsec_texts::Id;
-use rustsec_versions::{ErrorKind, Result};
 use std::alloc::{AllocError, Global};
 
 /// Returns the JSON list of some pairs on one line.

@@ -18,7 +18,6 @@ mod plan;
 mod readings;
 mod request;
 mod shapes;
-mod shown;
 mod usage;
 mod wanted;
 mod words;

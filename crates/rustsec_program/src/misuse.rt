@@ -1,8 +1,8 @@
 //! Says what is wrong with words after the name of a command.
 
 use crate::keys::{Flag, Key};
-use crate::shown::push_shown;
 use crate::usage::PAGE;
+use rustsec_shown::push_shown;
 use rustsec_values::{Named, value_named};
 use std::alloc::{AllocError, Global};
 use strsim::osa_distance;

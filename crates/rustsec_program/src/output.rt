@@ -4,11 +4,11 @@ ghost use Rattle.rustsec_commands.specs.declared.fault.Fault.TheVariants as faul
 ghost use Rattle.std.specs.Prelude.{◌≡◌, ◌≢◌, IfErr, IfOk, OnOk, string_bytes};
 ghost use Rattle.std.specs.Io.KnownBytes.{Appends};
 ghost use Rattle.rustsec_commands.specs.Output.{refused_as, usage};
-ghost use Rattle.rustsec_versions.specs.declared.error.ErrorKind.TheVariants as failure;
+ghost use Rattle.rustsec_error.specs.declared.error.ErrorKind.TheVariants as failure;
 
-use crate::shown::push_shown;
 use rustsec_commands::Fault;
-use rustsec_versions::{Error, ErrorKind};
+use rustsec_error::{Error, ErrorKind};
+use rustsec_shown::push_shown;
 use std::alloc::{AllocError, Global};
 use std::io::Write;
 use std::marker::Model;

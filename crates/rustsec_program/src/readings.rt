@@ -1,9 +1,9 @@
 //! Says which requirements of the advisories of findings Cargo's matching reads differently. No contract mentions it.
 
-use crate::shown::push_shown;
 use rustsec_advisory::Advisory;
 use rustsec_check::Finding;
 use rustsec_lint_database::readings_of;
+use rustsec_shown::push_shown;
 use std::alloc::{AllocError, Global};
 
 /// The number of bytes from which on a note takes no further advisory.

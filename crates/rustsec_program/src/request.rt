@@ -3,7 +3,7 @@
 ghost use Rattle.std.specs.Prelude.{◌≡◌, [], IfErr, IfOk, None, Some, map, option_map};
 ghost use Rattle.rustsec_policy.specs.Words.{severity_named};
 ghost use Rattle.rustsec_values.specs.Reading.{read_all, read_optional};
-ghost use Rattle.rustsec_versions.specs.Failure.{IsRefusal};
+ghost use Rattle.rustsec_error.specs.Failure.{IsRefusal};
 ghost use Rattle.rustsec_program.specs.CheckOptions.{last_value, values_of};
 ghost use Rattle.rustsec_program.specs.Wanted.{request_of};
 ghost use Rattle.rustsec_program.specs.declared.keys.Key.TheVariants as key;
@@ -11,12 +11,12 @@ ghost use Rattle.rustsec_program.specs.declared.keys.Key.TheVariants as key;
 use crate::keys::Key;
 use crate::options::Options;
 use crate::shapes::{Coloring, LeastSeverity, Shape};
+use rustsec_error::{ErrorKind, FromText, Result, refused_at};
 use rustsec_lock::Severity;
 use rustsec_lock::platforms::{Arch, OS};
 use rustsec_policy::Denied;
 use rustsec_texts::{Date, Id};
 use rustsec_values::{Items, Named, Text};
-use rustsec_versions::{ErrorKind, FromText, Result, refused_at};
 use std::alloc::{AllocError, Global};
 
 /// What the options say.

@@ -1,9 +1,9 @@
 //! The values of `--format`, `--color` and `--severity`.
 
+use rustsec_error::{FromText, Result, refused_text};
 use rustsec_lock::Severity;
 use rustsec_policy::read_severity;
 use rustsec_values::{Named, value_named};
-use rustsec_versions::{FromText, Result, refused_text};
 use std::alloc::Global;
 use std::marker::Model;
 

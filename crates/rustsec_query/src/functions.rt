@@ -4,7 +4,7 @@ ghost use Rattle.std.specs.Prelude.{◌≡◌, ◌≢◌, IfErr, IfOk, List, Non
 ghost use Rattle.std.specs.List.{list_any};
 ghost use Rattle.semver.specs.EvalViews.{matches_views};
 ghost use Rattle.semver.specs.Identifiers.{parts_of};
-ghost use Rattle.rustsec_versions.specs.Failure.{IsMemory};
+ghost use Rattle.rustsec_error.specs.Failure.{IsMemory};
 ghost use Rattle.rustsec_versions.specs.Views.{comparators_of};
 ghost use Rattle.rustsec_query.specs.Functions.{functions_of, matching, matches_some};
 
@@ -62,7 +62,7 @@ impl Vulnerability {
     pub fn affected_functions(
         &self,
         alloc: Global,
-    ) -> rustsec_versions::Result<Option<Vec<FunctionPath>>>
+    ) -> rustsec_error::Result<Option<Vec<FunctionPath>>>
         ensures ok { IfOk result (λ o. option_map (λ v. v.items) o ≡ functions_of self.now) }
         ensures err { IfErr result IsMemory }
 

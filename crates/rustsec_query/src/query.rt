@@ -2,7 +2,7 @@
 
 ghost use Rattle.std.specs.Prelude.{◌≡◌, IfErr, IfOk, None, Some, option_map};
 ghost use Rattle.semver.specs.Identifiers.{parts_of};
-ghost use Rattle.rustsec_versions.specs.Failure.{IsMemory};
+ghost use Rattle.rustsec_error.specs.Failure.{IsMemory};
 ghost use Rattle.rustsec_query.specs.Query.{Asked, crate_scope, of_package, unset};
 ghost use Rattle.rustsec_query.specs.Selects.{selects};
 
@@ -11,12 +11,12 @@ use crate::tests_of_fields::{
     of_year, on_arch, on_os,
 };
 use rustsec_advisory::Advisory;
+use rustsec_error::Result;
 use rustsec_lock::package::{Name, Package};
 use rustsec_lock::platforms::{Arch, OS};
 use rustsec_lock::{Severity, SourceId};
 use rustsec_texts::Collection;
 use rustsec_values::{ExactClone, Items};
-use rustsec_versions::Result;
 use semver::Version;
 use std::alloc::{AllocError, Global};
 use std::marker::Model;

@@ -5,9 +5,10 @@ use crate::files::{advisory, requirements, text_of};
 use crate::window::{closes, opens, refusal};
 use rustsec_advisory::Advisory;
 use rustsec_commands::{Fault, answer};
+use rustsec_error::Result;
 use rustsec_osv::OsvAdvisory;
 use rustsec_texts::Parts;
-use rustsec_versions::{Result, Versions};
+use rustsec_versions::Versions;
 use std::alloc::Global;
 
 /// Returns the answer of `Versions::new`.

@@ -1,9 +1,9 @@
 //! Reads the files for the calls.
 
 use rustsec_advisory::Advisory;
+use rustsec_error::{Error, ErrorKind, Result};
 use rustsec_folders::SourceFile;
 use rustsec_values::Text;
-use rustsec_versions::{Error, ErrorKind, Result};
 use semver::VersionReq;
 use std::alloc::{AllocError, Global};
 use std::fs;

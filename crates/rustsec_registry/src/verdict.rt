@@ -1,15 +1,15 @@
 //! Which packages are yanked, by the cached answers.
 
 ghost use Rattle.std.specs.Prelude.{◌≡◌, IfErr, IfOk, Some, map, option_map};
-ghost use Rattle.rustsec_versions.specs.Failure.{IsMemory};
+ghost use Rattle.rustsec_error.specs.Failure.{IsMemory};
 ghost use Rattle.rustsec_registry.specs.Lookups.{at};
 ghost use Rattle.rustsec_registry.specs.Yanked.{by_name, by_version, missing_name, missing_version, not_found, seen, yanked_answers};
 ghost use Rattle.semver.specs.Identifiers.{parts_text};
 
 use crate::kept::{Kept, at_name};
+use rustsec_error::{Error, ErrorKind, Result};
 use rustsec_lock::package::{Name, Package};
 use rustsec_values::{Items, SortedMap, Text};
-use rustsec_versions::{Error, ErrorKind, Result};
 use std::alloc::Global;
 
 /// The answer for one package, unless it is skipped: the package, or the error of its look-up.

@@ -11,9 +11,9 @@ ghost use Rattle.rustsec_report.specs.declared.report.Report as given;
 use crate::report::Report;
 use crate::settings::Settings;
 use rustsec_database::Database;
+use rustsec_error::Result;
 use rustsec_folders::SourceFile;
 use rustsec_lock::Lockfile;
-use rustsec_versions::Result;
 use std::alloc::Global;
 use toml::Table;
 

@@ -9,7 +9,7 @@ ghost use Rattle.rustsec_texts.specs.Ids.{IdValue};
 ghost use Rattle.rustsec_advisory.specs.declared.advisory.Advisory as given;
 ghost use Rattle.rustsec_database.specs.Loaded.{AreLoaded};
 ghost use Rattle.rustsec_query.specs.Pairs.{is_audited};
-ghost use Rattle.rustsec_versions.specs.Failure.{IsMemory};
+ghost use Rattle.rustsec_error.specs.Failure.{IsMemory};
 ghost use Rattle.rustsec_report.specs.EndToEnd.{IsReportOf};
 ghost use Rattle.rustsec_report.specs.Held.{ListsWhatIsInForce};
 ghost use Rattle.rustsec_report.specs.Report.{info_of, report_of, vulnerabilities, warnings};
@@ -20,9 +20,9 @@ use crate::report::Report;
 use crate::settings::Settings;
 use crate::warnings::{WarningInfo, warnings_of, without_ignored};
 use rustsec_database::Database;
+use rustsec_error::Result;
 use rustsec_lock::Lockfile;
 use rustsec_values::Items;
-use rustsec_versions::Result;
 use std::alloc::Global;
 
 /// Returns the warnings about a lockfile's packages that settings ask for: kind by kind, each list by package in the

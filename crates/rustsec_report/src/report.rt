@@ -1,13 +1,13 @@
 //! Reports.
 
 ghost use Rattle.std.specs.Prelude.{◌≡◌, IfErr, IfOk};
-ghost use Rattle.rustsec_versions.specs.Failure.{IsMemory};
+ghost use Rattle.rustsec_error.specs.Failure.{IsMemory};
 
 use crate::info::{LockfileInfo, VulnerabilityInfo};
 use crate::settings::Settings;
 use crate::warnings::WarningInfo;
+use rustsec_error::Result;
 use rustsec_values::ExactClone;
-use rustsec_versions::Result;
 use std::alloc::{AllocError, Global};
 
 /// The report of a lockfile.

@@ -1,15 +1,15 @@
 //! The settings of a report.
 
 ghost use Rattle.std.specs.Prelude.{◌≡◌, [], IfErr, IfOk, None};
-ghost use Rattle.rustsec_versions.specs.Failure.{IsMemory};
+ghost use Rattle.rustsec_error.specs.Failure.{IsMemory};
 ghost use Rattle.rustsec_report.specs.Report.{query_of};
 
+use rustsec_error::Result;
 use rustsec_lock::Severity;
 use rustsec_lock::platforms::{Arch, OS};
 use rustsec_query::Query;
 use rustsec_texts::{Id, Informational};
 use rustsec_values::{ExactClone, Items};
-use rustsec_versions::Result;
 use std::alloc::{AllocError, Global};
 
 /// The settings of a report.

@@ -1,13 +1,14 @@
 //! Warnings about packages.
 
 ghost use Rattle.std.specs.Prelude.{◌≡◌, ◌↔◌, IfErr, IfOk, IsTrue};
-ghost use Rattle.rustsec_versions.specs.Failure.{IsMemory};
+ghost use Rattle.rustsec_error.specs.Failure.{IsMemory};
 
 use rustsec_advisory::{Affected, Metadata};
+use rustsec_error::Result;
 use rustsec_lock::package::Package;
 use rustsec_texts::WarningKind;
 use rustsec_values::ExactClone;
-use rustsec_versions::{Result, Versions};
+use rustsec_versions::Versions;
 use std::alloc::{AllocError, Global};
 
 /// A warning about a package, with its advisory, if any.

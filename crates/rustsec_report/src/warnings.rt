@@ -1,16 +1,16 @@
 //! The warnings of informational advisories, and the removal of ignored advisories.
 
 ghost use Rattle.std.specs.Prelude.{◌≡◌, IfErr, IfOk, OnOk, option_and_then};
-ghost use Rattle.rustsec_versions.specs.Failure.{IsMemory};
+ghost use Rattle.rustsec_error.specs.Failure.{IsMemory};
 ghost use Rattle.rustsec_report.specs.Report.{as_warning, is_among, is_wanted, wanted_kind, warnings_by_kind, warnings_of_kind, without};
 ghost use Rattle.rustsec_report.specs.Kinds.{with_kind};
 
 use crate::settings::Settings;
 use crate::warning::Warning;
+use rustsec_error::Result;
 use rustsec_query::Vulnerability;
 use rustsec_texts::{Id, Informational, WarningKind};
 use rustsec_values::{Items, Named, SortedMap, Test};
-use rustsec_versions::Result;
 use std::alloc::Global;
 
 /// Warnings by their kinds. A kind without warnings may be missing.

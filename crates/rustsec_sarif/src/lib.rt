@@ -9,8 +9,6 @@ mod results;
 mod rules;
 mod said;
 mod score;
-#[cfg(test)]
-mod tests;
 mod uri;
 
 pub use crate::log::{sarif_text, sarif_tree};

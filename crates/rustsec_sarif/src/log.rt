@@ -3,7 +3,7 @@
 ghost use Rattle.std.specs.Prelude.{◌≡◌, IfErr, IfOk, OnOk, false, map, string_bytes};
 ghost use Rattle.serde_json.specs.View.{members_view, view};
 ghost use Rattle.serde_json.specs.Written.{has_float};
-ghost use Rattle.rustsec_versions.specs.Failure.{IsMemory};
+ghost use Rattle.rustsec_error.specs.Failure.{IsMemory};
 ghost use Rattle.rustsec_report.specs.Trees.{object_of, with_members};
 ghost use Rattle.rustsec_check_output.specs.CheckTree.{tree_line};
 ghost use Rattle.rustsec_sarif.specs.SarifTree.{driver_entries, log_entries, run_entries, run_tree, sarif_tree, tool_tree, yanked_of};
@@ -15,8 +15,8 @@ use crate::rules::rule_trees;
 use crate::said::File;
 use rustsec_check::{Finding, Yanked};
 use rustsec_check_output::Written;
+use rustsec_error::Result;
 use rustsec_places::Place;
-use rustsec_versions::Result;
 use serde_json::Value;
 use std::alloc::{AllocError, Global};
 

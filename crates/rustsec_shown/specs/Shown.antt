@@ -1,24 +1,29 @@
--- Texts as a terminal may show them: without hidden characters.
-use Rattle.std.specs.Prelude.{◌||◌, ◌&&◌, ◌==◌, ℕ, Bool, List, flat_map, if◌then◌else◌, nat_le}
-use Rattle.std.specs.Char.{encode_utf8, is_control}
+-- How a text of a file is shown on a line: each hidden character is replaced by its Unicode escape.
+use Rattle.std.specs.Prelude.{◌||◌, ℕ, Bool, if◌then◌else◌, List, [], ◌∷◌}
+use Rattle.std.specs.Char.{is_control}
 use Rattle.std.specs.Char.Escape.{escape_unicode}
-use Rattle.std.specs.Str.{chars}
+use Rattle.std.specs.Int.{is_in_range}
+use Rattle.std.specs.List.{flat_map, list_any}
+use Rattle.std.specs.Str.{chars, encode_utf8_all}
 
--- whether a character is between two, both included
-abbrev pub is_between : ℕ → ℕ → ℕ → Bool
-is_between least greatest c = nat_le least c && nat_le c greatest
+-- from a character to another one
+abbrev pub Span : Type 0
+Span = ℕ × ℕ
 
--- whether a character is a control character, or an invisible one that turns the direction of others, joins them or
--- ends their line
+-- the invisible characters that turn the direction of others, join them or end their line
+abbrev pub invisible : List Span
+invisible =
+    (0xAD, 0xAD) ∷ (0x61C, 0x61C) ∷ (0x180E, 0x180E) ∷ (0x200B, 0x200F) ∷ (0x2028, 0x202E) ∷ (0x2060, 0x206F)
+    ∷ (0xFEFF, 0xFEFF) ∷ (0xFFF9, 0xFFFB) ∷ (0xE0000, 0xE007F) ∷ []
+
+-- whether a character is hidden: a control character, or an invisible one
 abbrev pub is_hidden : ℕ → Bool
-is_hidden c =
-    is_control c || (c == 0xAD || (c == 0x61C || (c == 0x180E || (is_between 0x200B 0x200F c || (is_between 0x2028 0x202E c
-    || (is_between 0x2060 0x206F c || (c == 0xFEFF || (is_between 0xFFF9 0xFFFB c || is_between 0xE0000 0xE007F c))))))))
+is_hidden c = is_control c || list_any (λ (s : Span). is_in_range s.0 s.1 c) invisible
 
--- the bytes of a character, or those of its Unicode escape, as `\u{202e}`, if it is hidden
-abbrev pub shown_character : ℕ → List ℕ
-shown_character c = if is_hidden c then flat_map encode_utf8 (escape_unicode c) else encode_utf8 c
+-- the characters that show a character
+unfoldable pub shown_char : ℕ → List ℕ
+shown_char c = if is_hidden c then escape_unicode c else c ∷ []
 
--- a text with its hidden characters escaped
+-- a text as it is shown
 abbrev pub shown : List ℕ → List ℕ
-shown text = flat_map shown_character (chars text)
+shown text = encode_utf8_all (flat_map shown_char (chars text))

@@ -3,4 +3,4 @@
 
 mod shown;
 
-pub use crate::shown::push_shown;
+pub use crate::shown::{is_hidden, push_escape, push_shown};

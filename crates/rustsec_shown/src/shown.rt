@@ -1,68 +1,69 @@
-//! Escapes texts, so that a terminal may show them.
+//! Escapes texts of files, so that a terminal may show them and none of them adds a line.
 
-ghost use Rattle.std.specs.Prelude.{◌≡◌, ◌++◌, OnOk, flat_map, string_bytes};
-ghost use Rattle.std.specs.Char.{encode_utf8};
+ghost use Rattle.std.specs.Prelude.{◌≡◌, ◌++◌, OnOk, string_bytes};
 ghost use Rattle.std.specs.Char.Escape.{escape_unicode};
-ghost use Rattle.rustsec_shown.specs.Shown.{is_between, is_hidden, shown, shown_character};
+ghost use Rattle.std.specs.Str.{encode_utf8_all};
+ghost use Rattle.rustsec_shown.specs.Shown.{is_hidden, shown, shown_char};
 
 use std::alloc::AllocError;
 
-/// Returns whether a character is between two, both included.
-fn is_between(least: u32, greatest: u32, c: char) -> bool
-    ensures { result ≡ is_between least greatest c }
-{
-    let code = c as u32;
-    least <= code && code <= greatest
-}
-
-/// Returns whether a character is a control character, or an invisible one that turns the direction of others, joins
-/// them or ends their line.
-fn is_hidden(c: char) -> bool
+/// Returns whether a character is a control character, or an invisible one that turns the direction of
+/// others, joins them or ends their line.
+pub fn is_hidden(c: char) -> bool
     ensures { result ≡ is_hidden c }
 {
     c.is_control()
-        || c == '\u{AD}'
-        || c == '\u{61C}'
-        || c == '\u{180E}'
-        || is_between(0x200B, 0x200F, c)
-        || is_between(0x2028, 0x202E, c)
-        || is_between(0x2060, 0x206F, c)
-        || c == '\u{FEFF}'
-        || is_between(0xFFF9, 0xFFFB, c)
-        || is_between(0xE0000, 0xE007F, c)
+        || matches!(
+            c,
+            '\u{AD}'
+                | '\u{61C}'
+                | '\u{180E}'
+                | '\u{200B}'..='\u{200F}'
+                | '\u{2028}'..='\u{202E}'
+                | '\u{2060}'..='\u{206F}'
+                | '\u{FEFF}'
+                | '\u{FFF9}'..='\u{FFFB}'
+                | '\u{E0000}'..='\u{E007F}'
+        )
 }
 
 /// Appends the Unicode escape of a character.
-fn push_escape(line: &mut String, c: char) -> Result<(), AllocError>
-    ensures { OnOk result (string_bytes line.new ≡ string_bytes line.old ++ flat_map encode_utf8 (escape_unicode c)) }
-{
-    for part in c.escape_unicode() {
-        line.push(part)?;
-    }
-    Ok(())
-}
-
-/// Appends a character, or its Unicode escape if it is hidden.
-fn push_character(line: &mut String, c: char) -> Result<(), AllocError>
-    ensures { OnOk result (string_bytes line.new ≡ string_bytes line.old ++ shown_character c) }
-{
-    if is_hidden(c) {
-        push_escape(line, c)
-    } else {
-        line.push(c)
-    }
-}
-
-/// Appends a text on one line: with each hidden character as its Unicode escape.
 ///
 /// # Errors
 ///
 /// Out of memory.
-pub fn push_shown(line: &mut String, text: &str) -> Result<(), AllocError>
-    ensures { OnOk result (string_bytes line.new ≡ string_bytes line.old ++ shown text.now) }
+pub fn push_escape(text: &mut String, c: char) -> Result<(), AllocError>
+    ensures { OnOk result (string_bytes text.new ≡ string_bytes text.old ++ encode_utf8_all (escape_unicode c)) }
+{
+    for part in c.escape_unicode() {
+        text.push(part)?;
+    }
+    Ok(())
+}
+
+/// Appends a character as it is shown.
+#[tactic(auto, unfolding(crate::specs::Shown::shown_char))]
+fn push_char(text: &mut String, c: char) -> Result<(), AllocError>
+    ensures { OnOk result (string_bytes text.new ≡ string_bytes text.old ++ encode_utf8_all (shown_char c)) }
+{
+    if is_hidden(c) {
+        push_escape(text, c)?;
+    } else {
+        text.push(c)?;
+    }
+    Ok(())
+}
+
+/// Appends a text on one line. Each hidden character is replaced by its Unicode escape.
+///
+/// # Errors
+///
+/// Out of memory.
+pub fn push_shown(note: &mut String, text: &str) -> Result<(), AllocError>
+    ensures { OnOk result (string_bytes note.new ≡ string_bytes note.old ++ shown text.now) }
 {
     for c in text.chars() {
-        push_character(line, c)?;
+        push_char(note, c)?;
     }
     Ok(())
 }

@@ -5,8 +5,6 @@ mod categories;
 mod rows;
 mod severities;
 mod stats;
-#[cfg(test)]
-mod tests;
 mod text;
 mod tree;
 mod years;

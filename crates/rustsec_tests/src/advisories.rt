@@ -1,9 +1,9 @@
 //! Licenses and withdrawal of advisories, drafts by their paths, files that cannot be read.
 
 use rustsec_advisory::Advisory;
+use rustsec_error::ErrorKind;
 use rustsec_fixtures::{VALID, acceptance, changed};
 use rustsec_texts::License;
-use rustsec_versions::ErrorKind;
 use std::alloc::Global;
 use std::rt::Files;
 use std::test::Fail;

@@ -1,8 +1,8 @@
 //! Categories, kinds of warnings, licenses and keywords by their texts.
 
+use rustsec_error::ErrorKind;
 use rustsec_fixtures::kind_of;
 use rustsec_texts::{Category, Keyword, License, WarningKind};
-use rustsec_versions::ErrorKind;
 use std::alloc::Global;
 use std::cmp::Ordering;
 use std::test::Fail;

@@ -1,8 +1,8 @@
 //! The contents of files are kept unchanged: byte order marks, line ends, and files of more than a megabyte.
 
 use rustsec_advisory::Advisory;
+use rustsec_error::ErrorKind;
 use rustsec_fixtures::{VALID, changed, kind_of, writes};
-use rustsec_versions::ErrorKind;
 use std::alloc::Global;
 use std::fmt::Write as _;
 use std::fs;
@@ -38,7 +38,7 @@ fn file_says<T: Files + AllocGlobal>(
 
 // A mark before the three backquotes, or before the first key, belongs to the text.
 #[test]
-fn advisory_behind_a_byte_order_mark(rt: HostRuntime) -> Result<(), Fail> {
+fn advisory_after_a_byte_order_mark(rt: HostRuntime) -> Result<(), Fail> {
     let marked = changed(rt.alloc(), VALID, "", "\u{feff}")?;
     assert!(rt; refusal(&rt, "marked.md", &marked)? == Some(ErrorKind::Parse));
     let inside = changed(rt.alloc(), VALID, "[advisory]", "\u{feff}[advisory]")?;

@@ -19,8 +19,6 @@ mod function_paths;
 #[cfg(test)]
 mod ids;
 #[cfg(test)]
-mod large_inputs;
-#[cfg(test)]
 mod lint_notes;
 #[cfg(test)]
 mod lint_places;

@@ -7,7 +7,7 @@ use std::test::Fail;
 /// The file of an advisory with lint errors.
 const FILE: &str = "lint-notes.md";
 
-/// An advisory with a lint error in each of its lines 3, 6, 7, 8, 12 and 14.
+/// An advisory with a lint error in each of its lines 3, 6, 7, 8, 12 and 15.
 const TEXT: &str = "```toml
 [advisory]
 id = \"RUSTSEC-2002-2101\"
@@ -39,7 +39,7 @@ const NOTE: &[&str] = &[
     "line 8: invalid key `keyword` in [advisory]; known: `id`, `",
     "`; did you mean `keywords`?\n",
     "line 12: invalid key `patch` in [versions]; known: `patched`, `unaffected`; did you mean `patched`?\n",
-    "line 14: invalid value `other::f` for key `functions` in [affected]: function path must start with crate name; the package is `base`, with `_` for `-`\n",
+    "line 15: invalid value `other::f` for key `functions` in [affected]: function path must start with crate name; the package is `base`, with `_` for `-`\n",
 ];
 
 #[test]

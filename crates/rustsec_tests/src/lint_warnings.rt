@@ -62,6 +62,11 @@ const REFUSED: &[Row<'static>] = &[
         "rustsec_audit: warning: the Rust crate refuses patched requirements that overlap\nrustsec_audit: warning: the Rust crate refuses a `source` whose address is not a URL\n",
     ),
     (
+        "```toml\n[advisory]\nid = \"RUSTSEC-2001-2101\"\npackage = \"base\"\ndate = \"2001-02-03\"\nsource = \"registry+https://a b.example/\"\n[versions]\npatched = []\n```\n\n# T\n\nD\n",
+        0,
+        "rustsec_audit: warning: the Rust crate refuses a `source` whose address is not a URL\n",
+    ),
+    (
         "```toml\n[advisory]\nid = \"RUSTSEC-2001-2101\"\npackage = \"base\"\ndate = \"2001-02-03\"\n# \"\\e\"\nkeywords = ['\\e', \"a\", \"\\\\\\x62\"]\n[versions]\npatched = []\n```\n\n# T\n\nD\n",
         0,
         "rustsec_audit: warning: line 7: the Rust crate refuses an escape `\\e` or `\\x` (TOML 1.1)\n",

@@ -2,10 +2,10 @@
 //! not UTF-8 is refused, and an error of memory stays that.
 
 use crate::fake_files::{FakeFiles, Kind};
+use rustsec_error::{Error, ErrorKind};
 use rustsec_files::reading::text_of_file;
 use rustsec_fixtures::kind_of;
 use rustsec_folders::{Folders, RealFolders};
-use rustsec_versions::{Error, ErrorKind};
 use std::alloc::Global;
 use std::io;
 use std::test::Fail;
@@ -49,24 +49,53 @@ fn opened_folders_are_listed_whole(rt: HostRuntime) -> Result<(), Fail> {
     Ok(())
 }
 
-/// Returns whether a listing is refused for a name that is not UTF-8 at byte offset 5.
-fn is_refused_for_a_name(answer: Result<usize, Error>) -> bool {
+/// Returns whether a listing is refused for this reason.
+fn is_refused_for(answer: Result<usize, Error>, why: &str) -> bool {
     match answer {
         Ok(_) => false,
         Err(error) => {
             error.kind() == ErrorKind::Io
                 && error.message() == "couldn't read db"
-                && error.cause()
-                    == Some("the name of an entry is not UTF-8, at byte offset 5 of the listing")
+                && error.cause() == Some(why)
         }
     }
 }
 
+/// A listing, and the reason for which it is refused.
+struct NameRow<'a> {
+    listing: &'a [u8],
+    why: &'a str,
+}
+
+/// Listings with names that are not UTF-8. The first such name is shown, with U+FFFD for what is not UTF-8.
+const NAMES: &[NameRow<'static>] = &[
+    NameRow {
+        listing: b"a.md\0\xff.md\0",
+        why: "the name of the entry `\u{fffd}.md` is not UTF-8, at byte offset 5 of the listing",
+    },
+    NameRow {
+        listing: b"a.md\0caf\xc3\0b.md\0",
+        why: "the name of the entry `caf\u{fffd}` is not UTF-8, at byte offset 8 of the listing",
+    },
+    NameRow {
+        listing: b"\xe9t\xe9.md\0\xff\0",
+        why: "the name of the entry `\u{fffd}t\u{fffd}.md` is not UTF-8, at byte offset 0 of the listing",
+    },
+];
+
 #[test]
 fn opened_folders_with_names_that_are_not_utf8(rt: HostRuntime) {
-    for listing in &[b"a.md\0\xff.md\0".as_slice(), b"a.md\0\xc3\0b.md\0"] {
-        assert!(rt; is_refused_for_a_name(names_of(rt.alloc(), listing)));
-        assert!(rt; is_refused_for_a_name(folders_of(rt.alloc(), listing)));
+    for row in NAMES {
+        assert!(rt;
+            is_refused_for(names_of(rt.alloc(), row.listing), row.why),
+            "{}",
+            row.why
+        );
+        assert!(rt;
+            is_refused_for(folders_of(rt.alloc(), row.listing), row.why),
+            "{}",
+            row.why
+        );
     }
 }
 

@@ -1,8 +1,8 @@
 //! The names of architectures and of operating systems.
 
+use rustsec_error::ErrorKind;
 use rustsec_fixtures::kind_of;
 use rustsec_lock::platforms::{Arch, OS};
-use rustsec_versions::ErrorKind;
 use std::alloc::Global;
 use std::process::Abort;
 use std::test::Fail;

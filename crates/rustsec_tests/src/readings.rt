@@ -1,9 +1,9 @@
 //! Readers to their end, names in paths, and the message for a refused front matter.
 
 use rustsec_advisory::Advisory;
+use rustsec_error::{Error, ErrorKind};
 use rustsec_files::{path, reading};
 use rustsec_fixtures::ByteReader;
-use rustsec_versions::{Error, ErrorKind};
 use std::alloc::Global;
 use std::test::Fail;
 

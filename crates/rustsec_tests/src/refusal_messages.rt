@@ -1,10 +1,10 @@
 //! What refusals of texts and lockfiles say: what was found, what was expected, and where.
 
+use rustsec_error::{Error, ErrorKind, Result};
 use rustsec_lock::package::Name;
 use rustsec_lock::platforms::{Arch, OS};
 use rustsec_lock::{Cvss, Lockfile, SourceId};
 use rustsec_texts::{Collection, Date, FunctionPath, Id, WarningKind};
-use rustsec_versions::{Error, ErrorKind, Result};
 use std::alloc::Global;
 use std::process::Abort;
 
@@ -168,7 +168,7 @@ const LOCK_TEXTS: &[(&str, &str, &str)] = &[
     (
         "source",
         "git+#abc",
-        "no address in the source `git+#abc`, expected one behind the first `+`",
+        "no address in the source `git+#abc`, expected one after the first `+`",
     ),
     (
         "arch",

@@ -1,7 +1,7 @@
 //! What the refusals of requirements say.
 
+use rustsec_error::{Error, ErrorKind};
 use rustsec_fixtures::{interval, lists};
-use rustsec_versions::{Error, ErrorKind};
 use std::alloc::Global;
 use std::process::Abort;
 use std::test::Fail;
@@ -76,7 +76,7 @@ fn refused_requirements(rt: HostRuntime) -> Result<(), Fail> {
             ),
             (
                 "1.*",
-                "the requirement `1.*`: a wildcard behind a number is not taken without an operator",
+                "the requirement `1.*`: a wildcard after a number is not taken without an operator",
             ),
             (
                 "> 2, < 1",

@@ -2,8 +2,8 @@
 //! not a regular file is not read, and what was not a regular file is not opened.
 
 use crate::fake_files::{FakeFiles, Kind};
+use rustsec_error::ErrorKind;
 use rustsec_files::reading::text_of_file;
-use rustsec_versions::ErrorKind;
 use std::alloc::Global;
 use std::test::Fail;
 

@@ -1,7 +1,7 @@
 //! How errors print, when lockfiles are equal, and vectors of many parts.
 
+use rustsec_error::{Error, ErrorKind};
 use rustsec_lock::{Cvss, Lockfile};
-use rustsec_versions::{Error, ErrorKind};
 use std::alloc::{AllocError, Global};
 use std::test::Fail;
 

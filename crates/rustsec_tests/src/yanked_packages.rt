@@ -1,11 +1,11 @@
 //! Yanked packages by indexes in memory, whose files are written by hand from The Cargo Book and Cargo's source.
 
+use rustsec_error::{ErrorKind, Result};
 use rustsec_fixtures::{Failing, Holds, MemoryFolders, Paths};
 use rustsec_index::yanked_in;
 use rustsec_lock::SourceId;
 use rustsec_lock::package::{Name, Package};
 use rustsec_values::{Items, Text};
-use rustsec_versions::{ErrorKind, Result};
 use semver::Version;
 use std::alloc::Global;
 use std::test::Fail;

@@ -91,12 +91,12 @@ identifier-colonless [] h = tt
 identifier-colonless (b ∷ bs) h =
     ((λ e. true≢false (sym (subst (λ x. is_first x ≡ true) e (first_so (is_first b) _ h)))), later-colonless bs (second_so (is_first b) _ h))
 
-cut-behind : (x rest : List ℕ) → Colonless x → between_colons (x ++ 58 ∷ 58 ∷ rest) ≡ x ∷ between_colons rest
+cut-after_prefix : (x rest : List ℕ) → Colonless x → between_colons (x ++ 58 ∷ 58 ∷ rest) ≡ x ∷ between_colons rest
 unfolding Colonless
-cut-behind [] rest h = refl
-cut-behind (b ∷ []) rest h = no-cut b 58 (58 ∷ rest) (ap (λ t. t && (58 == 58)) (ne_eqb b 58 h.0))
-cut-behind (b ∷ c ∷ x) rest h =
-    no-cut b c (x ++ 58 ∷ 58 ∷ rest) (ap (λ t. t && (c == 58)) (ne_eqb b 58 h.0)) ∙ ap (onto_first b) (cut-behind (c ∷ x) rest h.1)
+cut-after_prefix [] rest h = refl
+cut-after_prefix (b ∷ []) rest h = no-cut b 58 (58 ∷ rest) (ap (λ t. t && (58 == 58)) (ne_eqb b 58 h.0))
+cut-after_prefix (b ∷ c ∷ x) rest h =
+    no-cut b c (x ++ 58 ∷ 58 ∷ rest) (ap (λ t. t && (c == 58)) (ne_eqb b 58 h.0)) ∙ ap (onto_first b) (cut-after_prefix (c ∷ x) rest h.1)
 
 uncut : (x : List ℕ) → Colonless x → between_colons x ≡ x ∷ []
 unfolding Colonless
@@ -107,7 +107,7 @@ uncut (b ∷ c ∷ x) h = no-cut b c x (ap (λ t. t && (c == 58)) (ne_eqb b 58 h
 cut-again : (x : List ℕ) (xs : List (List ℕ)) → list_all is_identifier (x ∷ xs) ≡ true → between_colons (path_text (x ∷ xs)) ≡ x ∷ xs
 cut-again x [] h = ap between_colons (append-nil x) ∙ uncut x (identifier-colonless x (first_so (is_identifier x) _ h))
 cut-again x (y ∷ ys) h =
-    cut-behind x (path_text (y ∷ ys)) (identifier-colonless x (first_so (is_identifier x) _ h)) ∙ ap (λ l. x ∷ l) (cut-again y ys (second_so (is_identifier x) _ h))
+    cut-after_prefix x (path_text (y ∷ ys)) (identifier-colonless x (first_so (is_identifier x) _ h)) ∙ ap (λ l. x ∷ l) (cut-again y ys (second_so (is_identifier x) _ h))
 
 -- ---- the laws of paths
 

@@ -4,7 +4,7 @@ use Rattle.std.proofs.Math.Seq.{drop-append_seam, take-append_seam}
 use Rattle.std.specs.Option.{option_or}
 use Rattle.std.proofs.lemmas.Bool.{eqb-true}
 use Rattle.std.specs.Str.Pattern.{FindsText, FindsTextPrefix, LacksTextAt, SplitsAroundMatch, StripsPrefix}
-use Rattle.rustsec_texts.specs.PatternCuts.{IsFirstCut, behind, cut_at}
+use Rattle.rustsec_texts.specs.PatternCuts.{IsFirstCut, after_prefix, cut_at}
 
 none-of : {A : Type 0} (o : Option A) → ((x : A) → o ≡ Some x → ⊥) → o ≡ None
 none-of None f = refl
@@ -15,51 +15,51 @@ some-inj a b h = cc h
 
 -- ---- a text that begins with a pattern
 
-pub behind-append : (p rest : List ℕ) → behind p (p ++ rest) ≡ Some rest
-unfolding behind
-behind-append [] rest = refl
-behind-append (b ∷ p) rest = rw (eq-eqb b b refl) (behind-append p rest)
+pub after_prefix-append : (p rest : List ℕ) → after_prefix p (p ++ rest) ≡ Some rest
+unfolding after_prefix
+after_prefix-append [] rest = refl
+after_prefix-append (b ∷ p) rest = rw (eq-eqb b b refl) (after_prefix-append p rest)
 
-pub behind-from : (p text rest : List ℕ) → text ≡ p ++ rest → behind p text ≡ Some rest
-behind-from p text rest e = rw e (behind-append p rest)
+pub after_prefix-from : (p text rest : List ℕ) → text ≡ p ++ rest → after_prefix p text ≡ Some rest
+after_prefix-from p text rest e = rw e (after_prefix-append p rest)
 
 same-first : (t : Bool) (b c : ℕ) (p cs rest : List ℕ) (o : Option (List ℕ)) → (t ≡ true → b ≡ c) → (o ≡ Some rest → cs ≡ p ++ rest)
     → (if t then o else None) ≡ Some rest → c ∷ cs ≡ b ∷ (p ++ rest)
 same-first true b c p cs rest o e f h = cc (e refl, f h)
 same-first false b c p cs rest o e f h = cc h
 
-pub behind-is : (p text rest : List ℕ) → behind p text ≡ Some rest → text ≡ p ++ rest
-unfolding behind
-behind-is [] text rest h = cc h
-behind-is (b ∷ p) [] rest h = cc h
-behind-is (b ∷ p) (c ∷ cs) rest h = same-first (b == c) b c p cs rest (behind p cs) (λ e. eqb-true b c e) (behind-is p cs rest) h
+pub after_prefix-is : (p text rest : List ℕ) → after_prefix p text ≡ Some rest → text ≡ p ++ rest
+unfolding after_prefix
+after_prefix-is [] text rest h = cc h
+after_prefix-is (b ∷ p) [] rest h = cc h
+after_prefix-is (b ∷ p) (c ∷ cs) rest h = same-first (b == c) b c p cs rest (after_prefix p cs) (λ e. eqb-true b c e) (after_prefix-is p cs rest) h
 
-pub behind-none : (p text : List ℕ) → LacksTextAt p text 0 → behind p text ≡ None
-behind-none p text lacks = none-of (behind p text) (λ rest h. lacks rest (behind-is p text rest h))
+pub after_prefix-none : (p text : List ℕ) → LacksTextAt p text 0 → after_prefix p text ≡ None
+after_prefix-none p text lacks = none-of (after_prefix p text) (λ rest h. lacks rest (after_prefix-is p text rest h))
 
 -- ---- a text that is cut at a pattern
 
 pub cut_at-none : (p text : List ℕ) → ((i : ℕ) → i ≤ length text → LacksTextAt p text i) → cut_at p text ≡ None
 unfolding cut_at
-cut_at-none p [] lacks = rw (behind-none p [] (lacks 0 (omega arith))) refl
+cut_at-none p [] lacks = rw (after_prefix-none p [] (lacks 0 (omega arith))) refl
 cut_at-none p (b ∷ bs) lacks =
-    rw (behind-none p (b ∷ bs) (lacks 0 (omega arith)), cut_at-none p bs (λ i l. lacks (suc i) (omega arith))) refl
+    rw (after_prefix-none p (b ∷ bs) (lacks 0 (omega arith)), cut_at-none p bs (λ i l. lacks (suc i) (omega arith))) refl
 
 pub cut_at-first : (p text rest : List ℕ) (i : ℕ) → ((k : ℕ) → k < i → LacksTextAt p text k) → drop i text ≡ p ++ rest
     → cut_at p text ≡ Some (take i text, rest)
 unfolding cut_at
-cut_at-first p [] rest zero lacks e = rw (behind-from p [] rest e) refl
-cut_at-first p (b ∷ bs) rest zero lacks e = rw (behind-from p (b ∷ bs) rest e) refl
+cut_at-first p [] rest zero lacks e = rw (after_prefix-from p [] rest e) refl
+cut_at-first p (b ∷ bs) rest zero lacks e = rw (after_prefix-from p (b ∷ bs) rest e) refl
 cut_at-first p [] rest (suc i) lacks e = absurd (lacks 0 (omega arith) rest e)
 cut_at-first p (b ∷ bs) rest (suc i) lacks e =
-    rw (behind-none p (b ∷ bs) (lacks 0 (omega arith)), cut_at-first p bs rest i (λ k l. lacks (suc k) (omega arith)) e) refl
+    rw (after_prefix-none p (b ∷ bs) (lacks 0 (omega arith)), cut_at-first p bs rest i (λ k l. lacks (suc k) (omega arith)) e) refl
 
 -- ---- what std's `strip_prefix` and `split_once` answer
 
-pub behind-strips : (p s : List ℕ) (r : Option (Bor (List ℕ))) → MatchOption r (FindsTextPrefix p s None) (λ x. StripsPrefix (FindsTextPrefix p) s x.now)
-    → MatchOption r (behind p s ≡ None) (λ x. behind p s ≡ Some x.now)
-behind-strips p s None h = behind-none p s h
-behind-strips p s (Some x) h = rw h.2 (behind-from p s (drop h.0 s) h.1.1)
+pub after_prefix-strips : (p s : List ℕ) (r : Option (Bor (List ℕ))) → MatchOption r (FindsTextPrefix p s None) (λ x. StripsPrefix (FindsTextPrefix p) s x.now)
+    → MatchOption r (after_prefix p s ≡ None) (λ x. after_prefix p s ≡ Some x.now)
+after_prefix-strips p s None h = after_prefix-none p s h
+after_prefix-strips p s (Some x) h = rw h.2 (after_prefix-from p s (drop h.0 s) h.1.1)
 
 pub cut_at-splits : (p s : List ℕ) (r : Option (Bor (List ℕ) × Bor (List ℕ)))
     → MatchOption r (FindsText p s None) (λ x. SplitsAroundMatch (FindsText p) s x.0.now x.1.now)
@@ -76,16 +76,16 @@ cuts-here p text (Some rest) c f h =
     subst (λ (d : List ℕ × List ℕ). IsFirstCut p text d.0 d.1) (some-inj ([], rest) c h)
     (record { whole = f rest refl; first = λ i l. absurd (omega arith) })
 
-first-later : (p bs before after : List ℕ) (b : ℕ) → behind p (b ∷ bs) ≡ None → IsFirstCut p bs before after
+first-later : (p bs before after : List ℕ) (b : ℕ) → after_prefix p (b ∷ bs) ≡ None → IsFirstCut p bs before after
     → (i : ℕ) → i < length (b ∷ before) → LacksTextAt p (b ∷ bs) i
-first-later p bs before after b none cut zero l rest e = cc (none, behind-from p (b ∷ bs) rest e)
+first-later p bs before after b none cut zero l rest e = cc (none, after_prefix-from p (b ∷ bs) rest e)
 first-later p bs before after b none cut (suc i) l rest e = cut.first i (omega arith) rest e
 
-cuts-later : (p bs : List ℕ) (b : ℕ) (o : Option (List ℕ)) (later : Option (List ℕ × List ℕ)) (c : List ℕ × List ℕ) → behind p (b ∷ bs) ≡ o
+cuts-later : (p bs : List ℕ) (b : ℕ) (o : Option (List ℕ)) (later : Option (List ℕ × List ℕ)) (c : List ℕ × List ℕ) → after_prefix p (b ∷ bs) ≡ o
     → ((d : List ℕ × List ℕ) → later ≡ Some d → IsFirstCut p bs d.0 d.1)
     → option_or (option_map (λ rest. ([], rest)) o) (option_map (λ (d : List ℕ × List ℕ). (b ∷ d.0, d.1)) later) ≡ Some c
     → IsFirstCut p (b ∷ bs) c.0 c.1
-cuts-later p bs b (Some rest) later c e f h = cuts-here p (b ∷ bs) (Some rest) c (λ r k. behind-is p (b ∷ bs) r (e ∙ k)) h
+cuts-later p bs b (Some rest) later c e f h = cuts-here p (b ∷ bs) (Some rest) c (λ r k. after_prefix-is p (b ∷ bs) r (e ∙ k)) h
 cuts-later p bs b None None c e f h = cc h
 cuts-later p bs b None (Some d) c e f h =
     let cut = f d refl in
@@ -94,8 +94,8 @@ cuts-later p bs b None (Some d) c e f h =
 
 pub cut_at-is : (p text : List ℕ) (c : List ℕ × List ℕ) → cut_at p text ≡ Some c → IsFirstCut p text c.0 c.1
 unfolding cut_at
-cut_at-is p [] c h = cuts-here p [] (behind p []) c (behind-is p []) h
-cut_at-is p (b ∷ bs) c h = cuts-later p bs b (behind p (b ∷ bs)) (cut_at p bs) c refl (cut_at-is p bs) h
+cut_at-is p [] c h = cuts-here p [] (after_prefix p []) c (after_prefix-is p []) h
+cut_at-is p (b ∷ bs) c h = cuts-later p bs b (after_prefix p (b ∷ bs)) (cut_at p bs) c refl (cut_at-is p bs) h
 
 pub cut_at-from : (p text before after : List ℕ) → IsFirstCut p text before after → cut_at p text ≡ Some (before, after)
 cut_at-from p text before after cut =

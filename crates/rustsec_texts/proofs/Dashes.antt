@@ -77,8 +77,8 @@ last-alone bs free =
     place n e = omega (arith, e)
 
 -- else it is what follows the last dash
-pub last-behind : (bs : List ℕ) (i j : ℕ) → NoCharPasses is_dash (drop j bs) → HasCharAt 45 bs i j → last_part bs ≡ drop j bs
-last-behind bs i j free at =
+pub last-after : (bs : List ℕ) (i j : ℕ) → NoCharPasses is_dash (drop j bs) → HasCharAt 45 bs i j → last_part bs ≡ drop j bs
+last-after bs i j free at =
     let here = ap length (drop_at_char 45 bs i j at (lit< tt)) in
     let next : j ≡ i + 1 = at.ends in
     let s = suffix_len_is (λ b. not (is_dash b)) bs j 0 (omega (arith, here, next, length-drop i bs, length-drop j bs))

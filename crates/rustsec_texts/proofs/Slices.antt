@@ -2,8 +2,8 @@
 use Rattle.std.proofs.Common.{◌≡◌, ℕ, List, [], ◌++◌, take, drop, Some, sym, append_assoc}
 use Rattle.std.proofs.lemmas.List.{append-nil, take-append-drop}
 use Rattle.std.specs.Str.{IsTrim, IsTrimEnd, IsTrimStart}
-use Rattle.rustsec_texts.specs.PatternCuts.{IsSliceOf, behind, cut_at}
-use Rattle.rustsec_texts.proofs.Cutting.{behind-is, cut_at-is}
+use Rattle.rustsec_texts.specs.PatternCuts.{IsSliceOf, after_prefix, cut_at}
+use Rattle.rustsec_texts.proofs.Cutting.{after_prefix-is, cut_at-is}
 
 pub within : (a b c : List ℕ) → IsSliceOf a b → IsSliceOf b c → IsSliceOf a c
 within a b c h k =
@@ -15,8 +15,8 @@ dropped n text = (take n text, [], rw (append-nil (drop n text)) (sym (take-appe
 pub taken : (n : ℕ) (text : List ℕ) → IsSliceOf (take n text) text
 taken n text = ([], drop n text, sym (take-append-drop n text))
 
-pub behind-slice : (p text rest : List ℕ) → behind p text ≡ Some rest → IsSliceOf rest text
-behind-slice p text rest h = (p, [], rw (append-nil rest) (behind-is p text rest h))
+pub after_prefix-slice : (p text rest : List ℕ) → after_prefix p text ≡ Some rest → IsSliceOf rest text
+after_prefix-slice p text rest h = (p, [], rw (append-nil rest) (after_prefix-is p text rest h))
 
 pub cut_at-front : (p text before after : List ℕ) → cut_at p text ≡ Some (before, after) → IsSliceOf before text
 cut_at-front p text before after h = ([], p ++ after, (cut_at-is p text (before, after) h).whole)

@@ -2,9 +2,9 @@
 use Rattle.std.specs.Prelude.{◌≡◌, ℕ, List, ◌++◌, codes, Option, Some}
 use Rattle.std.specs.Str.{trim, trim_end, trim_start}
 use Rattle.rustsec_values.specs.Reading.{◌>>=◌}
-use Rattle.rustsec_versions.specs.Failure.{Failure}
+use Rattle.rustsec_error.specs.Failure.{Failure}
 use Rattle.rustsec_values.specs.Beginnings.{IsBeginning}
-use Rattle.rustsec_texts.specs.PatternCuts.{IsFirstCut, behind, cut_at}
+use Rattle.rustsec_texts.specs.PatternCuts.{IsFirstCut, after_prefix, cut_at}
 
 -- the parts: each is a slice of the text
 pub record FileParts : Type 0 where
@@ -47,7 +47,7 @@ pub record AreParts (text : List ℕ) (p : FileParts) : Type 0 where
 
 -- the parts of Markdown below a front matter
 abbrev pub titled : List ℕ → List ℕ → Option FileParts
-titled front markdown = behind heading markdown >>= cut_at line_feed >>= λ c. Some (record {
+titled front markdown = after_prefix heading markdown >>= cut_at line_feed >>= λ c. Some (record {
   front_matter = front;
   markdown = markdown;
   title = trim_end c.0;
@@ -64,4 +64,4 @@ ShowsBeginning text e = (b : List ℕ) × IsBeginning 20 text b × (e.message �
 
 -- the parts of a text, if it has them
 abbrev pub parts_of : List ℕ → Option FileParts
-parts_of text = behind opening text >>= cut_at closing >>= λ c. titled (trim c.0) (trim_start c.1)
+parts_of text = after_prefix opening text >>= cut_at closing >>= λ c. titled (trim c.0) (trim_start c.1)

@@ -4,15 +4,15 @@ use Rattle.std.specs.Option.{option_or}
 use Rattle.std.specs.Str.Pattern.{LacksTextAt}
 
 -- what follows a pattern, if the text begins with it
-unfoldable pub behind : List ℕ → List ℕ → Option (List ℕ)
-behind [] text = Some text
-behind (p ∷ ps) [] = None
-behind (p ∷ ps) (b ∷ bs) = if p == b then behind ps bs else None
+unfoldable pub after_prefix : List ℕ → List ℕ → Option (List ℕ)
+after_prefix [] text = Some text
+after_prefix (p ∷ ps) [] = None
+after_prefix (p ∷ ps) (b ∷ bs) = if p == b then after_prefix ps bs else None
 
 -- the text before the first place of a pattern, and the text after it
 unfoldable pub cut_at : List ℕ → List ℕ → Option (List ℕ × List ℕ)
-cut_at p [] = option_map (λ rest. ([], rest)) (behind p [])
-cut_at p (b ∷ bs) = option_or (option_map (λ rest. ([], rest)) (behind p (b ∷ bs))) (option_map (λ c. (b ∷ c.0, c.1)) (cut_at p bs))
+cut_at p [] = option_map (λ rest. ([], rest)) (after_prefix p [])
+cut_at p (b ∷ bs) = option_or (option_map (λ rest. ([], rest)) (after_prefix p (b ∷ bs))) (option_map (λ c. (b ∷ c.0, c.1)) (cut_at p bs))
 
 -- a text is cut at the first place of a pattern
 pub record IsFirstCut (p text before after : List ℕ) : Type 0 where

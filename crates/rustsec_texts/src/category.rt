@@ -1,13 +1,13 @@
 //! Categories of advisories.
 
-ghost use Rattle.std.specs.Prelude.{◌≡◌, ◌⊎◌, IfErr, IfOk, List, OnErr, ℕ, None};
+ghost use Rattle.std.specs.Prelude.{◌≡◌, ◌⊎◌, IfErr, IfOk, List, OnErr, ℕ, None, Some};
 ghost use Rattle.rustsec_values.specs.ClosedTables.{value_named};
-ghost use Rattle.rustsec_versions.specs.Failure.{IsMemory};
+ghost use Rattle.rustsec_error.specs.Failure.{IsMemory};
 ghost use Rattle.rustsec_texts.specs.declared.category.Category.TheVariants as category;
 ghost use Rattle.rustsec_texts.specs.Categories.{categories, category_cmp, category_name, category_of};
 
+use rustsec_error::{FromText, Result};
 use rustsec_values::{ExactClone, ExactEq, StatedOrder, Text};
-use rustsec_versions::{FromText, Result};
 use std::alloc::{AllocError, Global};
 use std::fmt;
 
@@ -114,7 +114,12 @@ impl FromText for Category {
 
     ghost reads = { λ text. Some (category_of text) };
 
-    fn from_text(alloc: Global, text: &str) -> Result<Category> {
+    // A text that names one of the other variants takes no memory.
+    fn from_text(alloc: Global, text: &str) -> Result<Category>
+        ensures ok { IfOk result (λ x. Some (category_of text.now) ≡ Some x) }
+        ensures err { IfErr result IsMemory }
+        ensures other { IfErr result (λ e. value_named category_name categories text.now ≡ None) }
+    {
         Category::from_str(alloc, text)
     }
 }

@@ -2,11 +2,11 @@
 
 ghost use Rattle.std.specs.Prelude.{◌≡◌, IfErr, IfOk, None, Some};
 ghost use Rattle.std.specs.List.{list_all};
-ghost use Rattle.rustsec_versions.specs.Failure.{IsMemory, IsRefusal};
+ghost use Rattle.rustsec_error.specs.Failure.{IsMemory, IsRefusal};
 ghost use Rattle.rustsec_texts.specs.Paths.{identifier_of, is_first, is_identifier, is_later};
 
+use rustsec_error::{ErrorKind, FromText, Result, refused_text};
 use rustsec_values::{ExactClone, ExactEq, StatedOrder, Text};
-use rustsec_versions::{ErrorKind, FromText, Result, refused_text};
 use std::alloc::{AllocError, Global};
 use std::convert::AsStr;
 use std::fmt;

@@ -1,14 +1,14 @@
 //! Kinds of informational advisories.
 
-ghost use Rattle.std.specs.Prelude.{◌≡◌, ◌⊎◌, ◌↔◌, IsTrue, IfErr, IfOk, List, OnErr, ℕ, None};
+ghost use Rattle.std.specs.Prelude.{◌≡◌, ◌⊎◌, ◌↔◌, IsTrue, IfErr, IfOk, List, OnErr, ℕ, None, Some};
 ghost use Rattle.rustsec_values.specs.ClosedTables.{value_named};
-ghost use Rattle.rustsec_versions.specs.Failure.{IsMemory};
+ghost use Rattle.rustsec_error.specs.Failure.{IsMemory};
 ghost use Rattle.rustsec_texts.specs.declared.informational.Informational.TheVariants as informational;
 ghost use Rattle.rustsec_texts.specs.Informational.{informational_cmp, informational_kinds, informational_name, informational_of, is_other_kind, kind_of_warnings};
 
 use crate::warning_kind::WarningKind;
+use rustsec_error::{FromText, Result};
 use rustsec_values::{ExactClone, ExactEq, StatedOrder, Text};
-use rustsec_versions::{FromText, Result};
 use std::alloc::{AllocError, Global};
 use std::fmt;
 
@@ -127,7 +127,12 @@ impl FromText for Informational {
 
     ghost reads = { λ text. Some (informational_of text) };
 
-    fn from_text(alloc: Global, text: &str) -> Result<Informational> {
+    // A text that names one of the other variants takes no memory.
+    fn from_text(alloc: Global, text: &str) -> Result<Informational>
+        ensures ok { IfOk result (λ x. Some (informational_of text.now) ≡ Some x) }
+        ensures err { IfErr result IsMemory }
+        ensures other { IfErr result (λ e. value_named informational_name informational_kinds text.now ≡ None) }
+    {
         Informational::from_str(alloc, text)
     }
 }

@@ -1,10 +1,10 @@
 //! Keywords of advisories.
 
 ghost use Rattle.std.specs.Prelude.{◌≡◌, IfErr, IfOk};
-ghost use Rattle.rustsec_versions.specs.Failure.{IsMemory};
+ghost use Rattle.rustsec_error.specs.Failure.{IsMemory};
 
+use rustsec_error::{FromText, Result};
 use rustsec_values::{ExactClone, ExactEq, StatedOrder, Text};
-use rustsec_versions::{FromText, Result};
 use std::alloc::{AllocError, Global};
 use std::convert::AsStr;
 use std::fmt;

@@ -1,13 +1,13 @@
 //! Licenses of advisories.
 
-ghost use Rattle.std.specs.Prelude.{◌≡◌, ◌⊎◌, IfErr, IfOk, List, OnErr, ℕ, None};
+ghost use Rattle.std.specs.Prelude.{◌≡◌, ◌⊎◌, IfErr, IfOk, List, OnErr, ℕ, None, Some};
 ghost use Rattle.rustsec_values.specs.ClosedTables.{value_named};
-ghost use Rattle.rustsec_versions.specs.Failure.{IsMemory};
+ghost use Rattle.rustsec_error.specs.Failure.{IsMemory};
 ghost use Rattle.rustsec_texts.specs.declared.license.License.TheVariants as license;
 ghost use Rattle.rustsec_texts.specs.Licenses.{default_license, license_name, license_of, licenses};
 
+use rustsec_error::{FromText, Result};
 use rustsec_values::{ExactClone, ExactEq, Text};
-use rustsec_versions::{FromText, Result};
 use std::alloc::{AllocError, Global};
 use std::fmt;
 
@@ -89,7 +89,12 @@ impl FromText for License {
 
     ghost reads = { λ text. Some (license_of text) };
 
-    fn from_text(alloc: Global, text: &str) -> Result<License> {
+    // A text that names one of the other variants takes no memory.
+    fn from_text(alloc: Global, text: &str) -> Result<License>
+        ensures ok { IfOk result (λ x. Some (license_of text.now) ≡ Some x) }
+        ensures err { IfErr result IsMemory }
+        ensures other { IfErr result (λ e. value_named license_name licenses text.now ≡ None) }
+    {
         License::from_str(alloc, text)
     }
 }

@@ -1,12 +1,12 @@
 //! The parts of an advisory file.
 
 ghost use Rattle.std.specs.Prelude.{◌≡◌, ◌↔◌, IfErr, IfOk, MatchOption, Some, None};
-ghost use Rattle.rustsec_versions.specs.Failure.{IsRefusal};
-ghost use Rattle.rustsec_texts.specs.PatternCuts.{IsSliceOf, behind, cut_at};
+ghost use Rattle.rustsec_error.specs.Failure.{IsRefusal};
+ghost use Rattle.rustsec_texts.specs.PatternCuts.{IsSliceOf, after_prefix, cut_at};
 ghost use Rattle.rustsec_texts.specs.Parts.{AreParts, FileParts, ShowsBeginning, opening, parts_of};
 
+use rustsec_error::{Error, ErrorKind, Result, refused_text};
 use rustsec_values::beginning_of;
-use rustsec_versions::{Error, ErrorKind, Result, refused_text};
 use std::alloc::Global;
 
 /// The parts of an advisory file, each a slice of its text.
@@ -42,12 +42,12 @@ impl<'a> Parts<'a> {
 
         // Success takes no memory, so any error means that the text does not have these parts.
         ensures none { IfErr result (λ e. parts_of text.now ≡ None) }
-        ensures wrong_start { IfErr result (λ e. behind opening text.now ≡ None → IsRefusal ErrorKind.Parse (ShowsBeginning text.now e) e) }
+        ensures wrong_start { IfErr result (λ e. after_prefix opening text.now ≡ None → IsRefusal ErrorKind.Parse (ShowsBeginning text.now e) e) }
         ensures slices { IfOk result (λ p. IsSliceOf p.front_matter.now text.now × IsSliceOf p.markdown.now text.now
             × IsSliceOf p.title.now text.now × IsSliceOf p.description.now text.now) }
         ensures meaning { (p : FileParts) → (parts_of text.now ≡ Some p) ↔ AreParts text.now p }
     {
-        let Some(body) = behind(text, "```toml") else {
+        let Some(body) = after_prefix(text, "```toml") else {
             return Err(wrong_start(alloc, text));
         };
         let Some((front, rest)) = cut_at(body, "\n```") else {
@@ -59,7 +59,7 @@ impl<'a> Parts<'a> {
             ));
         };
         let markdown = rest.trim_start();
-        let Some(lines) = behind(markdown, "# ") else {
+        let Some(lines) = after_prefix(markdown, "# ") else {
             return Err(refused_text(
                 alloc,
                 "no title below the front matter",
@@ -72,7 +72,7 @@ impl<'a> Parts<'a> {
                 alloc,
                 "no line below the title",
                 lines,
-                "a line feed behind it",
+                "a line feed after it",
             ));
         };
         Ok(Parts {
@@ -85,8 +85,8 @@ impl<'a> Parts<'a> {
 }
 
 /// Returns the text after a pattern, if the text begins with it.
-fn behind<'a>(text: &'a str, pattern: &'static str) -> Option<&'a str>
-    ensures { MatchOption result (behind pattern.now text.now ≡ None) (λ rest. behind pattern.now text.now ≡ Some rest.now) }
+fn after_prefix<'a>(text: &'a str, pattern: &'static str) -> Option<&'a str>
+    ensures { MatchOption result (after_prefix pattern.now text.now ≡ None) (λ rest. after_prefix pattern.now text.now ≡ Some rest.now) }
 {
     text.strip_prefix(pattern)
 }

@@ -1,11 +1,11 @@
 //! Kinds of warnings.
 
 ghost use Rattle.std.specs.Prelude.{◌≡◌, IfErr, IfOk, Some, None};
-ghost use Rattle.rustsec_versions.specs.Failure.{IsRefusal};
+ghost use Rattle.rustsec_error.specs.Failure.{IsRefusal};
 ghost use Rattle.rustsec_texts.specs.WarningKinds.{warning_kind_cmp, warning_kind_name, warning_kind_of};
 
+use rustsec_error::{ErrorKind, FromText, Result, refused_text};
 use rustsec_values::{ExactClone, ExactEq, Named, StatedOrder, value_named};
-use rustsec_versions::{ErrorKind, FromText, Result, refused_text};
 use std::alloc::Global;
 use std::fmt;
 

@@ -3,12 +3,12 @@
 ghost use Rattle.std.specs.Prelude.{◌≡◌, IfErr, IfOk, None, Some};
 ghost use Rattle.toml.specs.Parse.{parse_document};
 ghost use Rattle.toml.specs.View.{table_view};
-ghost use Rattle.rustsec_versions.specs.Failure.{IsMemory, IsOfKind, IsRefusal};
+ghost use Rattle.rustsec_error.specs.Failure.{IsMemory, IsOfKind, IsRefusal};
 
 use crate::lines::shown_line;
 use crate::statements::key_at;
+use rustsec_error::{Error, ErrorKind, Result};
 use rustsec_places::Place;
-use rustsec_versions::{Error, ErrorKind, Result};
 use std::alloc::{AllocError, Global};
 use toml::Table;
 

@@ -1,15 +1,15 @@
 //! A table of a document, and typed access to the values at its keys.
 
-ghost use Rattle.std.specs.Prelude.{◌≡◌, [], IfErr, IfOk, None, Some, false, option_map};
+ghost use Rattle.std.specs.Prelude.{◌≡◌, ◌≢◌, [], IfErr, IfOk, None, OnErr, Some, false, option_map};
 ghost use Rattle.toml.specs.Data.{as_array, as_bool, as_str, as_table, get_member};
 ghost use Rattle.toml.specs.View.{array_view, table_view, view};
 ghost use Rattle.rustsec_toml.specs.Fields.{defaulted, every, list_of, optional, required, text};
 ghost use Rattle.rustsec_values.specs.Reading.{read_all};
-ghost use Rattle.rustsec_versions.specs.Failure.{IsMemory, IsOfKind, IsRefusal};
+ghost use Rattle.rustsec_error.specs.Failure.{IsMemory, IsOfKind, IsRefusal};
 
 use crate::documents::TablePlace;
+use rustsec_error::{Error, ErrorKind, FromText, Result, refused_at, refused_text};
 use rustsec_values::Items;
-use rustsec_versions::{Error, ErrorKind, FromText, Result, refused_at, refused_text};
 use std::alloc::{AllocError, Global};
 use std::fmt;
 use std::fmt::Formatter;
@@ -319,6 +319,7 @@ impl<'a> Section<'a> {
     pub fn optional_text_at<T: FromText>(self, alloc: Global, key: &str) -> Result<Option<T>>
         ensures ok { IfOk result (λ x. optional (text T.reads) key.now (table_view self.entry.table.now) ≡ Some x) }
         ensures err { IfErr result (IsRefusal ErrorKind.Parse (optional (text T.reads) key.now (table_view self.entry.table.now) ≡ None)) }
+        ensures none { OnErr result (get_member key.now (table_view self.entry.table.now) ≢ None) }
     {
         let Some(value) = self.get(key) else {
             return Ok(None);
@@ -335,6 +336,7 @@ impl<'a> Section<'a> {
     pub fn text_or<T: FromText>(self, alloc: Global, key: &str, default: T) -> Result<T>
         ensures ok { IfOk result (λ x. defaulted default (text T.reads) key.now (table_view self.entry.table.now) ≡ Some x) }
         ensures err { IfErr result (IsRefusal ErrorKind.Parse (defaulted default (text T.reads) key.now (table_view self.entry.table.now) ≡ None)) }
+        ensures none { OnErr result (get_member key.now (table_view self.entry.table.now) ≢ None) }
     {
         match self.get(key) {
             Some(value) => self.text_of(alloc, key, value),
@@ -350,6 +352,7 @@ impl<'a> Section<'a> {
     pub fn texts_at<T: FromText>(self, alloc: Global, key: &str) -> Result<Items<T>>
         ensures ok { IfOk result (λ xs. defaulted [] (every (text T.reads)) key.now (table_view self.entry.table.now) ≡ Some xs) }
         ensures err { IfErr result (IsRefusal ErrorKind.Parse (defaulted [] (every (text T.reads)) key.now (table_view self.entry.table.now) ≡ None)) }
+        ensures none { OnErr result (get_member key.now (table_view self.entry.table.now) ≢ None) }
     {
         let Some(value) = self.get(key) else {
             return Ok(Items::new(alloc));

@@ -1,5 +1,6 @@
 //! Where the keys of a document are. The document was read before, so it is known to be TOML.
 
+use rustsec_places::skip_mark;
 use std::alloc::Global;
 use toml_parser::text::{first, skip_blank, skip_ws};
 use toml_parser::{Key, dotted_key, quoted, starts_string};
@@ -78,7 +79,7 @@ fn reach(alloc: Global, text: &str, path: &[&str], from: Option<usize>) -> Optio
 /// Returns the text of a document from the first key on whose path, with the header above it, begins with these parts.
 pub fn key_at<'a>(alloc: Global, document: &'a str, path: &[&str]) -> Option<&'a str> {
     let mut header = Some(0);
-    let mut rest = document.strip_prefix('\u{FEFF}').unwrap_or(document);
+    let mut rest = skip_mark(document);
     for _ in document.bytes() {
         let start = skip_blank(rest, true);
         let is_header = first(start) == b'[';

@@ -1,6 +1,6 @@
 //! A text that contracts see as the list of its bytes.
 
-ghost use Rattle.std.specs.Prelude.{◌≡◌, ◌==◌, [], List, ℕ, Some, IfOk, nat_eq, option_copied, refl, string_bytes, length};
+ghost use Rattle.std.specs.Prelude.{◌≡◌, ◌≢◌, ◌==◌, [], List, ℕ, None, OnErr, Some, IfOk, nat_eq, option_copied, refl, string_bytes, length};
 ghost use Rattle.std.proofs.Common.{rules};
 ghost use Rattle.std.specs.Cmp.{partial_equiv_from_equiv};
 ghost use Rattle.std.specs.Cmp.Lexicographic.{bytes_decides, nat_list_cmp_total, nat_list_eq_equiv, pointwise, slice_cmp, texts_po, texts_ties};
@@ -56,7 +56,10 @@ impl Text {
     ///
     /// Out of memory.
     pub fn from_option(alloc: Global, text: Option<&str>) -> Result<Option<Text>, AllocError>
-        ensures { IfOk result (λ t. t ≡ option_copied text.entry) }
+        ensures ok { IfOk result (λ t. t ≡ option_copied text.entry) }
+
+        // A missing text takes no memory.
+        ensures none { OnErr result (text.entry ≢ None) }
     {
         match text {
             Some(text) => {

@@ -1,8 +1,8 @@
 //! The parts of advisory files.
 
+use rustsec_error::ErrorKind;
 use rustsec_fixtures::kind_of;
 use rustsec_texts::Parts;
-use rustsec_versions::ErrorKind;
 use std::alloc::Global;
 use std::process::Abort;
 use std::test::Fail;

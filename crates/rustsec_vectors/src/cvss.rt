@@ -1,8 +1,8 @@
 //! Vectors of CVSS: how they are read and printed, their scores and their ratings.
 
+use rustsec_error::ErrorKind;
 use rustsec_fixtures::{is_printed, kind_of, score};
 use rustsec_lock::{Cvss, Severity};
-use rustsec_versions::ErrorKind;
 use std::alloc::Global;
 use std::process::Abort;
 use std::test::Fail;

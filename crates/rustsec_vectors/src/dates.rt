@@ -1,8 +1,8 @@
 //! Dates of advisories.
 
+use rustsec_error::ErrorKind;
 use rustsec_fixtures::kind_of;
 use rustsec_texts::Date;
-use rustsec_versions::ErrorKind;
 use std::alloc::Global;
 use std::cmp::Ordering;
 use std::process::Abort;

@@ -1,8 +1,8 @@
 //! Paths of functions.
 
+use rustsec_error::ErrorKind;
 use rustsec_fixtures::kind_of;
 use rustsec_texts::FunctionPath;
-use rustsec_versions::ErrorKind;
 use std::alloc::Global;
 use std::process::Abort;
 use std::test::Fail;

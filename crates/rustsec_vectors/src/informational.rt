@@ -1,8 +1,8 @@
 //! Collections and informational kinds by their texts.
 
+use rustsec_error::ErrorKind;
 use rustsec_fixtures::kind_of;
 use rustsec_texts::{Collection, Informational, WarningKind};
-use rustsec_versions::ErrorKind;
 use std::alloc::Global;
 use std::test::Fail;
 

@@ -1,7 +1,8 @@
 //! The intervals of requirements: their bounds, how they print, which overlap, and by which order they compare.
 
+use rustsec_error::ErrorKind;
 use rustsec_fixtures::{interval, kind_of, version};
-use rustsec_versions::{Bound, ErrorKind, OsvRange, UnaffectedRange, requirement_text};
+use rustsec_versions::{Bound, OsvRange, UnaffectedRange, requirement_text};
 use semver::{Comparator, Op, Prerelease, VersionReq};
 use std::alloc::Global;
 use std::process::Abort;
@@ -120,7 +121,7 @@ fn overlap_cases_of_operators(rt: HostRuntime) -> Result<(), Fail> {
 
 // Wildcards with an operator in front have that operator, missing numbers zero; a bare one is refused.
 #[test]
-fn wildcards_behind_operators(rt: HostRuntime) -> Result<(), Fail> {
+fn wildcards_after_operators(rt: HostRuntime) -> Result<(), Fail> {
     expect_refused(&rt, &["1.X"])?;
     expect_intervals(
         &rt,

@@ -1,10 +1,10 @@
 //! Lockfiles: which texts are one, and their packages.
 
 use crate::packages::{self, Row};
+use rustsec_error::ErrorKind;
 use rustsec_fixtures::{changed, kind_of};
 use rustsec_lock::Lockfile;
 use rustsec_lock::package::Package;
-use rustsec_versions::ErrorKind;
 use std::alloc::Global;
 use std::fs;
 use std::process::Abort;
@@ -155,7 +155,7 @@ fn lockfile_files(rt: HostRuntime) -> Result<(), Fail> {
 
 // A mark before a TOML document is not part of it, as the crate `toml` reads it.
 #[test]
-fn lockfiles_behind_a_mark_and_with_line_ends(rt: HostRuntime) -> Result<(), Fail> {
+fn lockfiles_after_a_mark_and_with_line_ends(rt: HostRuntime) -> Result<(), Fail> {
     let marked = changed(rt.alloc(), TWO_PACKAGES, "", "\u{feff}")?;
     assert!(rt; file_has(&rt, "marked.lock", marked.as_bytes(), PACKAGES)?);
     let returns = TWO_PACKAGES.replace(rt.alloc(), "\n", "\r\n")?;

@@ -1,10 +1,10 @@
 //! Yanked packages by look-ups of the tests, and signatures.
 
+use rustsec_error::{Error, ErrorKind};
 use rustsec_fixtures::version;
 use rustsec_lock::package::{Name, Package};
 use rustsec_registry::{CachedIndex, IndexVersion, Lookup, Signature};
 use rustsec_values::{Items, Text};
-use rustsec_versions::{Error, ErrorKind};
 use std::alloc::Global;
 use std::cell::Cell;
 use std::process::Abort;
@@ -29,7 +29,7 @@ struct Changing<'a> {
 }
 
 /// Returns the versions of a list.
-fn listed(alloc: Global, rows: &[(&str, bool)]) -> rustsec_versions::Result<Items<IndexVersion>> {
+fn listed(alloc: Global, rows: &[(&str, bool)]) -> rustsec_error::Result<Items<IndexVersion>> {
     let mut versions = Items::new(alloc);
     for (text, yanked) in rows {
         let version = Text::from_str(alloc, text)?;
@@ -55,7 +55,7 @@ fn said_of<'a>(rows: Rows<'a>, name: &str) -> Option<&'a Said<'a>> {
 fn answer(
     alloc: Global,
     said: Option<&Said<'_>>,
-) -> rustsec_versions::Result<Option<Items<IndexVersion>>> {
+) -> rustsec_error::Result<Option<Items<IndexVersion>>> {
     match said {
         Some(Said::Lists(rows)) => {
             let versions = listed(alloc, rows)?;
@@ -75,7 +75,7 @@ impl<'a> Lookup for Changing<'a> {
         &self,
         alloc: Global,
         name: &Name,
-    ) -> rustsec_versions::Result<Option<Items<IndexVersion>>> {
+    ) -> rustsec_error::Result<Option<Items<IndexVersion>>> {
         let asked = self.asked.get();
         self.asked.set(asked.saturating_add(1));
         let last = self.says.len().saturating_sub(1);

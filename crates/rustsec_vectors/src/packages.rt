@@ -1,10 +1,10 @@
 //! Names and packages of lockfiles.
 
+use rustsec_error::ErrorKind;
 use rustsec_fixtures::{kind_of, version};
 use rustsec_lock::SourceId;
 use rustsec_lock::package::{Name, Package};
 use rustsec_values::Text;
-use rustsec_versions::ErrorKind;
 use std::alloc::Global;
 use std::cmp::Ordering;
 use std::process::Abort;

@@ -1,8 +1,8 @@
 //! The sources of packages.
 
+use rustsec_error::ErrorKind;
 use rustsec_fixtures::kind_of;
 use rustsec_lock::{SourceId, SourceKind};
-use rustsec_versions::ErrorKind;
 use std::alloc::Global;
 use std::cmp::Ordering;
 use std::process::Abort;

@@ -1,8 +1,9 @@
 //! Lists of requirements by the library's calls: which are accepted, which versions they leave affected, and their
 //! ranges.
 
+use rustsec_error::ErrorKind;
 use rustsec_fixtures::{kind_of, lists, some_affects, version};
-use rustsec_versions::{ErrorKind, OsvRange, Versions, ranges_for_advisory};
+use rustsec_versions::{OsvRange, Versions, ranges_for_advisory};
 use semver::Version;
 use std::alloc::Global;
 use std::process::Abort;

@@ -2,9 +2,9 @@
 
 use crate::files::FILES;
 use rustsec_commands::Fault;
+use rustsec_error::ErrorKind;
 use rustsec_fixtures::{Failing, MemoryFolders};
 use rustsec_program::run_over;
-use rustsec_versions::ErrorKind;
 use std::alloc::Global;
 use std::io;
 use std::process::Abort;

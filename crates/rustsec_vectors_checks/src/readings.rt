@@ -1,9 +1,9 @@
 //! What `check` says about requirements that Cargo's matching reads differently.
 
 use rustsec_commands::Fault;
+use rustsec_error::ErrorKind;
 use rustsec_fixtures::{Failing, Holds, MemoryFolders, Paths};
 use rustsec_program::run_over;
-use rustsec_versions::ErrorKind;
 use std::alloc::Global;
 use std::io;
 use std::test::Fail;

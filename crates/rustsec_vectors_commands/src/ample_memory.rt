@@ -2,11 +2,11 @@
 //! that they accept. Those of other crates are in the modules of their subjects.
 
 use rustsec_commands::{answer, answer_ranges};
+use rustsec_error::{Error, ErrorKind};
 use rustsec_fixtures::{interval, lists, requirements, version};
 use rustsec_values::{Items, SortedMap, Text};
 use rustsec_versions::{
-    Bound, Error, ErrorKind, Requirements, Versions, ranges_for_advisory, requirement_text,
-    successor,
+    Bound, Requirements, Versions, ranges_for_advisory, requirement_text, successor,
 };
 use std::alloc::Global;
 use std::test::Fail;

@@ -1,14 +1,14 @@
-//! Commands over folders in memory: the worked examples, which give the same over these files on the disk; an error at
-//! each asking in turn; folders that change.
+//! Commands over folders in memory: the worked examples, most of them also over these files on the disk, with the same
+//! outputs; an error at each asking in turn; folders that change.
 
 use crate::outputs::{CommandRow, expect_outputs};
 use crate::roots::{EMPTY_REPORT, FOUR, FULL, FULL_REPORT, ONE_PACKAGE};
 use rustsec_commands::{Fault, run_over};
+use rustsec_error::ErrorKind;
 use rustsec_fixtures::{
     FOUR_PACKAGES, Failing, Holds, INVALID, INVALID_ERRORS, MemoryFolders, Paths, SHORT,
     SHORT_DOCUMENT, UNMAINTAINED, VULNERABLE, WITHDRAWN,
 };
-use rustsec_versions::ErrorKind;
 use std::alloc::Global;
 use std::process::Abort;
 use std::rt::Files;
@@ -235,7 +235,7 @@ const OPTIONS: &[CommandRow<'static>] = &[
         0,
         "0 vulnerabilities, 0 warnings\n",
     ),
-    // The database is read before the IDs and the lockfile.
+    // The IDs are read before the database and the lockfile, and the database before the lockfile.
     (
         &[
             "audit",

@@ -17,6 +17,8 @@ mod lint;
 #[cfg(test)]
 mod lint_keys;
 #[cfg(test)]
+mod lint_quotes;
+#[cfg(test)]
 mod osv_command;
 #[cfg(test)]
 mod outputs;

@@ -1,11 +1,11 @@
 //! Advisory files: which texts are advisories, and what is read of them.
 
 use rustsec_advisory::{Address, Advisory, Affected, Metadata};
+use rustsec_error::ErrorKind;
 use rustsec_fixtures::{VALID, acceptance, acceptance_with, changed, kind_of};
 use rustsec_lock::platforms::{Arch, OS};
 use rustsec_lock::{Cvss, Severity};
 use rustsec_texts::{FunctionPath, Id, License};
-use rustsec_versions::ErrorKind;
 use semver::{Version, VersionReq};
 use std::alloc::Global;
 use std::process::Abort;
@@ -43,7 +43,7 @@ fn expect_changes<T: AllocGlobal + Abort>(rt: &T, rows: &[(&str, &str, bool)]) -
 }
 
 #[test]
-fn advisory_table_line_behind_a_comment(rt: HostRuntime) -> Result<(), Fail> {
+fn advisory_table_line_after_a_comment(rt: HostRuntime) -> Result<(), Fail> {
     expect_changes(&rt, &[("[advisory]\n", "# c\n[advisory]\n", false)])
 }
 

@@ -2,13 +2,13 @@
 
 use rustsec_advisory::Advisory;
 use rustsec_database::{Database, Entries, SourceFile};
+use rustsec_error::ErrorKind;
 use rustsec_fixtures::{VALID, changed, kind_of};
 use rustsec_lock::Lockfile;
 use rustsec_lock::package::Name;
 use rustsec_query::Query;
 use rustsec_texts::{Collection, Id};
 use rustsec_values::Text;
-use rustsec_versions::ErrorKind;
 use std::alloc::Global;
 use std::process::Abort;
 use std::test::Fail;

@@ -1,8 +1,8 @@
 //! The source files under a root: over folders in memory, and over those of the disk.
 
+use rustsec_error::ErrorKind;
 use rustsec_fixtures::{Failing, Holds, MemoryFolders, Paths};
 use rustsec_folders::{Folders, RealFolders, SourceFile, source_files};
-use rustsec_versions::ErrorKind;
 use std::alloc::Global;
 use std::fs;
 use std::os::unix::fs::symlink;

@@ -2,10 +2,10 @@
 
 use rustsec_advisory::{Advisory, Linter};
 use rustsec_database::Entries;
+use rustsec_error::{Error, ErrorKind};
 use rustsec_fixtures::{VALID, changed, kind_of};
 use rustsec_osv::OsvAdvisory;
 use rustsec_texts::{Collection, Id};
-use rustsec_versions::{Error, ErrorKind};
 use serde_json::Value;
 use std::alloc::Global;
 use std::process::Abort;
@@ -110,7 +110,7 @@ fn hold_the_valid(alloc: Global, entries: &Entries, other: &str) -> Result<bool,
 }
 
 /// Returns the kind of the error for a file after the valid one, if only the valid one is stored then.
-fn refusal_behind(alloc: Global, row: &Refused) -> Result<Option<ErrorKind>, Fail> {
+fn refusal_after(alloc: Global, row: &Refused) -> Result<Option<ErrorKind>, Fail> {
     let (path, old, new, other) = row;
     let text = changed(alloc, VALID, old, new)?;
     let mut entries = Entries::new(alloc);
@@ -121,9 +121,9 @@ fn refusal_behind(alloc: Global, row: &Refused) -> Result<Option<ErrorKind>, Fai
 }
 
 #[test]
-fn load_path_forms_refused_behind_another(rt: HostRuntime) -> Result<(), Fail> {
+fn load_path_forms_refused_after_another(rt: HostRuntime) -> Result<(), Fail> {
     for (i, (row, kind)) in REFUSED.iter().enumerate() {
-        let found = refusal_behind(rt.alloc(), row)?;
+        let found = refusal_after(rt.alloc(), row)?;
         assert!(rt; found == Some(*kind), "row {i}");
     }
     Ok(())
@@ -185,8 +185,8 @@ const DOCUMENT: [&str; 3] = [
 
 /// Returns the document with an event's text and with the text after the address of advisories.
 fn document(alloc: Global, event: &str, link: &str) -> Result<Result<OsvAdvisory, Error>, Fail> {
-    let [before, between, behind] = DOCUMENT;
-    let text = format!(in alloc; "{before}{event}{between}{link}{behind}")?;
+    let [before, between, after] = DOCUMENT;
+    let text = format!(in alloc; "{before}{event}{between}{link}{after}")?;
     let tree = Value::from_str(alloc, &text)?;
     Ok(OsvAdvisory::from_value(alloc, &tree))
 }

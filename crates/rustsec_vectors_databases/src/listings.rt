@@ -1,9 +1,9 @@
 //! Tests of the names in a folder's listing, from its bytes: all of them, in their order; and of copies of entries.
 
+use rustsec_error::ErrorKind;
 use rustsec_fixtures::ByteReader;
 use rustsec_folders::{FolderEntry, entry_names, listed_names};
 use rustsec_values::{Items, Text};
-use rustsec_versions::ErrorKind;
 use std::alloc::Global;
 use std::test::Fail;
 

@@ -2,11 +2,11 @@
 
 use crate::databases::PLACE;
 use rustsec_database::{Database, Entries, Index};
+use rustsec_error::ErrorKind;
 use rustsec_fixtures::{Failing, Holds, MemoryFolders, Paths, VALID};
 use rustsec_lock::package::Name;
 use rustsec_texts::Collection;
 use rustsec_values::Text;
-use rustsec_versions::ErrorKind;
 use std::alloc::Global;
 use std::fs;
 use std::rt::Files;

@@ -1,8 +1,8 @@
 //! Trees of OSV documents, read and printed again.
 
+use rustsec_error::ErrorKind;
 use rustsec_fixtures::kind_of;
 use rustsec_osv::{OsvAdvisory, OsvAffected, OsvEcosystemSpecific, OsvJsonRange};
-use rustsec_versions::ErrorKind;
 use serde_json::Value;
 use std::alloc::Global;
 use std::process::Abort;

@@ -1,9 +1,9 @@
 //! Documents of advisories, and what is read out of a document.
 
 use rustsec_advisory::Advisory;
+use rustsec_error::ErrorKind;
 use rustsec_fixtures::{SHORT, SHORT_DOCUMENT, VALID, changed, kind_of};
 use rustsec_osv::{OsvAdvisory, OsvReferenceKind};
-use rustsec_versions::ErrorKind;
 use serde_json::Value;
 use std::alloc::Global;
 use std::process::Abort;

@@ -2,8 +2,8 @@
 
 use rustsec_commands::Fault;
 use rustsec_database_commands::run_over;
+use rustsec_error::ErrorKind;
 use rustsec_fixtures::{Failing, MemoryFolders, Paths};
-use rustsec_versions::ErrorKind;
 use std::alloc::Global;
 use std::io;
 use std::test::Fail;

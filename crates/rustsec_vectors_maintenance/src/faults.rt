@@ -27,6 +27,8 @@ pub(crate) enum Fault {
     Overlap,
     /// The address of its source is not a URL.
     Source,
+    /// Its front matter has a form of TOML 1.1.
+    Edition,
 }
 
 /// The kinds of faults, in the order in which files have them.
@@ -41,14 +43,24 @@ const FAULTS: &[Fault] = &[
     Fault::Twice,
     Fault::Overlap,
     Fault::Source,
+    Fault::Unreadable,
+    Fault::Unparsed,
+    Fault::Category,
+    Fault::License,
+    Fault::Name,
+    Fault::Folder,
+    Fault::Collection,
+    Fault::Twice,
+    Fault::Overlap,
+    Fault::Edition,
 ];
 
-/// Returns what is wrong with the file of a number: with one of 25 files, each kind in turn.
+/// Returns what is wrong with the file of a number: with one of 25 files, each of these in turn.
 pub(crate) fn fault_of(number: u32) -> Option<Fault> {
     if number % 25 != 7 {
         return None;
     }
-    let place = (number / 25 % 10) as usize;
+    let place = (number / 25 % 20) as usize;
     FAULTS.get(place).copied()
 }
 
@@ -78,6 +90,20 @@ fn lines_about(fault: Fault) -> &'static str {
         Fault::Source => {
             "@: upstream: the Rust crate refuses a `source` whose address is not a URL\n"
         }
+        Fault::Edition => {
+            "@: upstream: the Rust crate refuses an escape `\\e` or `\\x` (TOML 1.1)\n"
+        }
+    }
+}
+
+/// Returns how a note about a fault begins, with the mark for the path; no text if no note names the path. The key at
+/// fault is in the sixth line.
+fn note_about(fault: Fault) -> &'static str {
+    match fault {
+        Fault::Unparsed => "rustsec_audit: parse error: error parsing @: line 6, column 1: ",
+        Fault::Category | Fault::License | Fault::Collection => "rustsec_audit: @: line 6: ",
+        Fault::Edition => "rustsec_audit: @: line 6: the Rust crate refuses an escape ",
+        _ => "",
     }
 }
 
@@ -109,6 +135,9 @@ fn remarks_about(fault: Fault) -> &'static str {
         }
         Fault::Source => {
             r#"{"fault":^,"kind":"upstream","text":"the Rust crate refuses a `source` whose address is not a URL"}"#
+        }
+        Fault::Edition => {
+            r#"{"fault":^,"kind":"upstream","text":"the Rust crate refuses an escape `\\e` or `\\x` (TOML 1.1)"}"#
         }
     }
 }
@@ -149,6 +178,11 @@ fn with_names(alloc: Global, template: &str, number: u32) -> Result<String, Fail
 fn with_places(alloc: Global, template: &str, number: u32) -> Result<String, Fail> {
     let text = with_first(alloc, template, number)?;
     Ok(text.replace(alloc, "%", collection_of(number))?)
+}
+
+/// Returns how a note about the file of a number with a fault begins; no text if no note names the file.
+pub(crate) fn note_of(alloc: Global, number: u32, fault: Fault) -> Result<String, Fail> {
+    with_path(alloc, note_about(fault), number)
 }
 
 /// Returns the lines about the file of a number with a fault.

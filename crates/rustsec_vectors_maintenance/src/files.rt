@@ -13,7 +13,7 @@ use std::test::Fail;
 pub(crate) const NUMBERS: Range<u32> = 1000..2000;
 
 /// The folders of the two packages.
-const BASE: &str = "db/crates/base";
+pub(crate) const BASE: &str = "db/crates/base";
 
 const STD: &str = "db/rust/std";
 
@@ -66,6 +66,7 @@ fn more_of(number: u32) -> &'static str {
         Some(Fault::Collection) if is_crate(number) => "collection = \"rust\"\n",
         Some(Fault::Collection) => "collection = \"crates\"\n",
         Some(Fault::Source) => "source = \"registry+base\"\n",
+        Some(Fault::Edition) => "keywords = [\"\\x61\"]\n",
         _ => "",
     }
 }
@@ -122,7 +123,7 @@ pub(crate) struct Listings<'a> {
 }
 
 /// Returns the entries of a folder.
-fn entries_in<'a>(
+pub(crate) fn entries_in<'a>(
     alloc: Global,
     files: &'a [SourceFile],
     folder: &str,

@@ -9,6 +9,8 @@ mod faults;
 #[cfg(test)]
 mod files;
 #[cfg(test)]
+mod large_databases;
+#[cfg(test)]
 mod lint_database;
 #[cfg(test)]
 mod lint_words;

@@ -1,7 +1,7 @@
 //! What `lint-database` writes about a database of a thousand files. Forty of them have a fault.
 
 use crate::answers::{notes_of, writes};
-use crate::faults::{fault_of, lines_of, object_of};
+use crate::faults::{fault_of, lines_of, note_of, object_of};
 use crate::files::{Listings, NUMBERS, files, make_listings, rows};
 use rustsec_fixtures::Paths;
 use rustsec_folders::SourceFile;
@@ -84,12 +84,27 @@ fn writes_upstream_json(alloc: Global, files: Paths<'_>) -> Result<bool, Fail> {
     writes(alloc, files, words, 1, &json)
 }
 
-/// Returns whether there is a note on each of the eight files that are refused, and on progress at the end.
+/// Returns whether the notes name each file whose fault has a line, with that line.
+fn names_each(alloc: Global, notes: &str) -> Result<bool, Fail> {
+    for number in NUMBERS {
+        if let Some(fault) = fault_of(number) {
+            if !notes.contains(note_of(alloc, number, fault)?.as_str()) {
+                return Ok(false);
+            }
+        }
+    }
+    Ok(true)
+}
+
+/// Returns whether there is a note on each of the eight files that are refused, one with the line of each of the twelve
+/// lint errors and of the two forms of TOML 1.1, and one on progress at the end.
 fn is_noted(alloc: Global, files: Paths<'_>) -> Result<bool, Fail> {
     let notes = notes_of(alloc, files, &["lint-database", "db", "--progress"])?;
     let text = str::from_utf8(notes.as_slice())?;
     Ok(
-        text.matches("rustsec_audit: ").count() == 9
+        text.matches("rustsec_audit: ").count() == 23
+            && text.matches(".md: line 6: ").count() == 14
+            && names_each(alloc, text)?
             && text.ends_with("\nrustsec_audit: 1000 of 1000 files\n"),
     )
 }

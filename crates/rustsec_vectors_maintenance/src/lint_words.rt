@@ -31,6 +31,17 @@ const FILES: Paths<'_> = &[
             "```toml\n[advisory]\nid = \"RUSTSEC-2001-0002\"\npackage = \"base\"\ndate = \"2001-02-03\"\n\n[versions]\npatched = [\">= 2.0.0\", \"> 3\"]\n```\n\n# T\n\nD\n",
         ),
     ),
+    ("edition/crates", Holds::Entries(&[("base", true)])),
+    (
+        "edition/crates/base",
+        Holds::Entries(&[("RUSTSEC-2001-0005.md", false)]),
+    ),
+    (
+        "edition/crates/base/RUSTSEC-2001-0005.md",
+        Holds::Text(
+            "```toml\n[advisory]\nid = \"RUSTSEC-2001-0005\"\npackage = \"base\"\ndate = \"2001-02-03\"\n\n[affected]\nfunctions = { \"base::f\" = [\">= 1.0.0\"], }\n\n[versions]\npatched = [\">= 2.0.0\"]\n```\n\n# T\n\nD\n",
+        ),
+    ),
     ("refused/crates", Holds::Entries(&[("base", true)])),
     (
         "refused/crates/base",
@@ -84,6 +95,16 @@ const ROWS: &[(&[&str], u8, &str)] = &[
         "overlap/crates/base/RUSTSEC-2001-0002.md: upstream: the Rust crate refuses patched requirements that overlap\nfiles: 1, faults: 1, notes: 0\n",
     ),
     (
+        &["lint-database", "edition"],
+        0,
+        "edition/crates/base/RUSTSEC-2001-0005.md: upstream: the Rust crate refuses a comma at the end of an inline table (TOML 1.1)\nfiles: 1, faults: 0, notes: 1\n",
+    ),
+    (
+        &["lint-database", "edition", "--upstream"],
+        1,
+        "edition/crates/base/RUSTSEC-2001-0005.md: upstream: the Rust crate refuses a comma at the end of an inline table (TOML 1.1)\nfiles: 1, faults: 1, notes: 0\n",
+    ),
+    (
         &["lint-database", "refused"],
         1,
         "refused/crates/base/RUSTSEC-2001-0003.md: refused: refused: parse error\nrefused/crates/base/RUSTSEC-2001-0004.md: refused: refused: parse error\nrefused/crates/base/a\\u{a}b.md: refused: refused: I/O operation failed\nfiles: 3, faults: 3, notes: 0\n",
@@ -120,6 +141,12 @@ const NOTES: &[(&[&str], &[&str])] = &[
     (
         &["lint-database", "overlap"],
         &["rustsec_audit: overlap/crates/base/RUSTSEC-2001-0002.md: `>3` is read as `>3.0.0`: "],
+    ),
+    (
+        &["lint-database", "edition"],
+        &[
+            "rustsec_audit: edition/crates/base/RUSTSEC-2001-0005.md: line 8: the Rust crate refuses a comma at the end of an inline table (TOML 1.1)\n",
+        ],
     ),
     (
         &["lint-database", "refused"],

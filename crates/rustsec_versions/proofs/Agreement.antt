@@ -220,3 +220,8 @@ admissible-cuts (i ∷ is) a (suc k) d h = admissible-cuts is a.1 k d (omega ari
 -- each merged interval has the cuts that its bounds want
 pub all-cuts : (ls : Lists) (ms : List Interval) → AreMerged (intervals ls) ms → (k : ℕ) (d : Interval) → k < length ms → HasCuts (get_or ms k d)
 all-cuts ls ms m k d h = admissible-cuts ms (merged-fit (intervals ls) ms (own-sound ls) (own-admissible ls) m).admissible k d h
+
+-- where there is a gap, no merged interval is unbounded on both sides
+pub some_gap : (ls : Lists) (gs : List Interval) → AreGapsOf ls gs → 0 < length gs → ¬ HasUnboundedInterval ls
+some_gap ls [] kept some whole = absurd (omega (arith, some))
+some_gap ls (g ∷ gs) kept some whole = absurd (cc ((kept-empty ls (map cut (g ∷ gs)) kept.ranges).1 whole))

@@ -143,8 +143,8 @@ later-starts : (i j : Interval) → IsSoundInterval i → IsSoundInterval j → 
     → is_lt (start_order j.start i.start) ≡ false → overlap precedence i j ≡ false → Follows (upper_cut i.end) (lower_cut j.start)
 later-starts i j p q a b rise far =
     let near = earlier-reaches i.start j.start j.end p.start q.start rise (admissible-reaches j b) in
-    let behind : reaches precedence j.start i.end ≡ false = rw near at far in
-    start-after j.start i.end behind (admissible-start j b) (admissible-end i a) q.start
+    let past : reaches precedence j.start i.end ≡ false = rw near at far in
+    start-after j.start i.end past (admissible-start j b) (admissible-end i a) q.start
 
 pub not-or-first : (a b : Bool) → (not (a || b)) ≡ true → a ≡ false
 not-or-first true b h = cc h

@@ -22,20 +22,20 @@ use Rattle.rustsec_versions.proofs.Sound.{IsSoundEnd, IsSoundInterval, admissibl
 -- ---- intervals that follow one another
 
 -- a version before an end is not after a start
-abbrev pub IsBehind : Endpoint → Endpoint → Type 0
-IsBehind e s = (v : Parts) → is_before e v ≡ true → is_after s v ≡ false
+abbrev pub IsPastEnd : Endpoint → Endpoint → Type 0
+IsPastEnd e s = (v : Parts) → is_before e v ≡ true → is_after s v ≡ false
 
 -- a version that is not after its start is before its end
 abbrev pub IsOrdered : Interval → Type 0
 IsOrdered i = (v : Parts) → is_after i.start v ≡ false → is_before i.end v ≡ true
 
-abbrev pub AreBehind : Endpoint → List Interval → Type 0
-AreBehind e [] = Unit {0}
-AreBehind e (i ∷ is) = IsBehind e i.start
+abbrev pub ArePastEnd : Endpoint → List Interval → Type 0
+ArePastEnd e [] = Unit {0}
+ArePastEnd e (i ∷ is) = IsPastEnd e i.start
 
 abbrev pub IsRow : List Interval → Type 0
 IsRow [] = Unit {0}
-IsRow (i ∷ is) = IsOrdered i × AreBehind i.end is × IsRow is
+IsRow (i ∷ is) = IsOrdered i × ArePastEnd i.end is × IsRow is
 
 -- what the gaps begin from: a version that is not after it is not after the first start
 abbrev pub BeginsFrom : Endpoint → List Interval → Type 0
@@ -51,20 +51,20 @@ ordered (inclusive s) (exclusive e) near v h = below-at_most v s e (not_at_most 
 ordered (exclusive s) (inclusive e) near v h = below-weak v e (at_most-below v s e (not_below s v h) near)
 ordered (exclusive s) (exclusive e) near v h = at_most-below v s e (not_below s v h) near
 
-behind : (s e : Endpoint) → reaches precedence s e ≡ false → IsBehind e s
-behind unbounded e far v h = cc far
-behind (inclusive s) unbounded far v h = cc far
-behind (exclusive s) unbounded far v h = cc far
-behind (inclusive s) (inclusive e) far v h = below-not_at_most v s (at_most-below v e s h (not_at_most s e far))
-behind (inclusive s) (exclusive e) far v h = below-not_at_most v s (below-at_most v e s h (not_below s e far))
-behind (exclusive s) (inclusive e) far v h = at_most-not_below v s (at_most-trans v e s h (not_below s e far))
-behind (exclusive s) (exclusive e) far v h = at_most-not_below v s (at_most-trans v e s (below-weak v e h) (not_below s e far))
+past-end : (s e : Endpoint) → reaches precedence s e ≡ false → IsPastEnd e s
+past-end unbounded e far v h = cc far
+past-end (inclusive s) unbounded far v h = cc far
+past-end (exclusive s) unbounded far v h = cc far
+past-end (inclusive s) (inclusive e) far v h = below-not_at_most v s (at_most-below v e s h (not_at_most s e far))
+past-end (inclusive s) (exclusive e) far v h = below-not_at_most v s (below-at_most v e s h (not_below s e far))
+past-end (exclusive s) (inclusive e) far v h = at_most-not_below v s (at_most-trans v e s h (not_below s e far))
+past-end (exclusive s) (exclusive e) far v h = at_most-not_below v s (at_most-trans v e s (below-weak v e h) (not_below s e far))
 
-next-behind : (i j : Interval) → IsSoundInterval i → IsSoundInterval j → is_admissible j ≡ true → is_lt (start_order j.start i.start) ≡ false
-    → overlap precedence i j ≡ false → IsBehind i.end j.start
-next-behind i j p q b rise far =
+next-past-end : (i j : Interval) → IsSoundInterval i → IsSoundInterval j → is_admissible j ≡ true → is_lt (start_order j.start i.start) ≡ false
+    → overlap precedence i j ≡ false → IsPastEnd i.end j.start
+next-past-end i j p q b rise far =
     let near = earlier-reaches i.start j.start j.end p.start q.start rise (admissible-reaches j b) in
-    behind j.start i.end (rw near at far)
+    past-end j.start i.end (rw near at far)
 
 -- intervals in the order of their starts that do not overlap follow one another
 pub row : (is : List Interval) → AllSound is → AllAdmissible is → StartsRise is → are_apart precedence is ≡ true → IsRow is
@@ -72,7 +72,7 @@ row [] sound all rise apart = tt
 row (i ∷ []) sound all rise apart = (ordered i.start i.end (admissible-reaches i all.0), tt, tt)
 row (i ∷ j ∷ is) sound all rise apart = (
   ordered i.start i.end (admissible-reaches i all.0),
-  next-behind i j sound.0 sound.1.0 all.1.0 rise.0 (not-or-first _ _ (and-first _ _ apart)),
+  next-past-end i j sound.0 sound.1.0 all.1.0 rise.0 (not-or-first _ _ (and-first _ _ apart)),
   row (j ∷ is) sound.1 all.1 rise.1 (and-second _ _ apart),
 )
 
@@ -85,18 +85,18 @@ double false true h = refl
 double false false h = cc h
 
 -- a version that is not after the opposite of an end is before the end
-not-behind : (e : Endpoint) (v : Parts) → is_after (turned e) v ≡ false → is_before e v ≡ true
-not-behind unbounded v h = refl
-not-behind (exclusive e) v h = not_at_most e v h
-not-behind (inclusive e) v h = not_below e v h
+not-past-end : (e : Endpoint) (v : Parts) → is_after (turned e) v ≡ false → is_before e v ≡ true
+not-past-end unbounded v h = refl
+not-past-end (exclusive e) v h = not_at_most e v h
+not-past-end (inclusive e) v h = not_below e v h
 
-begins-behind : (e : Endpoint) (is : List Interval) → AreBehind e is → BeginsFrom (turned e) is
-begins-behind e [] b = tt
-begins-behind e (i ∷ is) b = λ v h. b v (not-behind e v h)
+begins-past-end : (e : Endpoint) (is : List Interval) → ArePastEnd e is → BeginsFrom (turned e) is
+begins-past-end e [] b = tt
+begins-past-end e (i ∷ is) b = λ v h. b v (not-past-end e v h)
 
 -- ---- what the gaps hold
 
-none-later : (e : Endpoint) (is : List Interval) (v : Parts) → AreBehind e is → IsRow is → is_before e v ≡ true → list_any (λ i. holds i v) is ≡ false
+none-later : (e : Endpoint) (is : List Interval) (v : Parts) → ArePastEnd e is → IsRow is → is_before e v ≡ true → list_any (λ i. holds i v) is ≡ false
 none-later e [] v b r h = refl
 none-later e (i ∷ is) v b r h = rw (b v h) (none-later i.end is v r.1 r.2 (r.0 v (b v h)))
 
@@ -141,7 +141,7 @@ pub gaps-hold : (from : Endpoint) (is : List Interval) (v : Parts) → BeginsFro
 unfolding gaps_between
 gaps-hold from [] v s r = last (is_after from v)
 gaps-hold from (i ∷ is) v s r =
-    let rest = gaps-hold (turned i.end) is v (begins-behind i.end is r.1) r.2 in
+    let rest = gaps-hold (turned i.end) is v (begins-past-end i.end is r.1) r.2 in
     let later = list_any (λ j. holds j v) is in
     to-held from i.start (gaps_after i.end (gaps_between (turned i.end) is)) v
     ∙ ap (λ (b : Bool). (is_after from v && not (is_after i.start v)) || b) (after-held i.end (gaps_between (turned i.end) is) v later rest)
@@ -166,10 +166,10 @@ not-false : (a b : Bool) → (a ≡ false → b ≡ false) → b ≡ true → a 
 not-false true b h k = refl
 not-false false b h k = cc (h refl)
 
-is-behind : (e : Endpoint) (v : Parts) → is_after (turned e) v ≡ true → (e ≡ unbounded → ⊥) → is_before e v ≡ false
-is-behind unbounded v h b = absurd (b refl)
-is-behind (exclusive e) v h b = at_most-not_below e v h
-is-behind (inclusive e) v h b = below-not_at_most e v h
+is-past-end : (e : Endpoint) (v : Parts) → is_after (turned e) v ≡ true → (e ≡ unbounded → ⊥) → is_before e v ≡ false
+is-past-end unbounded v h b = absurd (b refl)
+is-past-end (exclusive e) v h b = at_most-not_below e v h
+is-past-end (inclusive e) v h b = below-not_at_most e v h
 
 leads-to : (from s e : Endpoint) (rest : List Interval) → ((v : Parts) → is_after from v ≡ false → is_after s v ≡ false) → LeadsOn (turned e) rest
     → LeadsOn from (gap_to from s (gaps_after e rest))
@@ -184,7 +184,7 @@ leads-to from unbounded (inclusive e) (g ∷ gs) b l = λ v h. not-false _ true 
 gaps-lead : (from : Endpoint) (is : List Interval) → BeginsFrom from is → IsRow is → LeadsOn from (gaps_between from is)
 unfolding gaps_between
 gaps-lead from [] s r = λ v h. h
-gaps-lead from (i ∷ is) s r = leads-to from i.start i.end _ s (gaps-lead (turned i.end) is (begins-behind i.end is r.1) r.2)
+gaps-lead from (i ∷ is) s r = leads-to from i.start i.end _ s (gaps-lead (turned i.end) is (begins-past-end i.end is r.1) r.2)
 
 turn-cons : (g : Interval) (from : Endpoint) (gs : List Interval)
     → ((v : Parts) → is_after from v ≡ true → (is_after g.start v ≡ true) × (is_before g.end v ≡ false)) → LeadsOn from gs → AllTurn gs → AllTurn (g ∷ gs)
@@ -192,8 +192,8 @@ turn-cons g from [] step l t = tt
 turn-cons g from (h ∷ gs) step l t = (λ v k. step v (l v k), t)
 
 -- a version after the end of an interval is after its start
-behind-both : (s e : Endpoint) (v : Parts) → IsOrdered (record { start = s; end = e }) → is_before e v ≡ false → is_after s v ≡ true
-behind-both s e v o h = not-false (is_after s v) (not (is_before e v)) (λ k. rw (o v k) refl) (rw h refl)
+past-both : (s e : Endpoint) (v : Parts) → IsOrdered (record { start = s; end = e }) → is_before e v ≡ false → is_after s v ≡ true
+past-both s e v o h = not-false (is_after s v) (not (is_before e v)) (λ k. rw (o v k) refl) (rw h refl)
 
 turns-to : (from s e : Endpoint) (rest : List Interval) → ((v : Parts) → is_after from v ≡ false → is_after s v ≡ false)
     → IsOrdered (record { start = s; end = e }) → LeadsOn (turned e) rest → AllTurn rest → AllTurn (gap_to from s (gaps_after e rest))
@@ -203,23 +203,23 @@ turns-to from unbounded (inclusive e) rest b o l t = t
 turns-to from (exclusive s) unbounded rest b o l t = tt
 turns-to from (inclusive s) unbounded rest b o l t = tt
 turns-to from (exclusive s) (exclusive e) rest b o l t = turn-cons (record { start = from; end = inclusive s }) (inclusive e) rest (λ v h.
-    let past = behind-both (exclusive s) (exclusive e) v o (at_most-not_below e v h) in
+    let past = past-both (exclusive s) (exclusive e) v o (at_most-not_below e v h) in
     (not-false _ _ (b v) past, below-not_at_most s v past)) l t
 turns-to from (exclusive s) (inclusive e) rest b o l t = turn-cons (record { start = from; end = inclusive s }) (exclusive e) rest (λ v h.
-    let past = behind-both (exclusive s) (inclusive e) v o (below-not_at_most e v h) in
+    let past = past-both (exclusive s) (inclusive e) v o (below-not_at_most e v h) in
     (not-false _ _ (b v) past, below-not_at_most s v past)) l t
 turns-to from (inclusive s) (exclusive e) rest b o l t = turn-cons (record { start = from; end = exclusive s }) (inclusive e) rest (λ v h.
-    let past = behind-both (inclusive s) (exclusive e) v o (at_most-not_below e v h) in
+    let past = past-both (inclusive s) (exclusive e) v o (at_most-not_below e v h) in
     (not-false _ _ (b v) past, at_most-not_below s v past)) l t
 turns-to from (inclusive s) (inclusive e) rest b o l t = turn-cons (record { start = from; end = exclusive s }) (exclusive e) rest (λ v h.
-    let past = behind-both (inclusive s) (inclusive e) v o (below-not_at_most e v h) in
+    let past = past-both (inclusive s) (inclusive e) v o (below-not_at_most e v h) in
     (not-false _ _ (b v) past, at_most-not_below s v past)) l t
 
 gaps-all_turn : (from : Endpoint) (is : List Interval) → BeginsFrom from is → IsRow is → AllTurn (gaps_between from is)
 unfolding gaps_between
 gaps-all_turn from [] s r = tt
 gaps-all_turn from (i ∷ is) s r =
-    let begins = begins-behind i.end is r.1 in
+    let begins = begins-past-end i.end is r.1 in
     turns-to from i.start i.end _ s r.0 (gaps-lead (turned i.end) is begins r.2) (gaps-all_turn (turned i.end) is begins r.2)
 
 turn-at : (gs : List Interval) → AllTurn gs → (v : Parts)

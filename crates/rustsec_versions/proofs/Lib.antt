@@ -21,8 +21,6 @@ pub mod Parsed
 pub mod PrecedenceLaws
 pub mod RangeEnds
 pub mod RangeList
-pub mod RefusedTexts
-pub mod Refusals
 pub mod Rising
 pub mod Shuffled
 pub mod Sound

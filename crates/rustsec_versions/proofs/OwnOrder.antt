@@ -52,20 +52,20 @@ no_build-not_above b = rw (build_total.antisymm b []) (le-reversed (build_cmp []
 
 -- ---- the two orders
 
-le-behind : (o s t : Ordering) → is_le s ≡ is_le t → is_le (ordering_then o s) ≡ is_le (ordering_then o t)
-le-behind Less s t h = refl
-le-behind Equal s t h = h
-le-behind Greater s t h = refl
+le-compared : (o s t : Ordering) → is_le s ≡ is_le t → is_le (ordering_then o s) ≡ is_le (ordering_then o t)
+le-compared Less s t h = refl
+le-compared Equal s t h = h
+le-compared Greater s t h = refl
 
 le-last : (o b : Ordering) → is_le b ≡ true → is_le (ordering_then o b) ≡ is_le o
 le-last Less b h = refl
 le-last Equal b h = h
 le-last Greater b h = refl
 
-lt-behind : (o s t : Ordering) → is_lt s ≡ is_lt t → is_lt (ordering_then o s) ≡ is_lt (ordering_then o t)
-lt-behind Less s t h = refl
-lt-behind Equal s t h = h
-lt-behind Greater s t h = refl
+lt-compared : (o s t : Ordering) → is_lt s ≡ is_lt t → is_lt (ordering_then o s) ≡ is_lt (ordering_then o t)
+lt-compared Less s t h = refl
+lt-compared Equal s t h = h
+lt-compared Greater s t h = refl
 
 lt-last : (o b : Ordering) → is_lt b ≡ false → is_lt (ordering_then o b) ≡ is_lt o
 lt-last Less b h = refl
@@ -75,12 +75,12 @@ lt-last Greater b h = refl
 from-same : (a v : Parts) → a.4 ≡ [] → is_le (version_order a v) ≡ is_le (precedence a v)
 from-same a v plain =
     let last : is_le (build_cmp a.4 v.4) ≡ true = rw plain (no_build-le v.4) in
-    le-behind (nat_cmp a.0 v.0) _ _ (le-behind (nat_cmp a.1 v.1) _ _ (le-behind (nat_cmp a.2 v.2) _ _ (le-last (pre_cmp a.3 v.3) (build_cmp a.4 v.4) last)))
+    le-compared (nat_cmp a.0 v.0) _ _ (le-compared (nat_cmp a.1 v.1) _ _ (le-compared (nat_cmp a.2 v.2) _ _ (le-last (pre_cmp a.3 v.3) (build_cmp a.4 v.4) last)))
 
 till-same : (v b : Parts) → b.4 ≡ [] → is_lt (version_order v b) ≡ is_lt (precedence v b)
 till-same v b plain =
     let last : is_lt (build_cmp v.4 b.4) ≡ false = rw plain (no_build-not_above v.4) in
-    lt-behind (nat_cmp v.0 b.0) _ _ (lt-behind (nat_cmp v.1 b.1) _ _ (lt-behind (nat_cmp v.2 b.2) _ _ (lt-last (pre_cmp v.3 b.3) (build_cmp v.4 b.4) last)))
+    lt-compared (nat_cmp v.0 b.0) _ _ (lt-compared (nat_cmp v.1 b.1) _ _ (lt-compared (nat_cmp v.2 b.2) _ _ (lt-last (pre_cmp v.3 b.3) (build_cmp v.4 b.4) last)))
 
 -- ---- ranges
 

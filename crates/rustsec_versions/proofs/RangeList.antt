@@ -87,16 +87,16 @@ ends_two u None t vs f o n r = absurd f
 ends_two u (Some m) None vs f o n r = rw (n refl) tt
 ends_two u (Some m) (Some t) vs f o n r = Rises-cons u t vs (at_most-trans u m t f o) r
 
-none_behind : (up : Option Parts) (cs : List Range) → FollowOn up cs → up ≡ None → filter_map (λ c. c.fixed) cs ≡ []
-none_behind up [] f h = refl
-none_behind None (d ∷ cs) f h = absurd f
-none_behind (Some u) (d ∷ cs) f h = cc h
+none_further : (up : Option Parts) (cs : List Range) → FollowOn up cs → up ≡ None → filter_map (λ c. c.fixed) cs ≡ []
+none_further up [] f h = refl
+none_further None (d ∷ cs) f h = absurd f
+none_further (Some u) (d ∷ cs) f h = cc h
 
 ends_step : (lo up : Option Parts) (cs : List Range) → FollowOn up cs → IsChain cs → Rises (filter_map (λ c. c.fixed) cs)
     → Rises (cons_option up (filter_map (λ c. c.fixed) cs))
 ends_step lo None cs f c r = r
 ends_step lo (Some u) [] f c r = tt
-ends_step lo (Some u) (d ∷ cs) f c r = ends_two u d.introduced d.fixed (filter_map (λ c. c.fixed) cs) f c.0 (none_behind d.fixed cs c.1) r
+ends_step lo (Some u) (d ∷ cs) f c r = ends_two u d.introduced d.fixed (filter_map (λ c. c.fixed) cs) f c.0 (none_further d.fixed cs c.1) r
 
 -- where they end
 pub chain-ends : (cs : List Range) → IsChain cs → Rises (filter_map (λ c. c.fixed) cs)

@@ -3,7 +3,6 @@ pub mod Apart
 pub mod Between
 pub mod Equality
 pub mod EqualityLaws
-pub mod Failure
 pub mod Gaps
 pub mod Interval
 pub mod IntervalText
@@ -11,7 +10,6 @@ pub mod Lists
 pub mod Merged
 pub mod Precedence
 pub mod Ranges
-pub mod Refusals
 pub mod Requirement
 pub mod RequirementText
 pub mod Successor

@@ -3,24 +3,16 @@
 ghost use Rattle.std.specs.Prelude.{◌≡◌, ◌&&◌, ◌<◌, ◌^◌, ◌+◌, IfErr, IfOk, None, Some, [], ◌∷◌, true};
 ghost use Rattle.semver.specs.Grammar.{is_pre_release};
 ghost use Rattle.semver.specs.Identifiers.{comparator_view, parts_of, pre_text};
-ghost use Rattle.semver.specs.Parse.{memory_error};
-ghost use Rattle.rustsec_versions.specs.Failure.{IsMemory, IsOfKind, IsRefusal};
+ghost use Rattle.rustsec_error.specs.Failure.{IsMemory, IsOfKind, IsRefusal};
 ghost use Rattle.rustsec_values.specs.Reading.{only_if};
 ghost use Rattle.rustsec_versions.specs.Requirement.{caret_end, fits, names_version, least_of, named, next_major, next_minor, next_patch, of_one, side_of, stated, tilde_end};
 ghost use Rattle.rustsec_versions.specs.Views.{comparators_of, endpoint_of, interval_between, side_view};
 
-use crate::error::{Error, ErrorKind, Result};
 use crate::interval::Bound;
+use crate::semver_texts::is_out_of_memory;
+use rustsec_error::{Error, ErrorKind, Result};
 use semver::{BuildMetadata, Comparator, Op, Prerelease, Version, VersionReq};
 use std::alloc::{AllocError, Global};
-
-/// Returns whether an error of `semver` means that memory was refused.
-pub fn is_out_of_memory(e: semver::Error) -> bool
-    ensures memory { e ≡ memory_error → result ≡ true }
-    ensures only { result ≡ true → e ≡ memory_error }
-{
-    e == semver::Error::from(AllocError)
-}
 
 /// Returns a copy of a pre-release, or `BadParam` if it is not SemVer text.
 fn checked_pre(alloc: Global, pre: &Prerelease) -> Result<Prerelease>
@@ -176,7 +168,7 @@ fn bounds_by_op(alloc: Global, c: &Comparator, version: Version) -> Result<(Boun
         }
         Op::Wildcard => Err(Error::bad_param(
             alloc,
-            "a wildcard behind a number is not taken without an operator",
+            "a wildcard after a number is not taken without an operator",
         )),
     }
 }

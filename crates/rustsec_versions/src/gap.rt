@@ -2,16 +2,16 @@
 
 ghost use Rattle.std.specs.Prelude.{◌≡◌, ◌++◌, [], IfErr, IfOk, OnOk};
 ghost use Rattle.rustsec_versions.specs.Between.{gap_to, gaps_between, turned};
-ghost use Rattle.rustsec_versions.specs.Failure.{IsMemory};
+ghost use Rattle.rustsec_error.specs.Failure.{IsMemory};
 ghost use Rattle.rustsec_versions.specs.Gaps.{HasValidBounds, cut};
 ghost use Rattle.rustsec_versions.specs.Interval.{unbounded};
 ghost use Rattle.rustsec_versions.specs.Sweep.{spans};
 ghost use Rattle.rustsec_versions.specs.Views.{endpoint_of};
 
-use crate::error::Result;
 use crate::interval::Bound;
 use crate::merge::Merged;
 use crate::ranges::{OsvRange, lower_cut, upper_cut};
+use rustsec_error::Result;
 use rustsec_values::ExactClone;
 use std::alloc::{AllocError, Global};
 use std::marker::Model;

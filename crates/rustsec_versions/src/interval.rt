@@ -1,21 +1,22 @@
 //! Intervals of versions that are not affected.
 
-ghost use Rattle.std.specs.Prelude.{◌≡◌, ◌≢◌, IfErr, IfOk, OnErr, OnOk, None, Some, false, option_map, refl, true};
+ghost use Rattle.std.specs.Prelude.{◌≡◌, ◌⊎◌, IfErr, IfOk, OnErr, OnOk, None, Some, false, option_map, refl, true};
 ghost use Rattle.std.specs.Cmp.{on_equiv, on_per, partial_equiv_from_equiv};
 ghost use Rattle.std.specs.Fmt.{DisplaysOnOk};
 ghost use Rattle.semver.specs.Identifiers.{parts_of};
 ghost use Rattle.rustsec_versions.specs.Equality.{endpoint_eq, endpoint_equiv, interval_eq, interval_equiv};
-ghost use Rattle.rustsec_versions.specs.Failure.{IsMemory, IsOfKind, IsRefusal};
+ghost use Rattle.rustsec_error.specs.Failure.{IsMemory, IsOfKind, IsRefusal};
 ghost use Rattle.rustsec_versions.specs.Interval.{holds, is_after, is_before, overlap, reaches};
 ghost use Rattle.rustsec_versions.specs.IntervalText.{end_text, interval_text, start_text};
 ghost use Rattle.rustsec_versions.specs.Merged.{ends_by};
 ghost use Rattle.rustsec_versions.specs.Precedence.{version_order};
+ghost use Rattle.rustsec_versions.specs.Ranges.{has_bound};
 ghost use Rattle.rustsec_versions.specs.Requirement.{has_successor, interval_of, is_end, is_start};
 ghost use Rattle.rustsec_versions.specs.Views.{bound_version_of, comparators_of, endpoint_of, interval_between};
 
 use crate::comparator::bounds_of;
-use crate::error::{Error, ErrorKind, Result};
 use crate::print::{quoted_bound, refused_requirement};
+use rustsec_error::{Error, ErrorKind, Result};
 use rustsec_values::{ExactClone, ExactEq};
 use semver::{Version, VersionReq};
 use std::alloc::{AllocError, Global};
@@ -55,7 +56,7 @@ impl Bound {
         ensures err { IfErr result IsMemory }
 
         // `Unbounded` takes no memory.
-        ensures none { OnErr result (bound_version_of self.now ≢ None) }
+        ensures none { OnErr result (has_bound (endpoint_of self.now) ≡ true) }
     {
         let copy = Clone::clone(self)?;
         Ok(copy)
@@ -68,7 +69,7 @@ impl Clone for Bound {
     // `Unbounded` takes no memory.
     fn clone(&self) -> std::result::Result<Bound, AllocError>
         ensures ok { IfOk result (λ b. endpoint_of b ≡ endpoint_of self.now) }
-        ensures none { OnErr result (bound_version_of self.now ≢ None) }
+        ensures none { OnErr result (has_bound (endpoint_of self.now) ≡ true) }
     {
         match self {
             Bound::Unbounded => Ok(Bound::Unbounded),
@@ -311,6 +312,9 @@ impl UnaffectedRange {
     pub fn clone(&self, _alloc: Global) -> Result<UnaffectedRange>
         ensures ok { IfOk result (λ r. r ≡ self.now) }
         ensures err { IfErr result IsMemory }
+
+        // An interval without bounds takes no memory.
+        ensures none { OnErr result ((has_bound self.now.start ≡ true) ⊎ (has_bound self.now.end ≡ true)) }
     {
         let copy = Clone::clone(self)?;
         Ok(copy)
@@ -320,7 +324,11 @@ impl UnaffectedRange {
 impl Clone for UnaffectedRange {
     ghost is_clone = { λ a b. b ≡ a };
 
-    fn clone(&self) -> std::result::Result<UnaffectedRange, AllocError> {
+    // An interval without bounds takes no memory.
+    fn clone(&self) -> std::result::Result<UnaffectedRange, AllocError>
+        ensures ok { IfOk result (λ r. r ≡ self.now) }
+        ensures none { OnErr result ((has_bound self.now.start ≡ true) ⊎ (has_bound self.now.end ≡ true)) }
+    {
         let start = Clone::clone(&self.start)?;
         let end = Clone::clone(&self.end)?;
         Ok(UnaffectedRange { start, end })

@@ -2,8 +2,6 @@
 #![tactic(auto)]
 
 mod comparator;
-mod error;
-mod from_text;
 mod gap;
 mod interval;
 mod marked;
@@ -12,22 +10,20 @@ mod next_version;
 mod overlaps;
 mod print;
 mod ranges;
-mod refusal;
 mod requirements;
 mod search;
 mod semver_texts;
 mod steps;
 mod versions;
 
-pub use crate::comparator::is_out_of_memory;
-pub use crate::error::{Error, ErrorKind, Result};
-pub use crate::from_text::FromText;
 pub use crate::interval::{Bound, UnaffectedRange};
 pub use crate::next_version::successor;
 pub use crate::print::requirement_text;
 pub use crate::ranges::{OsvRange, ranges_for_advisory};
-pub use crate::refusal::{refused_at, refused_file, refused_text};
 pub use crate::requirements::Requirements;
-pub use crate::semver_texts::{read_requirement, read_version};
+pub use crate::semver_texts::{is_out_of_memory, read_requirement, read_version};
 pub use crate::steps::Steps;
 pub use crate::versions::Versions;
+pub use rustsec_error::{
+    Error, ErrorKind, FromText, Result, refused_at, refused_file, refused_text,
+};

@@ -2,15 +2,15 @@
 
 ghost use Rattle.std.specs.Prelude.{◌≡◌, ◌++◌, IfErr, IfOk, IsPermutation, OnOk, false, map, true};
 ghost use Rattle.std.specs.List.Sorted.{IsSortedByKey};
-ghost use Rattle.rustsec_versions.specs.Failure.{IsRefusal};
+ghost use Rattle.rustsec_error.specs.Failure.{IsRefusal};
 ghost use Rattle.rustsec_versions.specs.Gaps.{start_order};
 ghost use Rattle.rustsec_versions.specs.Lists.{all_admissible};
 ghost use Rattle.rustsec_versions.specs.Sweep.{marked, marks};
 ghost use Rattle.rustsec_versions.specs.Views.{comparators_of, endpoint_of};
 
-use crate::error::{ErrorKind, Result};
 use crate::interval::{Bound, UnaffectedRange};
 use crate::requirements::Requirements;
+use rustsec_error::{ErrorKind, Result};
 use semver::VersionReq;
 use std::alloc::{AllocError, Global};
 use std::cmp::Ordering;

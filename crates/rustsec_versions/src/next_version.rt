@@ -4,12 +4,12 @@ ghost use Rattle.std.specs.Prelude.{◌≡◌, ◌≢◌, ◌↔◌, ◌++◌, �
 ghost use Rattle.semver.specs.Grammar.{is_pre_release};
 ghost use Rattle.semver.specs.Identifiers.{build_text, parts_of, pre_text};
 ghost use Rattle.semver.specs.Parse.{memory_error};
-ghost use Rattle.rustsec_versions.specs.Failure.{IsMemory};
+ghost use Rattle.rustsec_error.specs.Failure.{IsMemory};
 ghost use Rattle.rustsec_versions.specs.Precedence.{IsVersion};
 ghost use Rattle.rustsec_versions.specs.Successor.{IsLeastAbove, successor};
 
 use crate::comparator::least_of;
-use crate::error::{Error, Result};
+use rustsec_error::{Error, Result};
 use semver::{BuildMetadata, Prerelease, Version};
 use std::alloc::{AllocError, Global};
 

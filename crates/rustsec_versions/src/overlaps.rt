@@ -1,12 +1,12 @@
 //! The error for requirements that overlap and may not.
 
 ghost use Rattle.std.specs.Prelude.{IfErr};
-ghost use Rattle.rustsec_versions.specs.Failure.{IsMemory, IsOfKind};
+ghost use Rattle.rustsec_error.specs.Failure.{IsMemory, IsOfKind};
 
-use crate::error::{Error, ErrorKind, Result};
 use crate::interval::ends_by;
 use crate::marked::Marked;
 use crate::print::quoted;
+use rustsec_error::{Error, ErrorKind, Result};
 use semver::VersionReq;
 use std::alloc::Global;
 

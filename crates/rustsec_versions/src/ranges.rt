@@ -1,10 +1,10 @@
 //! The ranges of affected versions that an advisory's requirements leave.
 
-ghost use Rattle.std.specs.Prelude.{◌≡◌, ◌++◌, ◌↔◌, [], ◌∷◌, Contains, IfErr, IfOk, List, Some, filter_map, map, option_map, true};
+ghost use Rattle.std.specs.Prelude.{◌≡◌, ◌<◌, ◌⊎◌, ◌++◌, ◌↔◌, [], ◌∷◌, Contains, IfErr, IfOk, List, OnErr, Some, filter_map, is_some, length, map, option_map, true};
 ghost use Rattle.std.specs.List.{All, list_any};
 ghost use Rattle.semver.specs.Identifiers.{parts_of};
 ghost use Rattle.semver.specs.Parse.{Held, Parts};
-ghost use Rattle.rustsec_versions.specs.Failure.{IsMemory};
+ghost use Rattle.rustsec_error.specs.Failure.{IsMemory};
 ghost use Rattle.rustsec_versions.specs.Gaps.{HasValidBounds, IsValidBound, cut};
 ghost use Rattle.rustsec_versions.specs.Interval.{Interval};
 ghost use Rattle.rustsec_versions.specs.Lists.{Lists, accepted_apart, affected, intervals};
@@ -16,11 +16,11 @@ ghost use Rattle.rustsec_versions.specs.AcceptedRanges.{AreMergedRanges, HasUnbo
 ghost use Rattle.rustsec_versions.specs.Successor.{IsLeastAbove, successor};
 ghost use Rattle.rustsec_versions.specs.Views.{endpoint_of, range_of};
 
-use crate::error::{Error, Result};
 use crate::gap::Gap;
 use crate::interval::Bound;
 use crate::next_version::successor;
 use crate::versions::Versions;
+use rustsec_error::{Error, Result};
 use rustsec_values::ExactClone;
 use semver::Version;
 use std::alloc::{AllocError, Global};
@@ -61,18 +61,36 @@ impl OsvRange {
     pub fn clone(&self, _alloc: Global) -> Result<OsvRange>
         ensures ok { IfOk result (λ r. r ≡ self.now) }
         ensures err { IfErr result IsMemory }
+
+        // A range without sides takes no memory.
+        ensures none { OnErr result ((is_some self.now.introduced ≡ true) ⊎ (is_some self.now.fixed ≡ true)) }
     {
         let copy = Clone::clone(self)?;
         Ok(copy)
     }
 }
 
+/// Returns a copy of a version that may be missing. A missing one takes no memory.
+fn copy_of(version: &Option<Version>) -> std::result::Result<Option<Version>, AllocError>
+    ensures ok { IfOk result (λ v. option_map parts_of v ≡ option_map parts_of version.now) }
+    ensures none { OnErr result (is_some (option_map parts_of version.now) ≡ true) }
+{
+    match version {
+        Some(version) => Ok(Some(version.clone()?)),
+        None => Ok(None),
+    }
+}
+
 impl Clone for OsvRange {
     ghost is_clone = { λ a b. b ≡ a };
 
-    fn clone(&self) -> std::result::Result<OsvRange, AllocError> {
-        let introduced = self.introduced.clone()?;
-        let fixed = self.fixed.clone()?;
+    // A range without sides takes no memory.
+    fn clone(&self) -> std::result::Result<OsvRange, AllocError>
+        ensures ok { IfOk result (λ r. r ≡ self.now) }
+        ensures none { OnErr result ((is_some self.now.introduced ≡ true) ⊎ (is_some self.now.fixed ≡ true)) }
+    {
+        let introduced = copy_of(&self.introduced)?;
+        let fixed = copy_of(&self.fixed)?;
         Ok(OsvRange { introduced, fixed })
     }
 }
@@ -137,6 +155,7 @@ pub(crate) fn upper_cut(alloc: Global, end: &Bound) -> Result<Option<Version>>
 pub(crate) fn ranges_of(alloc: Global, gaps: &[Gap]) -> Result<Vec<OsvRange>>
     requires { All HasValidBounds gaps.now }
     ensures ok { IfOk result (λ v. v.items ≡ map cut gaps.now) }
+    ensures none { OnErr result (0 < length gaps.now) }
     ensures err { IfErr result IsMemory }
 {
     let mut all = Vec::new(alloc);
@@ -168,6 +187,9 @@ pub fn ranges_for_advisory(alloc: Global, versions: &Versions) -> Result<Vec<Osv
 
     // The list is empty exactly if one merged interval is unbounded on both sides.
     ensures empty { IfOk result (λ v. (v.items ≡ []) ↔ HasUnboundedInterval versions.now) }
+
+    // The empty list takes no memory.
+    ensures none { OnErr result (¬ HasUnboundedInterval versions.now) }
 
     // If no two requirements overlap, the list is that of the intervals themselves, and no other list is.
     ensures apart { IfOk result (λ v. accepted_apart versions.now ≡ true → (rs : List Range)

@@ -1,20 +1,26 @@
 //! Parses versions and requirements. An error shows the text, and its cause is the reason of `semver`.
 
-ghost use Rattle.std.specs.Prelude.{◌≡◌, IfErr, IfOk, None, Some};
+ghost use Rattle.std.specs.Prelude.{◌≡◌, IfErr, IfOk, None, Some, true};
 ghost use Rattle.semver.specs.Identifiers.{parts_of};
-ghost use Rattle.semver.specs.Parse.{req_of, version_parts};
+ghost use Rattle.semver.specs.Parse.{memory_error, req_of, version_parts};
 ghost use Rattle.rustsec_values.specs.Reading.{value_of};
-ghost use Rattle.rustsec_versions.specs.Failure.{IsOfKind, IsRefusal};
+ghost use Rattle.rustsec_error.specs.Failure.{IsOfKind, IsRefusal};
 ghost use Rattle.rustsec_versions.specs.Views.{comparators_of};
 
-use crate::comparator::is_out_of_memory;
-use crate::error::{Error, ErrorKind, Result};
-use crate::refusal::refused_text;
+use rustsec_error::{Error, ErrorKind, Result, refused_for};
 use semver::{Version, VersionReq};
 use std::alloc::{AllocError, Global};
 
+/// Returns whether an error of `semver` means that memory was refused.
+pub fn is_out_of_memory(e: semver::Error) -> bool
+    ensures memory { e ≡ memory_error → result ≡ true }
+    ensures only { result ≡ true → e ≡ memory_error }
+{
+    e == semver::Error::from(AllocError)
+}
+
 /// Returns the error for a text that `semver` refuses: what is wrong with which text, and what was expected.
-fn refused_for(
+fn refused_by(
     alloc: Global,
     wrong: &str,
     text: &str,
@@ -23,12 +29,8 @@ fn refused_for(
 ) -> Error
     ensures { IsOfKind ErrorKind.Parse result }
 {
-    let refusal = refused_text(alloc, wrong, text, expected);
-    if refusal.kind() == ErrorKind::OutOfMemory {
-        return refusal;
-    }
     match format!(in alloc; "{reason}") {
-        Ok(cause) => Error::with_source(alloc, ErrorKind::Parse, refusal.message(), &cause),
+        Ok(why) => refused_for(alloc, wrong, text, expected, &why),
         Err(refused) => Error::from(refused),
     }
 }
@@ -45,7 +47,7 @@ pub fn read_version(alloc: Global, text: &str, written: &str) -> Result<Version>
     match Version::parse(alloc, text) {
         Ok(version) => Ok(version),
         Err(e) if is_out_of_memory(e) => Err(Error::from(AllocError)),
-        Err(e) => Err(refused_for(
+        Err(e) => Err(refused_by(
             alloc,
             "malformed version",
             written,
@@ -67,7 +69,7 @@ pub fn read_requirement(alloc: Global, text: &str) -> Result<VersionReq>
     match VersionReq::parse(alloc, text) {
         Ok(req) => Ok(req),
         Err(e) if is_out_of_memory(e) => Err(Error::from(AllocError)),
-        Err(e) => Err(refused_for(
+        Err(e) => Err(refused_by(
             alloc,
             "not a requirement",
             text,

@@ -1,19 +1,18 @@
 //! The lists of requirements of an advisory, and which versions they leave affected.
 
-ghost use Rattle.std.specs.Prelude.{◌≡◌, ◌<◌, ◌+◌, ◌-◌, ◌^◌, ◌≤◌, ◌∷◌, ℕ, IfErr, IfOk, List, OnOk, false, is_some, length, map, true};
+ghost use Rattle.std.specs.Prelude.{◌≡◌, ◌<◌, ◌+◌, ◌-◌, ◌^◌, ◌≤◌, ◌∷◌, ℕ, IfErr, IfOk, List, OnErr, OnOk, false, is_some, length, map, true};
 ghost use Rattle.std.specs.Cmp.{partial_equiv_from_equiv};
 ghost use Rattle.semver.specs.Identifiers.{parts_of};
 ghost use Rattle.rustsec_versions.specs.Between.{AreGapsOf};
 ghost use Rattle.rustsec_versions.specs.Equality.{lists_eq, lists_equiv};
 ghost use Rattle.rustsec_versions.specs.EqualityLaws.{lists_decides};
-ghost use Rattle.rustsec_versions.specs.Failure.{IsMemory, IsRefusal};
+ghost use Rattle.rustsec_error.specs.Failure.{IsMemory, IsRefusal};
 ghost use Rattle.rustsec_versions.specs.Lists.{Lists, accepted, accepted_apart, affected, no_lists};
 ghost use Rattle.rustsec_versions.specs.Precedence.{version_order, with_build};
 ghost use Rattle.rustsec_versions.specs.Ranges.{Range, SameInEachList};
-ghost use Rattle.rustsec_versions.specs.AcceptedRanges.{AreMergedRanges, AreRangesOf, HasBinaryDigits};
+ghost use Rattle.rustsec_versions.specs.AcceptedRanges.{AreMergedRanges, AreRangesOf, HasBinaryDigits, HasUnboundedInterval};
 ghost use Rattle.rustsec_versions.specs.Views.{comparators_of, lists_of};
 
-use crate::error::{Error, ErrorKind, Result};
 use crate::gap::{Gap, gaps};
 use crate::marked::{by_start, marked_intervals};
 use crate::merge::merged_intervals;
@@ -22,6 +21,7 @@ use crate::ranges::{OsvRange, ranges_of};
 use crate::requirements::Requirements;
 use crate::search::in_gaps;
 use crate::steps::{Sought, Steps};
+use rustsec_error::{Error, ErrorKind, Result};
 use rustsec_values::{ExactClone, ExactEq};
 use semver::{Version, VersionReq};
 use std::alloc::{AllocError, Global};
@@ -164,12 +164,15 @@ impl Versions {
     }
 
     /// Returns the ranges that the requirements leave.
+    #[tactic(auto, using(crate::proofs::Agreement::some_gap))]
     pub(crate) fn ranges(&self, alloc: Global) -> Result<Vec<OsvRange>>
         ensures ok { IfOk result (λ v. AreRangesOf self.now v.items) }
+        ensures none { OnErr result (¬ HasUnboundedInterval self.now) }
         ensures accepted { accepted self.now ≡ true }
         ensures err { IfErr result IsMemory }
     {
-        ranges_of(alloc, &self.gaps)
+        let ranges = ranges_of(alloc, &self.gaps)?;
+        Ok(ranges)
     }
 
     /// Returns an equal value.

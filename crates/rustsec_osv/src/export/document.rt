@@ -3,7 +3,7 @@
 ghost use Rattle.std.specs.Prelude.{◌≡◌, ◌⊎◌, ◌++◌, ◌∷◌, ℕ, [], All, IfErr, IfOk, List, None, Some, map, option_map, option_to_list};
 ghost use Rattle.semver.specs.Parse.{Parts};
 ghost use Rattle.rustsec_texts.specs.Licenses.{license_name};
-ghost use Rattle.rustsec_versions.specs.Failure.{IsRefusal};
+ghost use Rattle.rustsec_error.specs.Failure.{IsRefusal};
 ghost use Rattle.rustsec_versions.specs.Lists.{affected};
 ghost use Rattle.rustsec_versions.specs.Precedence.{IsVersion};
 ghost use Rattle.rustsec_versions.specs.AcceptedRanges.{HasUnboundedInterval};
@@ -26,8 +26,8 @@ use crate::reference::OsvReference;
 use crate::severity::OsvSeverity;
 use rustsec_advisory::metadata::{MetadataParts, Subject};
 use rustsec_advisory::{Advisory, Affected, Metadata};
+use rustsec_error::{ErrorKind, Result};
 use rustsec_values::{Items, Text};
-use rustsec_versions::{ErrorKind, Result};
 use std::alloc::{AllocError, Global};
 
 /// The strings of a document that are newly allocated, not moved from the advisory.

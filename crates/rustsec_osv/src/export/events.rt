@@ -3,7 +3,7 @@
 ghost use Rattle.std.specs.Prelude.{◌≡◌, ◌++◌, IfErr, IfOk, OnOk, map, option_map};
 ghost use Rattle.semver.specs.Identifiers.{parts_of};
 ghost use Rattle.semver.specs.Parse.{Parts};
-ghost use Rattle.rustsec_versions.specs.Failure.{IsRefusal};
+ghost use Rattle.rustsec_error.specs.Failure.{IsRefusal};
 ghost use Rattle.rustsec_versions.specs.Lists.{affected};
 ghost use Rattle.rustsec_versions.specs.Precedence.{IsVersion};
 ghost use Rattle.rustsec_versions.specs.Requirement.{least_of};
@@ -15,8 +15,9 @@ ghost use Rattle.rustsec_osv.specs.Export.{IsRangeOf};
 
 use crate::ranges::OsvJsonRange;
 use crate::timeline::OsvTimelineEvent;
+use rustsec_error::{Error, ErrorKind, Result};
 use rustsec_values::Text;
-use rustsec_versions::{Error, ErrorKind, OsvRange, Result, Versions, ranges_for_advisory};
+use rustsec_versions::{OsvRange, Versions, ranges_for_advisory};
 use semver::{BuildMetadata, Prerelease, Version};
 use std::alloc::{AllocError, Global};
 

@@ -5,7 +5,7 @@ ghost use Rattle.std.specs.Str.{IsAscii};
 ghost use Rattle.rustsec_lock.specs.Names.{name_cmp};
 ghost use Rattle.rustsec_texts.specs.IdOrder.{id_order};
 ghost use Rattle.rustsec_texts.specs.Ids.{IdValue};
-ghost use Rattle.rustsec_versions.specs.Failure.{IsMemory, IsRefusal};
+ghost use Rattle.rustsec_error.specs.Failure.{IsMemory, IsRefusal};
 ghost use Rattle.rustsec_osv.specs.Imports.{AreDistinct, crate_names, is_crate, is_page, linked_id, linked_ids, linked_text};
 
 use crate::affected::OsvAffected;
@@ -13,9 +13,9 @@ use crate::document::OsvAdvisory;
 use crate::export::members::ECOSYSTEM;
 use crate::reference::OsvReference;
 use rustsec_advisory::Address;
+use rustsec_error::{ErrorKind, Result, refused_text};
 use rustsec_texts::Id;
 use rustsec_values::Items;
-use rustsec_versions::{ErrorKind, Result, refused_text};
 use std::alloc::{AllocError, Global};
 
 /// The beginning of the addresses of RustSec's advisories.
@@ -82,7 +82,7 @@ fn linked_id(alloc: Global, address: &Address) -> Result<Id>
             alloc,
             "malformed link to an advisory",
             address,
-            "an ID of 17 bytes behind `https://rustsec.org/advisories/`",
+            "an ID of 17 bytes after `https://rustsec.org/advisories/`",
         )),
     }
 }

@@ -4,8 +4,8 @@ use crate::affected::{
     OsvAffected, OsvDatabaseSpecific, OsvEcosystemSpecific, OsvEcosystemSpecificAffected,
     OsvPackage,
 };
+use rustsec_error::Result;
 use rustsec_json::{FromTree, fields_of, list_at, optional_at, required_at};
-use rustsec_versions::Result;
 use serde_json::Value;
 use std::alloc::Global;
 

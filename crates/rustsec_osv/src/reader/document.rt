@@ -4,20 +4,20 @@ ghost use Rattle.std.specs.Prelude.{◌≡◌, IfErr, IfOk, None, Some, codes};
 ghost use Rattle.serde_json.specs.View.{members_view, view};
 ghost use Rattle.rustsec_json.specs.Fields.{defaulted};
 ghost use Rattle.rustsec_osv.specs.ReaderDocument.{document_of, fourth_of, read_content, read_document, read_license, read_links, read_stamp, severity_of, third_of};
-ghost use Rattle.rustsec_versions.specs.Failure.{IsRefusal};
+ghost use Rattle.rustsec_error.specs.Failure.{IsRefusal};
 
 use crate::affected::OsvAffected;
 use crate::document::{MainOsvDatabaseSpecific, OsvAdvisory};
 use crate::reader::release::{Release, version_in};
 use crate::reference::{OsvReference, OsvReferenceKind};
 use crate::severity::OsvSeverity;
+use rustsec_error::{ErrorKind, Result, refused_text};
 use rustsec_json::{
     FromTree, fields_of, list_at, member, optional_at, refused, required_at, unexpected,
 };
 use rustsec_lock::Cvss;
 use rustsec_texts::Id;
 use rustsec_values::{Items, Text};
-use rustsec_versions::{ErrorKind, Result, refused_text};
 use serde_json::{Map, Value};
 use std::alloc::Global;
 

@@ -7,14 +7,15 @@ ghost use Rattle.rustsec_json.specs.Fields.{list_of};
 ghost use Rattle.rustsec_osv.specs.DocumentEvents.{event_of};
 ghost use Rattle.rustsec_osv.specs.ReaderAffected.{dots, event_in, event_version, in_full, read_event, version_of};
 ghost use Rattle.rustsec_values.specs.Reading.{read_all};
-ghost use Rattle.rustsec_versions.specs.Failure.{IsMemory, IsOfKind, IsRefusal};
+ghost use Rattle.rustsec_error.specs.Failure.{IsMemory, IsOfKind, IsRefusal};
 ghost use Rattle.semver.specs.Identifiers.{parts_of};
 
 use crate::ranges::OsvJsonRange;
 use crate::timeline::OsvTimelineEvent;
+use rustsec_error::{Error, ErrorKind, Result};
 use rustsec_json::{FromTree, at_index, at_key, fields_of, member, required_at, unexpected};
 use rustsec_values::Text;
-use rustsec_versions::{Error, ErrorKind, Result, read_version};
+use rustsec_versions::read_version;
 use semver::Version;
 use serde_json::{Map, Value};
 use std::alloc::{AllocError, Global};

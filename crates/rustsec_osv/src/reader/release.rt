@@ -3,8 +3,9 @@
 ghost use Rattle.std.specs.Prelude.{◌≡◌, option_map};
 ghost use Rattle.semver.specs.Identifiers.{parts_of};
 
+use rustsec_error::Result;
 use rustsec_json::{FromTree, unexpected};
-use rustsec_versions::{Result, read_version};
+use rustsec_versions::read_version;
 use semver::Version;
 use serde_json::Value;
 use std::alloc::Global;

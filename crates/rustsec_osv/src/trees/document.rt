@@ -9,7 +9,7 @@ ghost use Rattle.rustsec_osv.specs.ReaderDocument.{read_document};
 ghost use Rattle.rustsec_osv.specs.TreeAffected.{version_tree};
 ghost use Rattle.rustsec_osv.specs.TreeDocument.{document_tree, list_rows, text_rows};
 ghost use Rattle.rustsec_osv.specs.TreeObjects.{row_if, with_rows};
-ghost use Rattle.rustsec_versions.specs.Failure.{IsMemory};
+ghost use Rattle.rustsec_error.specs.Failure.{IsMemory};
 ghost use Rattle.semver.specs.Identifiers.{parts_of};
 
 use crate::document::{MainOsvDatabaseSpecific, OsvAdvisory};
@@ -145,7 +145,7 @@ impl OsvAdvisory {
     /// # Errors
     ///
     /// `OutOfMemory` alone.
-    pub fn to_value(&self, alloc: Global) -> rustsec_versions::Result<Value>
+    pub fn to_value(&self, alloc: Global) -> rustsec_error::Result<Value>
         ensures ok { IfOk result (λ v. view v ≡ document_tree self.now) }
         ensures err { IfErr result IsMemory }
 

@@ -130,7 +130,7 @@ pub(super) const KEYS: &[Row<'static>] = &[
         new: "case::all",
         status: 1,
         parts: &[
-            "line 19: ",
+            "line 20: ",
             "function path must start with crate name; the package is `base`",
         ],
     },
@@ -228,13 +228,17 @@ pub(super) const LISTS: &[Row<'static>] = &[
         old: "https://example.com/a",
         new: "x",
         status: 2,
-        parts: &["line 6, column 1: key `url` in [advisory]: "],
+        parts: &[
+            "line 6, column 1: key `url` in [advisory]: not an address `x`, expected an absolute URL",
+        ],
     },
     Row {
         old: "keywords = [\"how\"]",
         new: "references = [\"x\"]",
         status: 2,
-        parts: &["line 8, column 1: key `references` in [advisory]: "],
+        parts: &[
+            "line 8, column 1: key `references` in [advisory]: not an address `x`, expected an absolute URL",
+        ],
     },
     Row {
         old: "keywords = [\"how\"]",

@@ -1,7 +1,7 @@
 use Rattle.std.proofs.Common.{inl}
 use Rattle.std.proofs.lemmas.Result.{err_from_is_err_and}
 use Rattle.rustsec_folders.proofs.Same.{same-refl, same-trans}
-use Rattle.rustsec_versions.proofs.Refusals.{refused_by}
+use Rattle.rustsec_error.proofs.Refusals.{refused_by}
 use Rattle.rustsec_database.proofs.Files.{loaded-none}
 use Rattle.rustsec_database.proofs.Opening.{file-fails, load-none, load-step}
 use Rattle.rustsec_database.proofs.open.load_paths.Goals as goal

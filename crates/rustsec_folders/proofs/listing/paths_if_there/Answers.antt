@@ -1,6 +1,6 @@
 use Rattle.std.proofs.Common.{inl}
 use Rattle.std.proofs.lemmas.Result.{IfErr-weaker, IfOk-weaker}
-use Rattle.rustsec_versions.proofs.Refusals.{refused_by}
+use Rattle.rustsec_error.proofs.Refusals.{refused_by}
 use Rattle.rustsec_folders.proofs.Same.{below-found, collection-found}
 use Rattle.rustsec_folders.proofs.listing.paths_if_there.Goals as goal
 

@@ -1,5 +1,5 @@
 use Rattle.std.proofs.lemmas.Result.{err_from_is_err_and}
-use Rattle.rustsec_versions.proofs.Refusals.{refused_by}
+use Rattle.rustsec_error.proofs.Refusals.{refused_by}
 use Rattle.rustsec_folders.proofs.Same.{folder-fails, folders-step, same-trans}
 use Rattle.rustsec_folders.proofs.listing.paths_of_packages.Goals as goal
 

@@ -1,6 +1,6 @@
 use Rattle.std.proofs.Common.{inl}
 use Rattle.std.proofs.lemmas.Result.{IfErr-weaker, IfOk-weaker, err_from_is_err_and}
-use Rattle.rustsec_versions.proofs.Refusals.{refused_by}
+use Rattle.rustsec_error.proofs.Refusals.{refused_by}
 use Rattle.rustsec_folders.proofs.Same.{listed-fails, listed-found}
 use Rattle.rustsec_folders.proofs.listing.source_files.Goals as goal
 

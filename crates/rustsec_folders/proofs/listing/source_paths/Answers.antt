@@ -1,6 +1,6 @@
 use Rattle.std.proofs.Common.{◌∙◌, inr}
 use Rattle.std.proofs.lemmas.Result.{err_from_is_err_and}
-use Rattle.rustsec_versions.proofs.Refusals.{refused_by}
+use Rattle.rustsec_error.proofs.Refusals.{refused_by}
 use Rattle.rustsec_folders.proofs.Same.{fails-below-before, there-before}
 use Rattle.rustsec_folders.proofs.listing.source_paths.Goals as goal
 

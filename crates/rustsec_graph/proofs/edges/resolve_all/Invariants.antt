@@ -6,6 +6,6 @@ use Rattle.rustsec_graph.proofs.edges.resolve_all.Given as goal
 
 abbrev pub invariant-loop-place : goal.invariant-loop-place
 invariant-loop-place l = record {
-  edges : l.edges ≡ map (targets_at l.candidates (table_view l.table)) (range_with_len 0 l.place);
-  unresolved : l.unresolved ≡ map (unresolved_at l.candidates (table_view l.table)) (range_with_len 0 l.place);
+  edges : l.edges ≡ map (targets_at l.index (table_view l.table)) (range_with_len 0 l.place);
+  unresolved : l.unresolved ≡ map (unresolved_at l.index (table_view l.table)) (range_with_len 0 l.place);
 }

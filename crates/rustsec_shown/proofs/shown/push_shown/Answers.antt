@@ -1,10 +1,14 @@
-use Rattle.std.proofs.Common.{◌++◌, ◌∙◌, ap, flat_map, map-id, string_bytes, sym}
-use Rattle.std.proofs.lemmas.Iterator.{YieldsList-from_chars}
-use Rattle.std.proofs.lemmas.Iterator.Consumers.{YieldsList-end}
-use Rattle.rustsec_shown.specs.Shown.{shown_character}
+use Rattle.std.proofs.Common.{◌∙◌, sym, append_assoc, append-nil}
+use Rattle.std.proofs.lemmas.Str.{IsUtf8-past_char}
+use Rattle.rustsec_shown.proofs.ShownTexts.{shown-empty, shown-step}
 use Rattle.rustsec_shown.proofs.shown.push_shown.Goals as goal
 
+pub loop-c-preserved : goal.loop-c-preserved
+loop-c-preserved c =
+    let held = c.loop-c.invariant in
+    let parts = c.in-Some.ensures.steps.0 in
+    let step = shown-step _ _ c.in-Some.c held.0 parts in
+    (IsUtf8-past_char _ _ c.in-Some.c held.0 parts, rw (c.in_ok-push_char.ensures, append_assoc) (rw step at held.1))
+
 pub returns : goal.returns
-returns c =
-    let end = YieldsList-end (YieldsList-from_chars c.args.text.now c.utf8.text cc) c.loop-c.yielded _ c.loop-c.yielded_by _ _ c.in-None.is c.next.ensures.steps in
-    c.loop-c.invariant ∙ ap (λ l. string_bytes c.args.line.now ++ flat_map shown_character l) (sym (map-id c.loop-c.yielded) ∙ end.0)
+returns c = sym (append-nil _) ∙ rw (shown-empty _ c.in-None.ensures.steps.0.0) at c.loop-c.invariant.1

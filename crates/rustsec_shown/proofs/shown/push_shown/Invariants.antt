@@ -1,7 +1,10 @@
-use Rattle.std.proofs.Common.{◌≡◌, ◌++◌, flat_map, string_bytes}
-use Rattle.rustsec_shown.specs.Shown.{shown_character}
+use Rattle.std.proofs.Common.{◌≡◌, ◌++◌, string_bytes}
+use Rattle.std.specs.Str.Iter.{chars_rest}
+use Rattle.std.specs.Str.{IsUtf8}
+use Rattle.rustsec_shown.specs.Shown.{shown}
 use Rattle.rustsec_shown.proofs.shown.push_shown.Given as goal
 
--- the characters so far
+-- the text so far and then the rest of the characters give the whole
 abbrev pub invariant-loop-c : goal.invariant-loop-c
-invariant-loop-c l = string_bytes l.line ≡ string_bytes l.fn.line ++ flat_map shown_character l.yielded
+invariant-loop-c l =
+    IsUtf8 (chars_rest l.c-iterator) × (string_bytes l.note ++ shown (chars_rest l.c-iterator) ≡ string_bytes l.fn.note ++ shown l.text)

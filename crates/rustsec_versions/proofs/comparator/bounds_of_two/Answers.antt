@@ -5,7 +5,7 @@ use Rattle.rustsec_versions.specs.Views.{side_view}
 use Rattle.rustsec_versions.specs.declared.interval.Bound.{Bound}
 use Rattle.rustsec_versions.specs.declared.comparator.Side.{Side}
 use Rattle.rustsec_versions.specs.declared.comparator.Side.TheVariants.{Lower, Upper, Neither}
-use Rattle.rustsec_versions.proofs.Refusals.{refusal}
+use Rattle.rustsec_error.proofs.Refusals.{refusal}
 use Rattle.rustsec_versions.proofs.Stated.{stated_two}
 use Rattle.rustsec_versions.proofs.comparator.bounds_of_two.Goals as goal
 use Rattle.rustsec_versions.proofs.comparator.bounds_of_two.Goals.{in_default-via-in-Lower+in_default, in_default-via-in-Upper+in_default, in_default-via-in_default}
@@ -42,4 +42,4 @@ returns-in_default-clause-err c =
       | in_default-via-in-Upper+in_default w ↦ of_upper _ _ _ w.in_default.is-0 w.in_default.not-Lower-1
       | in_default-via-in_default w ↦ of_neither _ _ w.in_default.is-0
     ] in
-    refusal _ c.bad_param.result (two ∙ none) c.bad_param.ensures
+    refusal _ c.bad_param.result (two ∙ none) c.bad_param.ensures.kind

@@ -2,7 +2,7 @@ use Rattle.std.proofs.Common.{◌≡◌, ◌∙◌, append_assoc, refl, sym, tru
 use Rattle.std.specs.Prelude.{is_ok}
 use Rattle.std.proofs.lemmas.Result.{err_from_is_err_and}
 use Rattle.rustsec_versions.proofs.Admission.{all_admissible-more, all_admissible-stop, marked-more}
-use Rattle.rustsec_versions.proofs.Refusals.{refused_by}
+use Rattle.rustsec_error.proofs.Refusals.{refused_by}
 use Rattle.rustsec_versions.proofs.marked.add_marked.Goals as goal
 
 pub returns-in_err-interval-clause-err : goal.returns-in_err-interval-clause-err

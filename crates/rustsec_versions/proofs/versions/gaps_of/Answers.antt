@@ -6,7 +6,7 @@ use Rattle.rustsec_versions.specs.Lists.{Lists}
 use Rattle.rustsec_versions.specs.Sweep.{marks}
 use Rattle.rustsec_versions.proofs.Agreement.{sweep-refused, walk-AreGapsOf}
 use Rattle.rustsec_versions.proofs.Clashes.{accepted-refused}
-use Rattle.rustsec_versions.proofs.Refusals.{refusal, refused_by}
+use Rattle.rustsec_error.proofs.Refusals.{refusal, refused_by}
 use Rattle.rustsec_versions.proofs.versions.gaps_of.Goals as goal
 
 pub returns-clause-err : goal.returns-clause-err

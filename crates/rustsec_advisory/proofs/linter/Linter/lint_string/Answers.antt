@@ -1,7 +1,8 @@
-use Rattle.std.proofs.Common.{inr, refl}
+use Rattle.std.proofs.Common.{inr, refl, subst, sym}
 use Rattle.std.proofs.lemmas.Result.{err_from_is_err_and}
 use Rattle.rustsec_advisory.proofs.KnownKeys.{keys-known}
-use Rattle.rustsec_advisory.proofs.Unique.{lints_unique}
+use Rattle.rustsec_advisory.proofs.Unique.{document_unique, lints_unique}
+use Rattle.rustsec_advisory.specs.KeyOrder.{DocumentRises}
 use Rattle.rustsec_advisory.proofs.linter.Linter.lint_string.Goals as goal
 
 pub returns-in_err-errors-clause-err : goal.returns-in_err-errors-clause-err
@@ -16,3 +17,8 @@ returns-clause-only c b fs k =
 
 pub returns-clause-keys : goal.returns-clause-keys
 returns-clause-keys c = keys-known _ _ refl refl
+
+pub returns-clause-ordered : goal.returns-clause-ordered
+returns-clause-ordered c d is =
+    let same = document_unique _ d _ _ _ is c.in_ok-advisory.ensures.ok in
+    subst DocumentRises (sym same) c.in_ok-errors.ensures.ordered

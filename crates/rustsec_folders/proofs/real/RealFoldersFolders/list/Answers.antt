@@ -1,5 +1,5 @@
 use Rattle.std.proofs.lemmas.Result.{IfErr-weaker}
-use Rattle.rustsec_versions.proofs.Refusals.{refusal}
+use Rattle.rustsec_error.proofs.Refusals.{refusal}
 use Rattle.rustsec_folders.proofs.real.RealFoldersFolders.list.Goals as goal
 
 pub returns-clause-err : goal.returns-clause-err

@@ -1,5 +1,5 @@
 use Rattle.std.proofs.lemmas.Result.{IfErr-weaker}
-use Rattle.rustsec_versions.proofs.Refusals.{refusal}
+use Rattle.rustsec_error.proofs.Refusals.{refusal}
 use Rattle.rustsec_folders.proofs.Shown.{all-names}
 use Rattle.rustsec_folders.proofs.real.RealFoldersFolders.names.Goals as goal
 

@@ -1,14 +1,14 @@
 use Rattle.std.proofs.Common.{◌≡◌, ◌∙◌, false, sym, subst}
 use Rattle.rustsec_texts.specs.Ids.{is_placeholder}
 use Rattle.rustsec_texts.specs.Numbers.{last_part}
-use Rattle.rustsec_texts.proofs.Dashes.{last-alone, last-behind, no-dash}
+use Rattle.rustsec_texts.proofs.Dashes.{last-alone, last-after, no-dash}
 use Rattle.rustsec_texts.proofs.id.Id.numerical_part.Goals as goal
 
 pub returns-in-Some : goal.returns-in-Some
 returns-in-Some c =
     let real : is_placeholder c.args.self.now.text ≡ false = sym c.is_placeholder.ensures ∙ c.if-is_placeholder.false in
     let found = c.in-Some.ensures.cases in
-    let last = last-behind _ found.0 found.1 found.2.0 found.2.1 in
+    let last = last-after _ found.0 found.1 found.2.0 found.2.1 in
     rw (real, ← c.as_str.ensures.value, last, ← found.4) c.number.ensures
 
 pub returns-in-None : goal.returns-in-None

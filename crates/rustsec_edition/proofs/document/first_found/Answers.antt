@@ -1,0 +1,34 @@
+use Rattle.std.proofs.Common.{◌≡◌, ◌∙◌, ◌==◌, ◌+◌, ◌-◌, ap, arith, false, length, rules, suc, sym, true}
+use Rattle.std.proofs.lemmas.Grind.{common_steps}
+use Rattle.rustsec_edition.proofs.Forms.{no_more, no_room, none_first, one_more, some_first}
+use Rattle.rustsec_edition.specs.Forms.{form_at}
+use Rattle.rustsec_edition.proofs.document.first_found.Goals as goal
+
+pub returns-then-is_empty : goal.returns-then-is_empty
+returns-then-is_empty c =
+    let over : (length c.tokens.rest.now == 0) ≡ true = grind (arith, common_steps) in
+    sym (c.tokens.invariant.1 ∙ no_more _ _ _ _ over)
+
+pub returns-in-Some : goal.returns-in-Some
+returns-in-Some c =
+    let more : (length c.tokens.rest.now == 0) ≡ false = grind (arith, common_steps) in
+    let left = length c.args.document.now - (c.tokens._at + 1) in
+    let room : length c.args.document.now - c.tokens._at ≡ suc left = omega (arith, c.tokens-test.true) in
+    let shown : form_at c.tokens.brackets.items c.tokens.before c.tokens.rest.now ≡ c.in_ok-form.field-0 =
+    ap (λ bs. form_at bs c.tokens.before c.tokens.rest.now) (sym c.deref.ensures.value) ∙ sym c.in_ok-form.ensures in
+    sym (c.tokens.invariant.1 ∙ one_more _ left _ _ _ room more ∙ some_first _ _ _ (shown ∙ c.in-Some.is))
+
+pub tokens-preserved : goal.tokens-preserved
+tokens-preserved c =
+    let more : (length c.tokens.rest.now == 0) ≡ false = grind (arith, common_steps) in
+    let left = length c.args.document.now - (c.tokens._at + 1) in
+    let room : length c.args.document.now - c.tokens._at ≡ suc left = omega (arith, c.tokens-test.true) in
+    let shown : form_at c.tokens.brackets.items c.tokens.before c.tokens.rest.now ≡ c.in_ok-form.field-0 =
+    ap (λ bs. form_at bs c.tokens.before c.tokens.rest.now) (sym c.deref.ensures.value) ∙ sym c.in_ok-form.ensures in (
+      search rules,
+      rw (c.in_ok-track.ensures, c.first.ensures, c.last-before.ensures, c.up_to.ensures.value, c.in_ok-next.ensures.value)
+          (c.tokens.invariant.1 ∙ one_more _ left _ _ _ room more ∙ none_first _ _ (shown ∙ c.in_default.is)),
+    )
+
+pub returns : goal.returns
+returns c = sym (c.tokens.invariant.1 ∙ no_room _ _ _ _ (omega (arith, c.tokens-test.false)))

@@ -1,0 +1,11 @@
+//! Finds the first form in a document of TOML 1.1 that TOML 1.0 does not have.
+#![tactic(auto)]
+
+mod document;
+mod form;
+#[cfg(test)]
+mod tests;
+mod token;
+
+pub use crate::document::{FoundForm, first_form};
+pub use crate::form::NewForm;

@@ -1,0 +1,168 @@
+//! Which form of TOML 1.1 a token shows.
+
+ghost use Rattle.std.specs.Prelude.{◌≡◌, ◌<◌, ◌^◌, IfOk, OnOk, false};
+ghost use Rattle.rustsec_edition.specs.Forms.{after_bracket, form_at, goes_on_after, has_line_feed_after, has_new_escape, has_two_digits, is_in_table, is_last_comma, is_new_letter, is_new_string, is_short_time, is_table_end, is_table_split, last};
+
+use crate::form::NewForm;
+use rustsec_places::{after_token, next_token, up_to};
+use std::alloc::{AllocError, Global};
+use toml_parser::text::{byte_at, first, skip_blank};
+
+/// Returns whether a byte is the letter of an escape of TOML 1.1.
+fn is_new_letter(byte: u8) -> bool
+    ensures { result ≡ is_new_letter byte }
+{
+    byte == b'e' || byte == b'x'
+}
+
+/// Returns whether bytes of a string have an escape of TOML 1.1.
+#[tactic(auto, using(crate::proofs::Forms::escape_more), unfolding(crate::specs::Forms::has_new_escape))]
+fn has_new_escape(string: &[u8]) -> bool
+    ensures { result ≡ has_new_escape false string.now }
+{
+    let mut is_escaped = false;
+    for byte in string {
+        if is_escaped && is_new_letter(*byte) {
+            return true;
+        }
+        is_escaped = *byte == b'\\' && !is_escaped;
+    }
+    false
+}
+
+/// Returns whether a token is a string between double quotation marks that has an escape of TOML 1.1.
+fn is_new_string(alloc: Global, text: &str) -> Result<bool, AllocError>
+    ensures { IfOk result (λ b. b ≡ is_new_string text.now) }
+{
+    if first(text) != b'"' {
+        return Ok(false);
+    }
+    let rest = after_token(alloc, text)?;
+    Ok(has_new_escape(up_to(rest, text)))
+}
+
+/// Returns whether a text has two digits at an index.
+fn has_two_digits(text: &str, index: usize) -> bool
+    requires { index < 2 ^ 63 }
+    ensures { result ≡ has_two_digits text.now index }
+{
+    byte_at(text, index).is_ascii_digit() && byte_at(text, index + 1).is_ascii_digit()
+}
+
+/// Returns whether two digits after this byte cannot be hours: it is a digit, a colon or a sign.
+fn goes_on_after(before: u8) -> bool
+    ensures { result ≡ goes_on_after before }
+{
+    before.is_ascii_digit() || before == b':' || before == b'+' || before == b'-'
+}
+
+/// Returns whether a text, after this byte, begins with a time that has no seconds.
+fn is_short_time(before: u8, text: &str) -> bool
+    ensures { result ≡ is_short_time before text.now }
+{
+    !goes_on_after(before)
+        && has_two_digits(text, 0)
+        && byte_at(text, 2) == b':'
+        && has_two_digits(text, 3)
+        && byte_at(text, 5) != b':'
+}
+
+/// Keeps track of the brackets that are open, after one more token.
+pub(crate) fn track(brackets: &mut Vec<u8>, byte: u8) -> Result<(), AllocError>
+    ensures { OnOk result (brackets.new.items ≡ after_bracket byte brackets.old.items) }
+{
+    if byte == b'[' || byte == b'{' {
+        brackets.push(byte)?;
+        return Ok(());
+    }
+    if byte == b']' || byte == b'}' {
+        brackets.truncate(brackets.len().saturating_sub(1));
+    }
+    Ok(())
+}
+
+/// Returns the last byte, or 0.
+pub(crate) fn last(bytes: &[u8]) -> u8
+    ensures { result ≡ last bytes.now }
+{
+    let index = bytes.len().saturating_sub(1);
+    bytes.get(index).copied().unwrap_or(0)
+}
+
+/// Returns whether the innermost open bracket begins an inline table, after one more token.
+fn is_in_table_after(byte: u8, brackets: &[u8]) -> bool
+    ensures { result ≡ is_in_table (after_bracket byte brackets.now) }
+{
+    match byte {
+        b'{' => true,
+        b'[' => false,
+        b']' | b'}' => last(&brackets[..brackets.len().saturating_sub(1)]) == b'{',
+        _ => last(brackets) == b'{',
+    }
+}
+
+/// Returns whether a token is a comma right before a closing brace.
+fn is_last_comma(alloc: Global, text: &str) -> Result<bool, AllocError>
+    ensures { IfOk result (λ b. b ≡ is_last_comma text.now) }
+{
+    if first(text) != b',' {
+        return Ok(false);
+    }
+    let next = next_token(alloc, text)?;
+    Ok(first(next) == b'}')
+}
+
+/// Returns whether a line feed comes between a token and the next one.
+fn has_line_feed_after(alloc: Global, text: &str) -> Result<bool, AllocError>
+    ensures { IfOk result (λ b. b ≡ has_line_feed_after text.now) }
+{
+    let rest = after_token(alloc, text)?;
+    let next = skip_blank(rest, true);
+    Ok(up_to(next, rest).contains(&b'\n'))
+}
+
+/// Returns whether a token, with these brackets open before it, is a comma right before the closing brace of an inline
+/// table.
+fn is_table_end(alloc: Global, brackets: &[u8], text: &str) -> Result<bool, AllocError>
+    ensures { IfOk result (λ b. b ≡ is_table_end brackets.now text.now) }
+{
+    if last(brackets) != b'{' {
+        return Ok(false);
+    }
+    is_last_comma(alloc, text)
+}
+
+/// Returns whether a line feed follows a token within an inline table. These brackets are open before the token.
+fn is_table_split(alloc: Global, brackets: &[u8], text: &str) -> Result<bool, AllocError>
+    ensures { IfOk result (λ b. b ≡ is_table_split brackets.now text.now) }
+{
+    if !is_in_table_after(first(text), brackets) {
+        return Ok(false);
+    }
+    has_line_feed_after(alloc, text)
+}
+
+/// Returns the form of TOML 1.1 that a token shows, if any. The token comes after this byte, and these brackets are open
+/// before it.
+pub(crate) fn form_at(
+    alloc: Global,
+    brackets: &[u8],
+    before: u8,
+    text: &str,
+) -> Result<Option<NewForm>, AllocError>
+    ensures { IfOk result (λ o. o ≡ form_at brackets.now before text.now) }
+{
+    if is_short_time(before, text) {
+        return Ok(Some(NewForm::Time));
+    }
+    if is_new_string(alloc, text)? {
+        return Ok(Some(NewForm::Escape));
+    }
+    if is_table_end(alloc, brackets, text)? {
+        return Ok(Some(NewForm::Comma));
+    }
+    if is_table_split(alloc, brackets, text)? {
+        return Ok(Some(NewForm::LineFeed));
+    }
+    Ok(None)
+}

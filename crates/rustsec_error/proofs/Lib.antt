@@ -1,0 +1,2 @@
+pub mod RefusedTexts
+pub mod Refusals

@@ -1,0 +1,11 @@
+pub mod EntryKeys
+pub mod ExportedDocuments
+pub mod ExportedLists
+pub mod ExportedVectors
+pub mod Folds
+pub mod MetricRows
+pub mod NoonTimes
+pub mod Parts
+pub mod Rules
+pub mod Times
+pub mod Views

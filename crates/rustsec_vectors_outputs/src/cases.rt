@@ -1,0 +1,210 @@
+//! Parts of checks made by hand, for all forms in which checks are written.
+
+use rustsec_advisory::Advisory;
+use rustsec_check::{Check, Finding, IgnoredPair, Update, Yanked};
+use rustsec_check_output::Written;
+use rustsec_database::Database;
+use rustsec_folders::SourceFile;
+use rustsec_lock::Lockfile;
+use rustsec_lock::package::Package;
+use rustsec_policy::Ignored;
+use rustsec_texts::WarningKind;
+use rustsec_values::Text;
+use semver::Version;
+use std::alloc::Global;
+use std::test::Fail;
+
+/// An advisory about a vulnerability. Its vector is the example of CVSS 3.1 with the score 9.8.
+pub(crate) const CRITICAL: &str = r#"```toml
+[advisory]
+id = "RUSTSEC-2023-9002"
+package = "quillpack"
+date = "2023-05-04"
+cvss = "CVSS:3.1/AV:N/AC:L/PR:N/UI:N/S:U/C:H/I:H/A:H"
+
+[versions]
+patched = [">=2.3.1"]
+```
+
+# Reads past the end
+
+It reads past the end.
+"#;
+
+/// An advisory about a package that nobody maintains.
+pub(crate) const UNMAINTAINED: &str = r#"```toml
+[advisory]
+id = "RUSTSEC-2024-9001"
+package = "http"
+date = "2024-01-02"
+informational = "unmaintained"
+
+[versions]
+patched = []
+```
+
+# Nobody maintains it
+
+Nobody does.
+"#;
+
+/// A lockfile with a local package and two published ones.
+pub(crate) const LOCKFILE: &str = r#"
+[[package]]
+name = "app"
+version = "0.1.0"
+dependencies = ["http"]
+
+[[package]]
+name = "http"
+version = "2.0.0"
+source = "registry+https://github.com/rust-lang/crates.io-index"
+dependencies = ["quillpack"]
+
+[[package]]
+name = "quillpack"
+version = "2.1.0"
+source = "registry+https://github.com/rust-lang/crates.io-index"
+"#;
+
+/// A policy that ignores the warning.
+pub(crate) const POLICY: &str = r#"
+[advisories]
+ignore = [{ id = "RUSTSEC-2024-9001", reason = "it is small", until = "2024-12-31" }]
+"#;
+
+/// Returns a file.
+fn file(alloc: Global, path: &str, text: &str) -> Result<SourceFile, Fail> {
+    let path = Text::from_str(alloc, path)?;
+    let text = Text::from_str(alloc, text)?;
+    Ok(SourceFile { path, text })
+}
+
+/// Returns the database of an advisory about `quillpack` and one about `http`.
+pub(crate) fn database(alloc: Global, quillpack: &str, http: &str) -> Result<Database, Fail> {
+    let mut files = Vec::new(alloc);
+    files.push(file(alloc, "crates/quillpack/RUSTSEC-2023-9002.md", quillpack)?)?;
+    files.push(file(alloc, "crates/http/RUSTSEC-2024-9001.md", http)?)?;
+    let database = Database::load(alloc, files.as_slice())?;
+    Ok(database)
+}
+
+/// Returns the finding of the vulnerability in the package at a place, without a path, with an update to 2.3.1.
+pub(crate) fn vulnerability<'a>(
+    alloc: Global,
+    advisory: &'a Advisory,
+    package: &'a Package,
+    place: usize,
+) -> Result<Finding<'a>, Fail> {
+    let least_free = Version::parse(alloc, "2.3.1")?;
+    Ok(Finding {
+        kind: None,
+        advisory,
+        package,
+        place,
+        is_denied: true,
+        is_old: false,
+        path: None,
+        dependents: Vec::new(alloc),
+        update: Update {
+            least_free: Some(least_free),
+            is_compatible: place == 2,
+            moved_by: Vec::new(alloc),
+        },
+    })
+}
+
+/// Returns the finding of the warning, which the baseline has, without a path and without an update.
+pub(crate) fn warning<'a>(
+    alloc: Global,
+    advisory: &'a Advisory,
+    package: &'a Package,
+) -> Finding<'a> {
+    Finding {
+        kind: Some(WarningKind::Unmaintained),
+        advisory,
+        package,
+        place: 1,
+        is_denied: false,
+        is_old: true,
+        path: None,
+        dependents: Vec::new(alloc),
+        update: Update {
+            least_free: None,
+            is_compatible: false,
+            moved_by: Vec::new(alloc),
+        },
+    }
+}
+
+/// Returns the pair of the warning as ignored.
+pub(crate) fn ignored<'a>(advisory: &'a Advisory, package: &'a Package) -> IgnoredPair<'a> {
+    IgnoredPair {
+        kind: Some(WarningKind::Unmaintained),
+        advisory,
+        package,
+    }
+}
+
+/// Returns a yanked package at a place, without a path.
+pub(crate) fn yanked<'a>(
+    alloc: Global,
+    package: &'a Package,
+    place: usize,
+    is_denied: bool,
+) -> Yanked<'a> {
+    Yanked {
+        package,
+        place,
+        is_denied,
+        is_old: false,
+        path: None,
+        dependents: Vec::new(alloc),
+    }
+}
+
+/// Returns the check of some findings, without ignored pairs.
+pub(crate) fn check_of<'a>(alloc: Global, findings: Vec<Finding<'a>>) -> Check<'a> {
+    Check {
+        findings,
+        ignored: Vec::new(alloc),
+        unused: Vec::new(alloc),
+        unknown: Vec::new(alloc),
+        below_threshold: 0,
+    }
+}
+
+/// A check, the yanked packages, and notes.
+#[derive(Drop)]
+pub(crate) struct Case<'a> {
+    pub(crate) check: Check<'a>,
+    pub(crate) yanked: Option<Vec<Yanked<'a>>>,
+    pub(crate) notes: Vec<Text>,
+}
+
+impl<'a> Case<'a> {
+    /// Returns the yanked packages, if any.
+    fn yanked(&self) -> Option<&[Yanked<'a>]> {
+        match &self.yanked {
+            Some(yanked) => Some(yanked.as_slice()),
+            None => None,
+        }
+    }
+
+    /// Returns what is written of the case.
+    pub(crate) fn written<'c>(
+        &'c self,
+        database: &'c Database,
+        lockfile: &'c Lockfile,
+        entries: &'c [Ignored],
+    ) -> Written<'c, 'a> {
+        Written {
+            database,
+            lockfile,
+            check: &self.check,
+            entries,
+            notes: self.notes.as_slice(),
+            yanked: self.yanked(),
+        }
+    }
+}

@@ -1,0 +1,189 @@
+//! A check of three packages as text and as JSON, written by hand.
+
+use crate::cases::{
+    CRITICAL, Case, LOCKFILE, POLICY, UNMAINTAINED, check_of, database, ignored, vulnerability,
+    warning, yanked,
+};
+use rustsec_advisory::Advisory;
+use rustsec_check::{Check, Finding, Yanked};
+use rustsec_check_output::{Written, check_line, check_text, refused_line};
+use rustsec_database::Database;
+use rustsec_error::ErrorKind;
+use rustsec_lock::Lockfile;
+use rustsec_lock::package::Package;
+use rustsec_policy::{Ignored, Policy};
+use rustsec_values::Text;
+use std::alloc::Global;
+use std::process::Abort;
+use std::test::Fail;
+
+/// What is written of the check for people.
+const TEXT: &str = "RUSTSEC-2023-9002 quillpack 2.1.0: Reads past the end
+  vulnerability, critical 9.8
+  app 0.1.0 → http 2.0.0 → quillpack 2.1.0
+  update to 2.3.1 (compatible): cargo update quillpack@2.1.0
+RUSTSEC-2024-9001 http 2.0.0: Nobody maintains it
+  unmaintained, old
+  no path from a root
+  no fixed version
+yanked http 2.0.0, denied
+  app 0.1.0 → http 2.0.0
+ignored RUSTSEC-2024-9001 http 2.0.0 until 2024-12-31: it is small
+left out below the least severity: 4
+note: one\\u{a}two
+1 vulnerability, 1 warning, 1 yanked, 1 ignored; looked at 2 advisories and 3 packages
+";
+
+/// The JSON tree of the check, in pieces.
+const LINE: &[&str] = &[
+    r#"{"below-threshold":4,"database":{"advisory-count":2,"last-date":"2024-01-02"},"findings":["#,
+    r#"{"advisory":{"aliases":[],"cvss":null,"date":"2024-01-02","id":"RUSTSEC-2024-9001","score":null,"#,
+    r#""severity":null,"title":"Nobody maintains it","url":null},"denied":false,"dependents":[],"#,
+    r#""kind":"unmaintained","old":true,"package":{"name":"http","#,
+    r#""source":"registry+https://github.com/rust-lang/crates.io-index","version":"2.0.0"},"path":null,"#,
+    r#""update":{"command":["cargo","update","#,
+    r#""registry+https://github.com/rust-lang/crates.io-index#http@2.0.0"],"compatible":false,"ignored":[],"#,
+    r#""least-free":null},"versions":{"patched":[],"unaffected":[]}},"#,
+    r#"{"advisory":{"aliases":[],"cvss":"CVSS:3.1/AV:N/AC:L/PR:N/UI:N/S:U/C:H/I:H/A:H","#,
+    r#""date":"2023-05-04","id":"RUSTSEC-2023-9002","score":"9.8","severity":"critical","#,
+    r#""title":"Reads past the end","url":null},"denied":true,"#,
+    r#""dependents":[{"name":"http","version":"2.0.0"}],"kind":"vulnerability","old":false,"#,
+    r#""package":{"name":"quillpack","source":"registry+https://github.com/rust-lang/crates.io-index","#,
+    r#""version":"2.1.0"},"path":[{"name":"app","version":"0.1.0"},{"name":"http","version":"2.0.0"},"#,
+    r#"{"name":"quillpack","version":"2.1.0"}],"update":{"command":["cargo","update","#,
+    r#""registry+https://github.com/rust-lang/crates.io-index#quillpack@2.1.0"],"compatible":true,"#,
+    r#""ignored":[],"least-free":"2.3.1"},"versions":{"patched":[">=2.3.1"],"unaffected":[]}}],"#,
+    r#""ignored":[{"advisory":"RUSTSEC-2024-9001","kind":"unmaintained","package":{"name":"http","#,
+    r#""source":"registry+https://github.com/rust-lang/crates.io-index","version":"2.0.0"},"#,
+    r#""reason":"it is small","until":"2024-12-31"}],"lockfile":{"dependency-count":3},"#,
+    r#""notes":["one\ntwo"],"unknown-ignores":[],"unused-ignores":[],"#,
+    r#""yanked":[{"denied":true,"dependents":[{"name":"app","version":"0.1.0"}],"old":false,"#,
+    r#""package":{"name":"http","source":"registry+https://github.com/rust-lang/crates.io-index","#,
+    r#""version":"2.0.0"},"path":[{"name":"app","version":"0.1.0"},"#,
+    r#"{"name":"http","version":"2.0.0"}]}]}"#,
+    "\n",
+];
+
+/// The line for a lockfile that was refused.
+const REFUSED: &str = r#"{"lockfile":"a/Cargo.lock","refused":"parse error"}
+"#;
+
+/// Returns the finding of the vulnerability, with its path and who depends on the package.
+fn found<'a>(
+    alloc: Global,
+    advisory: &'a Advisory,
+    package: &'a Package,
+) -> Result<Finding<'a>, Fail> {
+    let path = [0, 1, 2].to_vec(alloc)?;
+    let dependents = [1].to_vec(alloc)?;
+    let mut finding = vulnerability(alloc, advisory, package, 2)?;
+    finding.path = Some(path);
+    finding.dependents = dependents;
+    Ok(finding)
+}
+
+/// Returns the yanked package, with its path and who depends on it.
+fn yanked_http<'a>(alloc: Global, package: &'a Package) -> Result<Yanked<'a>, Fail> {
+    let path = [0, 1].to_vec(alloc)?;
+    let dependents = [0].to_vec(alloc)?;
+    let mut yanked = yanked(alloc, package, 1, true);
+    yanked.path = Some(path);
+    yanked.dependents = dependents;
+    Ok(yanked)
+}
+
+/// Returns the check of both findings; the warning is ignored too.
+fn check<'a>(
+    alloc: Global,
+    advisories: &'a [Advisory],
+    packages: &'a [Package],
+) -> Result<Option<Check<'a>>, Fail> {
+    let ([critical, unmaintained], [_, http, quillpack]) = (advisories, packages) else {
+        return Ok(None);
+    };
+    let mut findings = Vec::new(alloc);
+    findings.push(warning(alloc, unmaintained, http))?;
+    findings.push(found(alloc, critical, quillpack)?)?;
+    let mut check = check_of(alloc, findings);
+    check.ignored.push(ignored(unmaintained, http))?;
+    check.below_threshold = 4;
+    Ok(Some(check))
+}
+
+/// Returns whether the check is written as the rows above say.
+fn is_written(alloc: Global, written: &Written<'_, '_>) -> Result<bool, Fail> {
+    let line = check_line(alloc, written)?;
+    let text = check_text(alloc, written, false)?;
+    Ok(line.as_str() == LINE.concat(alloc)?.as_str() && text.as_str() == TEXT)
+}
+
+/// Returns the check with a note and a yanked package.
+fn whole_case<'a>(
+    alloc: Global,
+    advisories: &'a [Advisory],
+    packages: &'a [Package],
+) -> Result<Option<Case<'a>>, Fail> {
+    let Some(check) = check(alloc, advisories, packages)? else {
+        return Ok(None);
+    };
+    let Some(http) = packages.get(1) else {
+        return Ok(None);
+    };
+    let mut all = Vec::new(alloc);
+    all.push(yanked_http(alloc, http)?)?;
+    let mut notes = Vec::new(alloc);
+    notes.push(Text::from_str(alloc, "one\ntwo")?)?;
+    Ok(Some(Case {
+        check,
+        yanked: Some(all),
+        notes,
+    }))
+}
+
+/// Returns whether the check of the database and the lockfile is written as the rows above say.
+fn is_written_of(
+    alloc: Global,
+    database: &Database,
+    lockfile: &Lockfile,
+    entries: &[Ignored],
+) -> Result<bool, Fail> {
+    let packages = lockfile.packages.as_slice();
+    let loaded = database.iter();
+    let Some(case) = whole_case(alloc, loaded.as_slice(), packages)? else {
+        return Ok(false);
+    };
+    is_written(alloc, &case.written(database, lockfile, entries))
+}
+
+/// Returns whether the whole is written as the rows above say.
+fn is_whole(alloc: Global) -> Result<bool, Fail> {
+    let database = database(alloc, CRITICAL, UNMAINTAINED)?;
+    let lockfile = Lockfile::from_str(alloc, LOCKFILE)?;
+    let policy = Policy::from_str(alloc, POLICY)?;
+    is_written_of(
+        alloc,
+        &database,
+        &lockfile,
+        policy.advisories.ignore.as_slice(),
+    )
+}
+
+/// Returns whether a refusal is written as the row above says.
+fn is_refused(alloc: Global) -> Result<bool, Fail> {
+    let line = refused_line(alloc, "a/Cargo.lock", ErrorKind::Parse)?;
+    Ok(line.as_str() == REFUSED)
+}
+
+/// Asserts that everything is written as the rows above say.
+fn expect<R: Abort>(rt: &R, alloc: Global) -> Result<(), Fail> {
+    assert!(rt;
+        is_whole(alloc)? && is_refused(alloc)?,
+        "as written by hand"
+    );
+    Ok(())
+}
+
+#[test]
+fn a_check(rt: HostRuntime) -> Result<(), Fail> {
+    expect(&rt, rt.alloc())
+}
