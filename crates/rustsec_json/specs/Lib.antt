@@ -1,2 +1,4 @@
+pub mod Codecs
 pub mod Fields
+pub mod TextCodecs
 pub mod Trees

@@ -1,94 +1,153 @@
--- Reading the tree of a document gives an equal document.
-use Rattle.std.proofs.Common.{◌≡◌, inl, inr, ℕ, List, All, Option, Some, None, refl}
-use Rattle.rustsec_json.specs.Fields.{every, text}
-use Rattle.rustsec_json.specs.Trees.{list_tree}
-use Rattle.semver.specs.Grammar.{IsValid}
+-- Reading the tree of a document gives an equal document: the codec of each of its parts is lawful.
+use Rattle.std.proofs.Common.{◌≡◌, inl, inr, ℕ, List, Option, Some, None, refl, ap}
 use Rattle.semver.specs.Parse.{Parts}
-use Rattle.rustsec_texts.specs.Ids.{IdValue, id_of}
-use Rattle.rustsec_osv.specs.DocumentAgain.{IfThere, IsAffectedAgain, IsDocumentAgain, IsIdAgain, IsReferenceAgain, IsSeverityAgain}
-use Rattle.rustsec_osv.specs.DocumentKinds.{reference_kind_name, reference_kind_of}
+use Rattle.std.specs.Prelude.{⊤}
+use Rattle.serde_json.specs.Find.{as_null}
+use Rattle.rustsec_json.specs.Codecs.{any_text, list_codec, object_codec}
+use Rattle.rustsec_json.specs.TextCodecs.{address_codec, arch_codec, category_codec, id_codec, informational_codec, os_codec, path_codec, vector_codec}
+use Rattle.rustsec_json.proofs.CodecsAgain.{IsLawful, any-text-again, left_out-again, list-again, object-again, optional-again}
+use Rattle.rustsec_osv.specs.DocumentCodec.{IsDocumentAgain, IsSeverityAgain, affected_codec, affected_object, affects_codec, affects_object, database_codec, database_object, document_codec, document_object, document_tree, ecosystem_codec, ecosystem_object, kind_codec, license_codec, license_object, package_codec, package_object, read_document, read_severity, reference_codec, reference_object, severity_codec, severity_tree}
 use Rattle.rustsec_osv.specs.Documents.{Document}
-use Rattle.rustsec_osv.specs.ReaderAffected.{read_affected}
-use Rattle.rustsec_osv.specs.ReaderDocument.{read_document, read_license, read_reference, read_severity}
-use Rattle.rustsec_osv.specs.TreeAffected.{affected_tree}
-use Rattle.rustsec_osv.specs.TreeDocument.{document_tree, id_tree, license_tree, reference_tree, severity_tree}
-use Rattle.rustsec_osv.specs.declared.document.MainOsvDatabaseSpecific.{MainOsvDatabaseSpecific}
-use Rattle.rustsec_osv.specs.declared.reference.OsvReference.{OsvReference}
+use Rattle.rustsec_osv.specs.EventCodec.{event_codec, range_codec, range_object, version_codec}
 use Rattle.rustsec_osv.specs.declared.reference.OsvReferenceKind.{OsvReferenceKind}
 use Rattle.rustsec_osv.specs.declared.reference.OsvReferenceKind.TheVariants as kind
 use Rattle.rustsec_osv.specs.declared.severity.OsvSeverity.{OsvSeverity}
 use Rattle.rustsec_osv.specs.declared.severity.OsvSeverity.TheVariants as severity
-use Rattle.rustsec_osv.proofs.AffectedAgain.{affected-again, text-again}
-use Rattle.rustsec_osv.proofs.EventsAgain.{version-again}
-use Rattle.rustsec_osv.proofs.ReadLists.{every-again}
+use Rattle.rustsec_osv.proofs.EventsAgain.{event-again, event-there, version-again}
+
+infixr 5 ◌&◌
+-- both facts
+pub ◌&◌ : {A B : Type 0} → A → B → A × B
+a & b = (a, b)
+
+-- ---- a member of `affected`
+
+events-again : IsLawful (list_codec event_codec)
+events-again = list-again {c = event_codec} (record { again = event-again; there = event-there })
+
+range-object-again : IsLawful (object_codec range_object)
+range-object-again = object-again range_object (record { keys = (any-text-again.again, (events-again.again, tt)); differ = refl; made = λ r. refl })
+
+pub ranges-again : IsLawful (list_codec range_codec)
+ranges-again = list-again {c = range_codec} (record { again = λ r h. range-object-again.again r (tt, (h, tt)); there = λ r. refl })
+
+package-again : IsLawful package_codec
+package-again = object-again package_object (record {
+  keys = (any-text-again.again, (any-text-again.again, (optional-again any-text-again, tt)));
+  differ = refl;
+  made = λ p. refl;
+})
+
+paths-again : IsLawful (list_codec path_codec)
+paths-again = list-again {c = path_codec} (record { again = λ path h. h; there = λ path. refl })
+
+arches-again : IsLawful (list_codec arch_codec)
+arches-again = list-again {c = arch_codec} (record { again = λ x h. h; there = λ x. refl })
+
+systems-again : IsLawful (list_codec os_codec)
+systems-again = list-again {c = os_codec} (record { again = λ x h. h; there = λ x. refl })
+
+affects-again : IsLawful affects_codec
+affects-again = object-again affects_object (record {
+  keys = (arches-again.again, (systems-again.again, (paths-again.again, tt)));
+  differ = refl;
+  made = λ a. refl;
+})
+
+ecosystem-again : IsLawful ecosystem_codec
+ecosystem-again = object-again ecosystem_object (record {
+  keys = (optional-again affects-again, (optional-again paths-again, tt));
+  differ = refl;
+  made = λ e. refl;
+})
+
+categories-again : IsLawful (list_codec category_codec)
+categories-again = list-again {c = category_codec} (record { again = λ x h. ap Some h; there = λ x. refl })
+
+vector-again : IsLawful vector_codec
+vector-again = record { again = λ x h. h; there = λ x. refl }
+
+informational-again : IsLawful informational_codec
+informational-again = record { again = λ x h. ap Some h; there = λ x. refl }
+
+database-again : IsLawful database_codec
+database-again = object-again database_object (record {
+  keys = (categories-again.again, (optional-again vector-again, (optional-again informational-again, tt)));
+  differ = refl;
+  made = λ d. refl;
+})
+
+versions-again : IsLawful (list_codec any_text)
+versions-again = list-again any-text-again
+
+affected-again : IsLawful affected_codec
+affected-again = object-again affected_object (record {
+  keys = package-again.again & optional-again ecosystem-again & database-again.again & optional-again ranges-again & optional-again versions-again & tt;
+  differ = refl;
+  made = λ a. refl;
+})
+
+-- ---- the other parts
 
 severity-again : (s : OsvSeverity) → IsSeverityAgain s → read_severity (severity_tree s) ≡ Some s
 severity-again (severity.CVSS_V3 base) (inl h) = rw h refl
 severity-again (severity.CVSS_V3 base) (inr h) = rw h refl
 severity-again (severity.CVSS_V4 vector) h = rw h refl
 
-kind-again : (k : OsvReferenceKind) → reference_kind_of (reference_kind_name k) ≡ Some k
-kind-again kind.ADVISORY = refl
-kind-again kind.ARTICLE = refl
-kind-again kind.REPORT = refl
-kind-again kind.FIX = refl
-kind-again kind.PACKAGE = refl
-kind-again kind.WEB = refl
+severity-there : (s : OsvSeverity) → as_null (severity_tree s) ≡ None
+severity-there (severity.CVSS_V3 base) = refl
+severity-there (severity.CVSS_V4 vector) = refl
 
-reference-again : (r : OsvReference) → IsReferenceAgain r → read_reference (reference_tree r) ≡ Some r
-reference-again r h = rw (kind-again r.kind) (rw h refl)
+kind-again : IsLawful kind_codec
+kind-again = record { again = parsed; there = λ k. refl }
+  where
+    parsed : (k : OsvReferenceKind) → ⊤ → kind_codec.read (kind_codec.tree k) ≡ Some k
+    parsed kind.ADVISORY h = refl
+    parsed kind.ARTICLE h = refl
+    parsed kind.REPORT h = refl
+    parsed kind.FIX h = refl
+    parsed kind.PACKAGE h = refl
+    parsed kind.WEB h = refl
 
-license-again : (m : MainOsvDatabaseSpecific) → read_license (license_tree m) ≡ Some m
-license-again m = rw (text-again m.license) refl
+address-again : IsLawful address_codec
+address-again = record { again = λ x h. h; there = λ x. refl }
 
-ids-again : (ids : List IdValue) → All IsIdAgain ids → every (text id_of) (list_tree id_tree ids) ≡ Some ids
-ids-again = every-again (text id_of) id_tree IsIdAgain (λ id h. h)
+reference-object-again : IsLawful (object_codec reference_object)
+reference-object-again = object-again reference_object (record { keys = (kind-again.again, (address-again.again, tt)); differ = refl; made = λ r. refl })
 
--- a document with these two keys, each present or left out
-abbrev pub keyed : Document → Option Parts → Option (List ℕ) → Document
-keyed d v w = record { schema_version = v; withdrawn = w; id = d.id; modified = d.modified; published = d.published; aliases = d.aliases; related = d.related; summary = d.summary; details = d.details; severity = d.severity; affected = d.affected; references = d.references; database_specific = d.database_specific }
+license-again : IsLawful license_codec
+license-again = object-again license_object (record { keys = (optional-again any-text-again, tt); differ = refl; made = λ m. refl })
 
-keyed-again : (d : Document) (v : Option Parts) (w : Option (List ℕ)) → IsDocumentAgain d → IfThere IsValid v
-    → read_document (document_tree (keyed d v w)) ≡ Some (keyed d v w)
-keyed-again d None None h valid = rw (
-  h.id,
-  ids-again d.aliases h.aliases,
-  ids-again d.related h.related,
-  every-again read_severity severity_tree IsSeverityAgain severity-again d.severity h.severity,
-  every-again read_affected affected_tree IsAffectedAgain affected-again d.affected h.affected,
-  every-again read_reference reference_tree IsReferenceAgain reference-again d.references h.references,
-  license-again d.database_specific,
-) refl
-keyed-again d None (Some w) h valid = rw (
-  h.id,
-  ids-again d.aliases h.aliases,
-  ids-again d.related h.related,
-  every-again read_severity severity_tree IsSeverityAgain severity-again d.severity h.severity,
-  every-again read_affected affected_tree IsAffectedAgain affected-again d.affected h.affected,
-  every-again read_reference reference_tree IsReferenceAgain reference-again d.references h.references,
-  license-again d.database_specific,
-) refl
-keyed-again d (Some v) None h valid = rw (
-  version-again v valid,
-  h.id,
-  ids-again d.aliases h.aliases,
-  ids-again d.related h.related,
-  every-again read_severity severity_tree IsSeverityAgain severity-again d.severity h.severity,
-  every-again read_affected affected_tree IsAffectedAgain affected-again d.affected h.affected,
-  every-again read_reference reference_tree IsReferenceAgain reference-again d.references h.references,
-  license-again d.database_specific,
-) refl
-keyed-again d (Some v) (Some w) h valid = rw (
-  version-again v valid,
-  h.id,
-  ids-again d.aliases h.aliases,
-  ids-again d.related h.related,
-  every-again read_severity severity_tree IsSeverityAgain severity-again d.severity h.severity,
-  every-again read_affected affected_tree IsAffectedAgain affected-again d.affected h.affected,
-  every-again read_reference reference_tree IsReferenceAgain reference-again d.references h.references,
-  license-again d.database_specific,
-) refl
+ids-again : IsLawful (list_codec id_codec)
+ids-again = list-again {c = id_codec} (record { again = λ id h. h; there = λ id. refl })
+
+severities-again : IsLawful (list_codec severity_codec)
+severities-again = list-again {c = severity_codec} (record { again = severity-again; there = severity-there })
+
+members-again : IsLawful (list_codec affected_codec)
+members-again = list-again affected-again
+
+references-again : IsLawful (list_codec reference_codec)
+references-again = list-again {c = reference_codec} (record { again = λ r h. reference-object-again.again r (tt, (h, tt)); there = λ r. refl })
+
+-- ---- a document
+
+text-again : (t : List ℕ) → ⊤ → Some t ≡ Some t
+text-again t h = refl
+
+pub document-lawful : IsLawful document_codec
+document-lawful = object-again document_object (record {
+  keys = left_out-again {c = version_codec} (record { again = version-again; there = λ v. refl }) & (λ id h. h) & text-again & text-again
+      & left_out-again any-text-again & text-again & text-again & severities-again.again & license-again.again & ids-again.again & ids-again.again
+      & members-again.again & references-again.again & tt;
+  differ = refl;
+  made = λ d. refl;
+})
 
 -- a document is read from its tree
 pub document-again : (d : Document) → IsDocumentAgain d → read_document (document_tree d) ≡ Some d
-document-again d h = keyed-again d d.schema_version d.withdrawn h h.schema_version
+document-again = document-lawful.again
+
+-- a document with these two keys, each present or left out
+abbrev pub keyed : Document → Option Parts → Option (List ℕ) → Document
+keyed d v w = record d { schema_version = v; withdrawn = w }

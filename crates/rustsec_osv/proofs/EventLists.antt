@@ -8,7 +8,7 @@ use Rattle.rustsec_json.specs.Fields.{list_of}
 use Rattle.rustsec_json.proofs.Lists.{items_more, items_start}
 use Rattle.rustsec_values.specs.Reading.{read_all}
 use Rattle.rustsec_osv.specs.DocumentEvents.{Event, event_of}
-use Rattle.rustsec_osv.specs.ReaderAffected.{read_event}
+use Rattle.rustsec_osv.specs.EventCodec.{read_event}
 use Rattle.rustsec_osv.specs.declared.timeline.OsvTimelineEvent.{OsvTimelineEvent}
 
 -- a list mapped twice

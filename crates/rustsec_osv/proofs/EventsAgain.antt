@@ -1,17 +1,16 @@
 -- Reading the tree of an event gives that event.
-use Rattle.std.proofs.Common.{◌≡◌, ◌<◌, inl, inr, ℕ, cond, ◌+◌, ◌≤◌, ◌==◌, List, ◌∷◌, ◌++◌, false, Some, refl, arith}
+use Rattle.std.proofs.Common.{◌≡◌, ◌<◌, inl, inr, ℕ, cond, ◌+◌, ◌≤◌, ◌==◌, List, ◌∷◌, ◌++◌, false, Some, None, refl, arith}
 use Rattle.std.proofs.lemmas.Bool.{cases_Bool, eqb-true}
 use Rattle.std.proofs.lemmas.List.Sums.{sum_by-append, sum_by-cons}
 use Rattle.std.specs.Fmt.{decimal}
 use Rattle.std.specs.Prelude.{if◌then◌else◌}
+use Rattle.serde_json.specs.Find.{as_null}
 use Rattle.semver.specs.Grammar.{IsValid}
 use Rattle.semver.specs.Identifiers.{parts_text}
 use Rattle.semver.specs.Parse.{Parts}
 use Rattle.semver.proofs.Grammar.{version_parts-complete}
-use Rattle.rustsec_osv.specs.DocumentAgain.{IsEventAgain}
 use Rattle.rustsec_osv.specs.DocumentEvents.{Event, fixed, introduced, last_affected}
-use Rattle.rustsec_osv.specs.ReaderAffected.{dots, event_version, in_full, read_event, version_of}
-use Rattle.rustsec_osv.specs.TreeAffected.{event_tree, version_tree}
+use Rattle.rustsec_osv.specs.EventCodec.{IsEventAgain, dots, event_tree, event_version, in_full, read_event, version_of, version_tree}
 
 -- what a byte adds to the count of dots
 abbrev one : ℕ → ℕ
@@ -50,3 +49,8 @@ pub event-again : (e : Event) → IsEventAgain e → read_event (event_tree e) �
 event-again (introduced v) h = rw (event_version-again v h) refl
 event-again (fixed v) h = rw (event_version-again v h) refl
 event-again (last_affected v) h = rw (event_version-again v h) refl
+
+pub event-there : (e : Event) → as_null (event_tree e) ≡ None
+event-there (introduced v) = refl
+event-there (fixed v) = refl
+event-there (last_affected v) = refl

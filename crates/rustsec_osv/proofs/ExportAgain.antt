@@ -1,6 +1,6 @@
 -- Reading the tree of an exported document gives an equal document, if the advisory is that of a text.
-use Rattle.std.proofs.Common.{◌≡◌, inl, inr, ℕ, List, [], All, map, Option, Some, None, codes, option_to_list, sym, subst}
-use Rattle.std.specs.Prelude.{Err, IfOk, Ok, Result}
+use Rattle.std.proofs.Common.{◌≡◌, inl, inr, ℕ, List, [], All, map, Option, Some, None, option_map, codes, option_to_list, sym, subst}
+use Rattle.std.specs.Prelude.{Err, IfOk, Ok, Result, ⊤}
 use Rattle.std.proofs.lemmas.List.Elements.{All-cons, All-head, All-nil}
 use Rattle.toml.specs.Data.{Data, Members, get_member}
 use Rattle.rustsec_toml.specs.Fields.{text}
@@ -18,17 +18,18 @@ use Rattle.rustsec_advisory.specs.declared.advisory.Advisory.{Advisory}
 use Rattle.rustsec_advisory.specs.declared.affected.Affected.{Affected}
 use Rattle.rustsec_advisory.specs.declared.metadata.Metadata.{Metadata}
 use Rattle.rustsec_error.specs.Failure.{Failure}
-use Rattle.rustsec_osv.specs.DocumentAgain.{AreEventsValid, IfThere, IsAffectedAgain, IsAffectsAgain, IsDocumentAgain, IsIdAgain, IsRangeAgain, IsReferenceAgain, IsSeverityAgain}
+use Rattle.rustsec_json.specs.Codecs.{IfThere}
+use Rattle.rustsec_json.specs.TextCodecs.{id_codec, path_codec}
+use Rattle.rustsec_json.proofs.TextsAgain.{category-again, cvss-again, id-again, informational-again, named-again}
+use Rattle.rustsec_osv.specs.DocumentCodec.{AreEventsValid, IsDocumentAgain, IsReferenceAgain, IsSeverityAgain, affected_codec, affects_codec, document_tree, read_document}
 use Rattle.rustsec_osv.specs.DocumentEvents.{JsonRange}
 use Rattle.rustsec_osv.specs.Documents.{Document}
-use Rattle.rustsec_osv.specs.Export.{IsDocument, affects_of, database_of, document_with, member_of, package_of, severity_of}
-use Rattle.rustsec_osv.specs.ReaderDocument.{read_document}
-use Rattle.rustsec_osv.specs.TreeDocument.{document_tree}
+use Rattle.rustsec_osv.specs.EventCodec.{IsRangeAgain}
+use Rattle.rustsec_osv.specs.Export.{IsDocument, affects_of, database_of, document_with, member_of, noon, package_of, severity_of}
 use Rattle.rustsec_osv.specs.declared.affected.OsvAffected.{OsvAffected}
 use Rattle.rustsec_osv.specs.declared.reference.OsvReference.{OsvReference}
-use Rattle.rustsec_osv.proofs.DocumentsAgain.{document-again}
+use Rattle.rustsec_osv.proofs.DocumentsAgain.{◌&◌, document-again}
 use Rattle.rustsec_osv.proofs.TablesAgain.{functions-read, list-read, optional-read, text-read, through}
-use Rattle.rustsec_osv.proofs.TextsAgain.{category-again, cvss-again, id-again, informational-again, named-again}
 
 some-same : {A : Type 0} (a b : A) → Some a ≡ Some b → a ≡ b
 some-same a b h = cc h
@@ -41,17 +42,17 @@ severity-of (Some (cvss.CvssV31 b)) h = All-cons IsSeverityAgain _ [] (inr h) (A
 severity-of (Some (cvss.CvssV40 t)) h = All-cons IsSeverityAgain _ [] h (All-nil IsSeverityAgain)
 
 -- the platforms and the functions
-affects-of : (o : Option Data) (a : Option Affected) → IsAffectedAt o a → IsAffectsAgain (affects_of a)
-affects-of None a h = subst (λ (x : Option Affected). IsAffectsAgain (affects_of x)) (sym h) (record {
-  arch = All-nil (λ x. arch_of (arch_text x) ≡ Some x);
-  os = All-nil (λ x. os_of (os_text x) ≡ Some x);
-  functions = All-nil _;
-})
-affects-of (Some d) a h = subst (λ (x : Option Affected). IsAffectsAgain (affects_of x)) (sym h.2.1.1) (record {
-  arch = list-read (text arch_of) (λ x. arch_of (arch_text x) ≡ Some x) (text-read arch_of (λ x. arch_of (arch_text x) ≡ Some x) (λ t x e. named-again arch_text t arches x e)) (get_member (codes "arch") h.0) h.1.arch h.2.1.0.arch;
-  os = list-read (text os_of) (λ x. os_of (os_text x) ≡ Some x) (text-read os_of (λ x. os_of (os_text x) ≡ Some x) (λ t x e. named-again os_text t systems x e)) (get_member (codes "os") h.0) h.1.os h.2.1.0.os;
-  functions = functions-read (get_member (codes "functions") h.0) h.1.functions h.2.1.0.functions;
-})
+affects-of : (o : Option Data) (a : Option Affected) → IsAffectedAt o a → affects_codec.IsAgain (affects_of a)
+affects-of None a h = subst (λ (x : Option Affected). affects_codec.IsAgain (affects_of x)) (sym h)
+    (All-nil (λ x. arch_of (arch_text x) ≡ Some x) & All-nil (λ x. os_of (os_text x) ≡ Some x) & All-nil path_codec.IsAgain & tt)
+affects-of (Some d) a h = subst (λ (x : Option Affected). affects_codec.IsAgain (affects_of x)) (sym h.2.1.1)
+    (list-read (text arch_of) (λ x. arch_of (arch_text x) ≡ Some x) (text-read arch_of (λ x. arch_of (arch_text x) ≡ Some x) (λ t x e. named-again arch_text t arches x e)) (get_member (codes "arch") h.0) h.1.arch h.2.1.0.arch
+    & list-read (text os_of) (λ x. os_of (os_text x) ≡ Some x) (text-read os_of (λ x. os_of (os_text x) ≡ Some x) (λ t x e. named-again os_text t systems x e)) (get_member (codes "os") h.0) h.1.os h.2.1.0.os
+    & functions-read (get_member (codes "functions") h.0) h.1.functions h.2.1.0.functions & tt)
+
+no-condition : {A : Type 0} (o : Option A) → IfThere (λ x. ⊤) o
+no-condition None = tt
+no-condition (Some x) = tt
 
 -- a document with this metadata and this range
 made : (title description modified : List ℕ) (table : Members) (m : Metadata) (o : Option Data) (a : Option Affected) (references : List OsvReference) (range : JsonRange)
@@ -60,27 +61,20 @@ made : (title description modified : List ℕ) (table : Members) (m : Metadata) 
 made title description modified table m o a references range h w r refs =
     let vectors : IfThere (λ (v : Cvss). cvss_of (cvss_text v) ≡ Some v) m.cvss =
     optional-read (text cvss_of) (λ (v : Cvss). cvss_of (cvss_text v) ≡ Some v) (text-read cvss_of (λ (v : Cvss). cvss_of (cvss_text v) ≡ Some v) cvss-again) (get_member (codes "cvss") table) m.cvss h.kinds.cvss in
-    record {
-      schema_version = tt;
-      id = through (get_member (codes "id") table) (text id_of) IsIdAgain (text-read id_of IsIdAgain id-again) m.id h.subject.id;
-      aliases = list-read (text id_of) IsIdAgain (text-read id_of IsIdAgain id-again) (get_member (codes "aliases") table) m.aliases h.subject.aliases;
-      related = list-read (text id_of) IsIdAgain (text-read id_of IsIdAgain id-again) (get_member (codes "related") table) m.related h.subject.related;
-      severity = severity-of m.cvss vectors;
-      affected = All-cons IsAffectedAgain _ [] (record {
-        ecosystem_specific = record { affects = affects-of o a w; affected_functions = tt };
-        database_specific = record {
-          categories = list-read (text (λ t. Some (category_of t))) (λ x. category_of (category_name x) ≡ x)
-              (text-read (λ t. Some (category_of t)) (λ x. category_of (category_name x) ≡ x) (λ t x e. subst (λ y. category_of (category_name y) ≡ y) (some-same (category_of t) x e) (category-again t)))
-              (get_member (codes "categories") table) m.categories h.kinds.categories;
-          cvss = vectors;
-          informational = optional-read (text (λ t. Some (informational_of t))) (λ x. informational_of (informational_name x) ≡ x)
-              (text-read (λ t. Some (informational_of t)) (λ x. informational_of (informational_name x) ≡ x) (λ t x e. subst (λ y. informational_of (informational_name y) ≡ y) (some-same (informational_of t) x e) (informational-again t)))
-              (get_member (codes "informational") table) m.informational h.kinds.informational;
-        };
-        ranges = All-cons IsRangeAgain range [] r (All-nil IsRangeAgain);
-      }) (All-nil IsAffectedAgain);
-      references = refs;
-    }
+    let ids = text-read id_of id_codec.IsAgain id-again in
+    let categories = list-read (text (λ t. Some (category_of t))) (λ x. category_of (category_name x) ≡ x)
+    (text-read (λ t. Some (category_of t)) (λ x. category_of (category_name x) ≡ x) (λ t x e. subst (λ y. category_of (category_name y) ≡ y) (some-same (category_of t) x e) (category-again t)))
+    (get_member (codes "categories") table) m.categories h.kinds.categories in
+    let concern = optional-read (text (λ t. Some (informational_of t))) (λ x. informational_of (informational_name x) ≡ x)
+    (text-read (λ t. Some (informational_of t)) (λ x. informational_of (informational_name x) ≡ x) (λ t x e. subst (λ y. informational_of (informational_name y) ≡ y) (some-same (informational_of t) x e) (informational-again t)))
+    (get_member (codes "informational") table) m.informational h.kinds.informational in
+    let member : affected_codec.IsAgain (member_of (package_of m.«package») (database_of (kinds_of m)) a range) =
+    (tt & tt & tt & tt) & (affects-of o a w & tt & tt) & (categories & vectors & concern & tt) & All-cons IsRangeAgain range [] r (All-nil IsRangeAgain)
+    & All-nil (λ t. ⊤) & tt in
+    tt & through (get_member (codes "id") table) (text id_of) id_codec.IsAgain ids m.id h.subject.id & tt & tt & no-condition (option_map noon m.withdrawn) & tt & tt
+    & severity-of m.cvss vectors & (tt & tt) & list-read (text id_of) id_codec.IsAgain ids (get_member (codes "aliases") table) m.aliases h.subject.aliases
+    & list-read (text id_of) id_codec.IsAgain ids (get_member (codes "related") table) m.related h.subject.related
+    & All-cons affected_codec.IsAgain _ [] member (All-nil affected_codec.IsAgain) & refs & tt
 
 -- the only member of its `affected`
 abbrev exported-member : Metadata → Option Affected → JsonRange → OsvAffected

@@ -10,9 +10,11 @@ use Rattle.rustsec_error.specs.Failure.{Failure, IsRefusal}
 use Rattle.rustsec_versions.specs.Lists.{Lists}
 use Rattle.rustsec_error.specs.declared.error.ErrorKind.TheVariants as kind
 use Rattle.rustsec_versions.specs.AcceptedRanges.{HasUnboundedInterval}
-use Rattle.rustsec_osv.specs.DocumentAgain.{AreEventsValid, IfThere, IsRangeAgain}
+use Rattle.rustsec_json.specs.Codecs.{IfThere}
+use Rattle.rustsec_osv.specs.DocumentCodec.{AreEventsValid}
 use Rattle.rustsec_osv.specs.DocumentEvents.{Event, JsonRange}
 use Rattle.rustsec_osv.specs.Documents.{Document}
+use Rattle.rustsec_osv.specs.EventCodec.{IsRangeAgain}
 use Rattle.rustsec_osv.specs.Export.{IsDocument, IsRangeOf, database_of, document_events, document_with, member_of, package_of}
 use Rattle.rustsec_osv.specs.References.{references_of}
 use Rattle.rustsec_osv.specs.declared.affected.OsvAffected.{OsvAffected}

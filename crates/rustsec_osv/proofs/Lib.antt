@@ -1,4 +1,3 @@
-pub mod AffectedAgain
 pub mod Distinct
 pub mod DocumentsAgain
 pub mod EventLists
@@ -9,9 +8,7 @@ pub mod Exported
 pub mod LeastVersion
 pub mod Links
 pub mod Parts
-pub mod ReadLists
 pub mod ReferencesAgain
 pub mod RisingEvents
 pub mod TablesAgain
-pub mod TextsAgain
 pub mod ValidEvents

@@ -3,7 +3,7 @@ use Rattle.std.proofs.Common.{◌≡◌, ◌++◌, ◌∷◌, All, List, [], Err
 use Rattle.std.specs.Prelude.{Result}
 use Rattle.std.specs.declared.alloc.AllocError.{AllocError}
 use Rattle.std.proofs.lemmas.List.Elements.{All-append, All-cons, All-nil}
-use Rattle.rustsec_osv.specs.DocumentAgain.{IsReferenceAgain}
+use Rattle.rustsec_osv.specs.DocumentCodec.{IsReferenceAgain}
 use Rattle.rustsec_osv.specs.declared.reference.OsvReference.{OsvReference}
 
 pub one-more : (old new : List OsvReference) (r : OsvReference) (answer : Result Unit AllocError) → OnOk answer (new ≡ old ++ r ∷ [])

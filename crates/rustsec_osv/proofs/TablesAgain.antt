@@ -10,8 +10,9 @@ use Rattle.rustsec_values.specs.Reading.{◌>>=◌, before, read_all, read_optio
 use Rattle.rustsec_texts.specs.Paths.{path_of}
 use Rattle.rustsec_advisory.specs.Affected.{AreFunctions, AreFunctionsAt, Function, function_of, members_of}
 use Rattle.rustsec_advisory.specs.Requirements.{requirements_of}
-use Rattle.rustsec_osv.specs.DocumentAgain.{IfThere, IsPathAgain}
-use Rattle.rustsec_osv.proofs.TextsAgain.{path-again}
+use Rattle.rustsec_json.specs.Codecs.{IfThere}
+use Rattle.rustsec_json.specs.TextCodecs.{path_codec}
+use Rattle.rustsec_json.proofs.TextsAgain.{path-again}
 
 some-same : {A : Type 0} (a b : A) → Some a ≡ Some b → a ≡ b
 some-same a b h = cc h
@@ -57,18 +58,18 @@ pair-path None b y e = cc e
 pair-path (Some a) None y e = cc e
 pair-path (Some a) (Some b) y e = ap (λ (x : Function). Some x.0) (some-same (a, b) y e)
 
-function-path : (m : List ℕ × Data) (y : Function) → function_of m ≡ Some y → IsPathAgain y.0
+function-path : (m : List ℕ × Data) (y : Function) → function_of m ≡ Some y → path_codec.IsAgain y.0
 function-path m y e = path-again m.0 y.0 (pair-path (path_of m.0) (requirements_of m.1) y e)
 
-paths-of : (fs : List Function) → All (λ (x : Function). IsPathAgain x.0) fs → All IsPathAgain (map (λ (x : Function). x.0) fs)
-paths-of [] h = All-nil IsPathAgain
-paths-of (x ∷ fs) h = All-cons IsPathAgain x.0 (map (λ (y : Function). y.0) fs) (All-head (λ (y : Function). IsPathAgain y.0) x fs h) (paths-of fs (All-tail (λ (y : Function). IsPathAgain y.0) x fs h))
+paths-of : (fs : List Function) → All (λ (x : Function). path_codec.IsAgain x.0) fs → All path_codec.IsAgain (map (λ (x : Function). x.0) fs)
+paths-of [] h = All-nil path_codec.IsAgain
+paths-of (x ∷ fs) h = All-cons path_codec.IsAgain x.0 (map (λ (y : Function). y.0) fs) (All-head (λ (y : Function). path_codec.IsAgain y.0) x fs h) (paths-of fs (All-tail (λ (y : Function). path_codec.IsAgain y.0) x fs h))
 
-table-paths : (t : Members) (fs : List Function) → AreFunctions t fs → All IsPathAgain (keys_of fs)
+table-paths : (t : Members) (fs : List Function) → AreFunctions t fs → All path_codec.IsAgain (keys_of fs)
 table-paths t fs h =
-    All-map-IsPermutation (λ (x : Function). x.0) IsPathAgain h.read fs h.same
-    (paths-of h.read (all-read function_of (λ (x : Function). IsPathAgain x.0) function-path (members_of t) h.read h.is_read))
+    All-map-IsPermutation (λ (x : Function). x.0) path_codec.IsAgain h.read fs h.same
+    (paths-of h.read (all-read function_of (λ (x : Function). path_codec.IsAgain x.0) function-path (members_of t) h.read h.is_read))
 
-pub functions-read : (o : Option Data) (fs : List Function) → AreFunctionsAt o fs → All IsPathAgain (keys_of fs)
-functions-read None fs h = subst (λ (x : List Function). All IsPathAgain (keys_of x)) (sym h) (All-nil IsPathAgain)
+pub functions-read : (o : Option Data) (fs : List Function) → AreFunctionsAt o fs → All path_codec.IsAgain (keys_of fs)
+functions-read None fs h = subst (λ (x : List Function). All path_codec.IsAgain (keys_of x)) (sym h) (All-nil path_codec.IsAgain)
 functions-read (Some d) fs h = table-paths h.0 fs h.1.1

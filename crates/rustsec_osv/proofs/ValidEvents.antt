@@ -17,8 +17,8 @@ use Rattle.rustsec_versions.proofs.Clashes.{AllSound, intervals-sound}
 use Rattle.rustsec_versions.proofs.MergedFit.{merged-fit}
 use Rattle.rustsec_versions.proofs.LeastAbove.{successor-valid}
 use Rattle.rustsec_versions.proofs.Sound.{IsSound, IsSoundEnd}
-use Rattle.rustsec_osv.specs.DocumentAgain.{IsEventAgain}
 use Rattle.rustsec_osv.specs.DocumentEvents.{fixed, introduced}
+use Rattle.rustsec_osv.specs.EventCodec.{IsEventAgain}
 use Rattle.rustsec_osv.specs.Events.{events_of}
 
 sound-valid : (v : Parts) → IsSound v → IsValid v

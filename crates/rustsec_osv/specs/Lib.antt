@@ -1,13 +1,9 @@
-pub mod DocumentAgain
+pub mod DocumentCodec
 pub mod DocumentEvents
 pub mod DocumentKinds
 pub mod Documents
+pub mod EventCodec
 pub mod Events
 pub mod Export
 pub mod Imports
-pub mod ReaderAffected
-pub mod ReaderDocument
 pub mod References
-pub mod TreeAffected
-pub mod TreeDocument
-pub mod TreeObjects

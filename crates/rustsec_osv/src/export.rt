@@ -3,5 +3,5 @@
 mod document;
 mod events;
 mod imports;
-mod members;
+pub(crate) mod members;
 mod references;

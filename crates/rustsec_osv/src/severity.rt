@@ -1,6 +1,7 @@
 //! The severity of a vulnerability (OSV schema, `severity`).
 
 ghost use Rattle.std.specs.Prelude.{◌≡◌, IfErr, IfOk};
+ghost use Rattle.rustsec_osv.specs.DocumentCodec.{type_of};
 ghost use Rattle.rustsec_error.specs.Failure.{IsMemory};
 
 use rustsec_error::Result;
@@ -29,6 +30,18 @@ impl OsvSeverity {
     {
         let copy = Clone::clone(self)?;
         Ok(copy)
+    }
+}
+
+impl OsvSeverity {
+    /// Returns the type of the vector.
+    pub(crate) fn kind(&self) -> &'static str
+        ensures { result.now ≡ type_of self.now }
+    {
+        match self {
+            OsvSeverity::CVSS_V3(_) => "CVSS_V3",
+            OsvSeverity::CVSS_V4(_) => "CVSS_V4",
+        }
     }
 }
 

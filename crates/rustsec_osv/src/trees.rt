@@ -2,4 +2,3 @@
 
 mod affected;
 mod document;
-mod objects;

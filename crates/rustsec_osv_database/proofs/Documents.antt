@@ -5,7 +5,7 @@ use Rattle.std.proofs.lemmas.List.{map_more}
 use Rattle.rustsec_advisory.specs.declared.advisory.Advisory.{Advisory}
 use Rattle.rustsec_folders.proofs.Lists.{pairwise-push}
 use Rattle.rustsec_osv.specs.Documents.{Document}
-use Rattle.rustsec_osv.specs.TreeDocument.{document_tree}
+use Rattle.rustsec_osv.specs.DocumentCodec.{document_tree}
 use Rattle.rustsec_json.specs.Trees.{list_tree}
 use Rattle.rustsec_report.specs.Trees.{object_of}
 use Rattle.rustsec_commands.proofs.NoFloats.{Plain, list-plain, object-plain}

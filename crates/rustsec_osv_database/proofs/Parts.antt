@@ -14,7 +14,7 @@ use Rattle.rustsec_folders.proofs.Lists.{pairwise-step}
 use Rattle.rustsec_osv.specs.Documents.{Document}
 use Rattle.rustsec_osv.specs.Export.{IsDocument}
 use Rattle.rustsec_osv.specs.References.{references_of}
-use Rattle.rustsec_osv.specs.TreeDocument.{document_tree}
+use Rattle.rustsec_osv.specs.DocumentCodec.{document_tree}
 use Rattle.rustsec_commands.specs.Osv.{IsExportRefusal}
 use Rattle.rustsec_commands.specs.Output.{tree_line}
 use Rattle.rustsec_commands.proofs.Once.{no-memory}

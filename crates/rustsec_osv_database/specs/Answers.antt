@@ -9,7 +9,7 @@ use Rattle.rustsec_query.specs.Query.{Asked, unset}
 use Rattle.rustsec_query.specs.Selects.{selects}
 use Rattle.rustsec_osv.specs.Documents.{Document}
 use Rattle.rustsec_osv.specs.Export.{IsDocument, noon}
-use Rattle.rustsec_osv.specs.TreeDocument.{document_tree}
+use Rattle.rustsec_osv.specs.DocumentCodec.{document_tree}
 use Rattle.rustsec_json.specs.Trees.{list_tree}
 use Rattle.rustsec_report.specs.Trees.{object_of}
 use Rattle.rustsec_commands.specs.Output.{tree_line}

@@ -6,7 +6,7 @@ ghost use Rattle.serde_json.specs.View.{view};
 ghost use Rattle.rustsec_advisory.specs.declared.advisory.Advisory as given;
 ghost use Rattle.rustsec_json.specs.Trees.{list_tree};
 ghost use Rattle.rustsec_osv.specs.Export.{noon};
-ghost use Rattle.rustsec_osv.specs.TreeDocument.{document_tree};
+ghost use Rattle.rustsec_osv.specs.DocumentCodec.{document_tree};
 ghost use Rattle.rustsec_report.specs.Trees.{object_of};
 ghost use Rattle.rustsec_error.specs.Failure.{IsRefusal};
 ghost use Rattle.rustsec_error.specs.declared.error.ErrorKind.TheVariants as kind;

@@ -4,7 +4,7 @@ ghost use Rattle.std.specs.Prelude.{◌≡◌, ◌≢◌, ◌++◌, ◌||◌, If
 ghost use Rattle.serde_json.specs.View.{view};
 ghost use Rattle.rustsec_osv.specs.Documents.{Document};
 ghost use Rattle.rustsec_osv.specs.Export.{IsDocument};
-ghost use Rattle.rustsec_osv.specs.TreeDocument.{document_tree};
+ghost use Rattle.rustsec_osv.specs.DocumentCodec.{document_tree};
 ghost use Rattle.rustsec_commands.specs.Output.{tree_line};
 ghost use Rattle.rustsec_error.specs.Failure.{IsMemory};
 ghost use Rattle.rustsec_error.specs.declared.error.ErrorKind.TheVariants as kind;

@@ -11,7 +11,7 @@ use Rattle.rustsec_versions.specs.Precedence.{IsVersion}
 use Rattle.rustsec_versions.specs.Ranges.{Range, is_followed, is_in_order}
 use Rattle.rustsec_versions.proofs.RangeList.{AllFollowed, followed-to}
 use Rattle.rustsec_versions.proofs.Rising.{Rises}
-use Rattle.rustsec_osv.specs.DocumentAgain.{IsEventAgain}
+use Rattle.rustsec_osv.specs.EventCodec.{IsEventAgain}
 use Rattle.rustsec_osv.specs.DocumentEvents.{Event, fixed, introduced, last_affected}
 use Rattle.rustsec_osv.specs.Events.{events_of}
 use Rattle.rustsec_osv.proofs.LeastVersion.{least-at_most}

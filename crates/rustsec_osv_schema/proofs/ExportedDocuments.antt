@@ -16,12 +16,12 @@ use Rattle.rustsec_advisory.specs.FieldGroups.{kinds_of}
 use Rattle.rustsec_advisory.specs.declared.advisory.Advisory.{Advisory}
 use Rattle.rustsec_advisory.specs.declared.affected.Affected.{Affected}
 use Rattle.rustsec_advisory.specs.declared.metadata.Metadata.{Metadata}
-use Rattle.rustsec_osv.specs.DocumentAgain.{IfThere}
+use Rattle.rustsec_json.specs.Codecs.{IfThere}
 use Rattle.rustsec_osv.specs.DocumentEvents.{JsonRange}
 use Rattle.rustsec_osv.specs.Documents.{Document}
 use Rattle.rustsec_osv.specs.Export.{IsDocument, IsRangeOf, database_of, document_with, member_of, noon, package_of, severity_of}
-use Rattle.rustsec_osv.specs.TreeAffected.{affected_tree, range_tree}
-use Rattle.rustsec_osv.specs.TreeDocument.{document_tree, reference_tree, severity_tree}
+use Rattle.rustsec_osv.specs.DocumentCodec.{affected_codec, document_tree, reference_codec, severity_tree}
+use Rattle.rustsec_osv.specs.EventCodec.{range_tree}
 use Rattle.rustsec_osv.specs.declared.affected.OsvDatabaseSpecific.{OsvDatabaseSpecific}
 use Rattle.rustsec_osv.specs.declared.reference.OsvReference.{OsvReference}
 use Rattle.rustsec_osv.proofs.DocumentsAgain.{keyed}
@@ -51,7 +51,7 @@ unfolding ecosystems_a
 crates-io = refl
 
 member-kept : (name : List ℕ) (db : OsvDatabaseSpecific) (a : Option Affected) (range : JsonRange) → is_range (range_tree range) ≡ true
-    → is_affected (affected_tree (member_of (package_of name) db a range)) ≡ true
+    → is_affected (affected_codec.tree (member_of (package_of name) db a range)) ≡ true
 member-kept name db a range h =
     and_from _ _ refl (and_from _ _ (and_from (is_ecosystem (codes "crates.io")) _ crates-io refl) (and_from _ _ refl
     (and_from _ _ (and_from (is_range (range_tree range)) true h refl) refl)))
@@ -64,8 +64,8 @@ record IsKept (d : Document) (w : Option (List ℕ)) : Type 0 where
   withdrawn : IfThere (λ day. is_time day ≡ true) w
   summary : is_one_line d.summary ≡ true
   severity : are_severities (list_tree severity_tree d.severity) ≡ true
-  affected : list_of is_affected (list_tree affected_tree d.affected) ≡ true
-  no_severity : list_of has_no_severity (list_tree affected_tree d.affected) ≡ true
+  affected : list_of is_affected (list_tree affected_codec.tree d.affected) ≡ true
+  no_severity : list_of has_no_severity (list_tree affected_codec.tree d.affected) ≡ true
 
 document-kept : (d : Document) (w : Option (List ℕ)) → IsKept d w → IsOsvSchema (document_tree (keyed d None w))
 unfolding document_keys
@@ -123,7 +123,7 @@ made-kept m a modified references range days s h =
       withdrawn = noons m.withdrawn days.withdrawn;
       summary = s.title;
       severity = severities-kept m.cvss s.cvss;
-      affected = and_from (is_affected (affected_tree member)) true (member-kept m.«package» (database_of (kinds_of m)) a range h) refl;
+      affected = and_from (is_affected (affected_codec.tree member)) true (member-kept m.«package» (database_of (kinds_of m)) a range h) refl;
       no_severity = refl;
     })
 

@@ -5,15 +5,16 @@ use Rattle.std.proofs.lemmas.Bool.{and_from, or_left}
 use Rattle.serde_json.specs.Data.{Data}
 use Rattle.serde_json.specs.View.{items_of}
 use Rattle.semver.specs.Parse.{Parts}
+use Rattle.rustsec_json.specs.TextCodecs.{id_codec}
 use Rattle.rustsec_json.specs.Trees.{list_tree}
 use Rattle.rustsec_lock.specs.declared.cvss.Cvss.{Cvss}
 use Rattle.rustsec_lock.specs.declared.cvss.Cvss.TheVariants as cvss
-use Rattle.rustsec_osv.specs.DocumentAgain.{IfThere}
+use Rattle.rustsec_json.specs.Codecs.{IfThere}
 use Rattle.rustsec_osv.specs.DocumentEvents.{Event, JsonRange, fixed, introduced, last_affected}
 use Rattle.rustsec_osv.specs.Events.{beginning, events_of, events_of_range, fix}
 use Rattle.rustsec_osv.specs.Export.{severity_of}
-use Rattle.rustsec_osv.specs.TreeAffected.{event_tree, range_tree}
-use Rattle.rustsec_osv.specs.TreeDocument.{id_tree, reference_tree, severity_tree}
+use Rattle.rustsec_osv.specs.EventCodec.{event_tree, range_tree}
+use Rattle.rustsec_osv.specs.DocumentCodec.{reference_codec, severity_tree}
 use Rattle.rustsec_osv.specs.declared.reference.OsvReference.{OsvReference}
 use Rattle.rustsec_osv.specs.declared.reference.OsvReferenceKind.{OsvReferenceKind}
 use Rattle.rustsec_osv.specs.declared.reference.OsvReferenceKind.TheVariants as kind
@@ -33,8 +34,8 @@ pub every-kept : {A : Type 0} (rule : Data → Bool) (tree : A → Data) → ((x
 every-kept rule tree h [] = refl
 every-kept rule tree h (x ∷ xs) = and_from (rule (tree x)) _ (h x) (every-kept rule tree h xs)
 
-pub ids-kept : (ids : List IdValue) → list_of is_text (list_tree id_tree ids) ≡ true
-ids-kept ids = every-kept is_text id_tree (λ id. refl) ids
+pub ids-kept : (ids : List IdValue) → list_of is_text (list_tree id_codec.tree ids) ≡ true
+ids-kept ids = every-kept is_text id_codec.tree (λ id. refl) ids
 
 -- ---- references
 
@@ -47,11 +48,11 @@ kind-kept kind.FIX = refl
 kind-kept kind.PACKAGE = refl
 kind-kept kind.WEB = refl
 
-reference-kept : (r : OsvReference) → is_reference (reference_tree r) ≡ true
+reference-kept : (r : OsvReference) → is_reference (reference_codec.tree r) ≡ true
 reference-kept r = and_from (is_one_of reference_types (reference_kind_name r.kind)) _ (kind-kept r.kind) refl
 
-pub references-kept : (rs : List OsvReference) → list_of is_reference (list_tree reference_tree rs) ≡ true
-references-kept rs = every-kept is_reference reference_tree reference-kept rs
+pub references-kept : (rs : List OsvReference) → list_of is_reference (list_tree reference_codec.tree rs) ≡ true
+references-kept rs = every-kept is_reference reference_codec.tree reference-kept rs
 
 -- ---- events
 

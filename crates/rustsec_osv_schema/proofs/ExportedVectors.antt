@@ -22,7 +22,7 @@ use Rattle.rustsec_lock.specs.declared.metrics.Scope.{Scope}
 use Rattle.rustsec_lock.specs.declared.metrics.Scope.TheVariants as scope
 use Rattle.rustsec_lock.specs.declared.metrics.UserInteraction.{UserInteraction}
 use Rattle.rustsec_lock.specs.declared.metrics.UserInteraction.TheVariants as user_interaction
-use Rattle.rustsec_osv.specs.TreeDocument.{severity_tree}
+use Rattle.rustsec_osv.specs.DocumentCodec.{severity_tree}
 use Rattle.rustsec_osv.specs.declared.severity.OsvSeverity.TheVariants as severity
 use Rattle.rustsec_osv_schema.specs.Schema.{is_severity}
 use Rattle.rustsec_osv_schema.specs.Vectors.{are_metrics_3, base_rows_3, is_vector_3}

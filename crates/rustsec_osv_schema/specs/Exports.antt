@@ -3,7 +3,7 @@ use Rattle.std.specs.Prelude.{◌≡◌, ◌⊎◌, ℕ, List, true}
 use Rattle.rustsec_lock.specs.declared.cvss.Cvss.{Cvss}
 use Rattle.rustsec_lock.specs.declared.cvss.Cvss.TheVariants as cvss
 use Rattle.rustsec_advisory.specs.declared.metadata.Metadata.{Metadata}
-use Rattle.rustsec_osv.specs.DocumentAgain.{IfThere}
+use Rattle.rustsec_json.specs.Codecs.{IfThere}
 use Rattle.rustsec_osv.specs.Export.{noon}
 use Rattle.rustsec_osv_schema.specs.Texts.{is_id, is_one_line, is_time}
 use Rattle.rustsec_osv_schema.specs.Vectors.{is_vector_4}

@@ -8,7 +8,7 @@ ghost use Rattle.rustsec_versions.specs.AcceptedRanges.{HasUnboundedInterval};
 ghost use Rattle.rustsec_osv.specs.Documents.{Document};
 ghost use Rattle.rustsec_osv.specs.Export.{IsDocument};
 ghost use Rattle.rustsec_osv.specs.References.{references_of};
-ghost use Rattle.rustsec_osv.specs.TreeDocument.{document_tree};
+ghost use Rattle.rustsec_osv.specs.DocumentCodec.{document_tree};
 ghost use Rattle.rustsec_osv_schema.specs.Exports.{HasDays, IsForSchema};
 ghost use Rattle.rustsec_osv_schema.specs.Schema.{IsOsvSchema};
 

@@ -8,7 +8,7 @@ ghost use Rattle.rustsec_versions.specs.Lists.{affected};
 ghost use Rattle.rustsec_versions.specs.Precedence.{IsVersion};
 ghost use Rattle.rustsec_versions.specs.Requirement.{least_of};
 ghost use Rattle.rustsec_versions.specs.AcceptedRanges.{HasUnboundedInterval};
-ghost use Rattle.rustsec_osv.specs.DocumentAgain.{IsRangeAgain};
+ghost use Rattle.rustsec_osv.specs.EventCodec.{IsRangeAgain};
 ghost use Rattle.rustsec_osv.specs.DocumentEvents.{event_of};
 ghost use Rattle.rustsec_osv.specs.Events.{beginning, events_of, events_of_range, events_say};
 ghost use Rattle.rustsec_osv.specs.Export.{IsRangeOf};

@@ -142,7 +142,7 @@ pub(crate) fn affected_of(
 }
 
 /// Returns the severity of a CVSS vector, by its version.
-fn severity_of(cvss: &Cvss) -> Result<OsvSeverity, AllocError>
+pub(crate) fn severity_of(cvss: &Cvss) -> Result<OsvSeverity, AllocError>
     ensures { IfOk result (λ s. s ≡ severity_of cvss.now) }
 {
     match cvss {

@@ -3,7 +3,7 @@
 ghost use Rattle.std.specs.Prelude.{◌≡◌, ◌++◌, ◌∷◌, [], All, IfErr, IfOk, None, OnOk, Some, map, option_to_list};
 ghost use Rattle.rustsec_advisory.specs.Addresses.{address_of};
 ghost use Rattle.rustsec_error.specs.Failure.{IsRefusal};
-ghost use Rattle.rustsec_osv.specs.DocumentAgain.{IsReferenceAgain};
+ghost use Rattle.rustsec_osv.specs.DocumentCodec.{IsReferenceAgain};
 ghost use Rattle.rustsec_osv.specs.References.{advisory_page, has, is_advisory, is_package, is_report, kind_of, own_pages, package_page, reference_of};
 
 use crate::reference::{OsvReference, OsvReferenceKind};

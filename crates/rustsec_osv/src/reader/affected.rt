@@ -10,9 +10,9 @@ use serde_json::Value;
 use std::alloc::Global;
 
 impl FromTree for OsvPackage {
-    ghost use Rattle.rustsec_osv.specs.ReaderAffected.{read_package};
+    ghost use Rattle.rustsec_osv.specs.DocumentCodec.{package_codec};
 
-    ghost reads = { read_package };
+    ghost reads = { package_codec.read };
 
     fn from_tree(alloc: Global, tree: &Value) -> Result<OsvPackage> {
         let fields = fields_of(alloc, tree)?;
@@ -28,9 +28,9 @@ impl FromTree for OsvPackage {
 }
 
 impl FromTree for OsvEcosystemSpecificAffected {
-    ghost use Rattle.rustsec_osv.specs.ReaderAffected.{read_affects};
+    ghost use Rattle.rustsec_osv.specs.DocumentCodec.{affects_codec};
 
-    ghost reads = { read_affects };
+    ghost reads = { affects_codec.read };
 
     fn from_tree(alloc: Global, tree: &Value) -> Result<OsvEcosystemSpecificAffected> {
         let fields = fields_of(alloc, tree)?;
@@ -46,9 +46,9 @@ impl FromTree for OsvEcosystemSpecificAffected {
 }
 
 impl FromTree for OsvEcosystemSpecific {
-    ghost use Rattle.rustsec_osv.specs.ReaderAffected.{read_ecosystem};
+    ghost use Rattle.rustsec_osv.specs.DocumentCodec.{ecosystem_codec};
 
-    ghost reads = { read_ecosystem };
+    ghost reads = { ecosystem_codec.read };
 
     fn from_tree(alloc: Global, tree: &Value) -> Result<OsvEcosystemSpecific> {
         let fields = fields_of(alloc, tree)?;
@@ -62,9 +62,9 @@ impl FromTree for OsvEcosystemSpecific {
 }
 
 impl FromTree for OsvDatabaseSpecific {
-    ghost use Rattle.rustsec_osv.specs.ReaderAffected.{read_database};
+    ghost use Rattle.rustsec_osv.specs.DocumentCodec.{database_codec};
 
-    ghost reads = { read_database };
+    ghost reads = { database_codec.read };
 
     fn from_tree(alloc: Global, tree: &Value) -> Result<OsvDatabaseSpecific> {
         let fields = fields_of(alloc, tree)?;
@@ -80,9 +80,9 @@ impl FromTree for OsvDatabaseSpecific {
 }
 
 impl FromTree for OsvAffected {
-    ghost use Rattle.rustsec_osv.specs.ReaderAffected.{read_affected};
+    ghost use Rattle.rustsec_osv.specs.DocumentCodec.{affected_codec};
 
-    ghost reads = { read_affected };
+    ghost reads = { affected_codec.read };
 
     fn from_tree(alloc: Global, tree: &Value) -> Result<OsvAffected> {
         let fields = fields_of(alloc, tree)?;

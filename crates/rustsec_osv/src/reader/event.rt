@@ -5,7 +5,7 @@ ghost use Rattle.serde_json.specs.Events.{members_len};
 ghost use Rattle.serde_json.specs.View.{items_view, members_view, view};
 ghost use Rattle.rustsec_json.specs.Fields.{list_of};
 ghost use Rattle.rustsec_osv.specs.DocumentEvents.{event_of};
-ghost use Rattle.rustsec_osv.specs.ReaderAffected.{dots, event_in, event_version, in_full, read_event, version_of};
+ghost use Rattle.rustsec_osv.specs.EventCodec.{dots, event_in, event_version, in_full, read_event, version_of};
 ghost use Rattle.rustsec_values.specs.Reading.{read_all};
 ghost use Rattle.rustsec_error.specs.Failure.{IsMemory, IsOfKind, IsRefusal};
 ghost use Rattle.semver.specs.Identifiers.{parts_of};
@@ -171,7 +171,7 @@ impl Model for Events {
 
 impl FromTree for Events {
     ghost use Rattle.rustsec_json.specs.Fields.{every};
-    ghost use Rattle.rustsec_osv.specs.ReaderAffected.{read_event};
+    ghost use Rattle.rustsec_osv.specs.EventCodec.{read_event};
 
     ghost reads = { every read_event };
 
@@ -187,9 +187,9 @@ impl FromTree for Events {
 }
 
 impl FromTree for OsvJsonRange {
-    ghost use Rattle.rustsec_osv.specs.ReaderAffected.{read_range};
+    ghost use Rattle.rustsec_osv.specs.EventCodec.{range_codec};
 
-    ghost reads = { read_range };
+    ghost reads = { range_codec.read };
 
     fn from_tree(alloc: Global, tree: &Value) -> Result<OsvJsonRange> {
         let fields = fields_of(alloc, tree)?;

@@ -38,7 +38,7 @@ pub(crate) fn version_in(release: Option<Release>) -> Option<Version>
 
 impl FromTree for Release {
     ghost use Rattle.rustsec_json.specs.Fields.{text};
-    ghost use Rattle.rustsec_osv.specs.ReaderAffected.{version_of};
+    ghost use Rattle.rustsec_osv.specs.EventCodec.{version_of};
 
     ghost reads = { text version_of };
 

@@ -4,7 +4,7 @@ ghost use Rattle.std.specs.Prelude.{◌≡◌, IfOk, map};
 ghost use Rattle.serde_json.specs.View.{view};
 ghost use Rattle.rustsec_json.specs.Trees.{list_tree};
 ghost use Rattle.rustsec_osv.specs.DocumentEvents.{event_of};
-ghost use Rattle.rustsec_osv.specs.TreeAffected.{event_tree, version_tree};
+ghost use Rattle.rustsec_osv.specs.EventCodec.{event_tree, version_tree};
 ghost use Rattle.semver.specs.Identifiers.{parts_of};
 
 use crate::affected::{
@@ -13,8 +13,7 @@ use crate::affected::{
 };
 use crate::ranges::OsvJsonRange;
 use crate::timeline::OsvTimelineEvent;
-use crate::trees::objects::put_at;
-use rustsec_json::ToTree;
+use rustsec_json::{ToTree, put_at};
 use semver::Version;
 use serde_json::{Map, Value};
 use std::alloc::{AllocError, Global};
@@ -29,7 +28,7 @@ pub(crate) fn version_tree(alloc: Global, version: &Version) -> Result<Value, Al
 
 impl ToTree for OsvTimelineEvent {
     ghost use Rattle.rustsec_osv.specs.DocumentEvents.{event_of};
-    ghost use Rattle.rustsec_osv.specs.TreeAffected.{event_tree};
+    ghost use Rattle.rustsec_osv.specs.EventCodec.{event_tree};
 
     ghost tree = { λ e. event_tree (event_of e) };
 
@@ -57,7 +56,7 @@ fn events_tree(alloc: Global, events: &Vec<OsvTimelineEvent>) -> Result<Value, A
 }
 
 impl ToTree for OsvJsonRange {
-    ghost use Rattle.rustsec_osv.specs.TreeAffected.{range_tree};
+    ghost use Rattle.rustsec_osv.specs.EventCodec.{range_tree};
 
     ghost tree = { range_tree };
 
@@ -71,9 +70,9 @@ impl ToTree for OsvJsonRange {
 }
 
 impl ToTree for OsvPackage {
-    ghost use Rattle.rustsec_osv.specs.TreeAffected.{package_tree};
+    ghost use Rattle.rustsec_osv.specs.DocumentCodec.{package_codec};
 
-    ghost tree = { package_tree };
+    ghost tree = { package_codec.tree };
 
     fn to_tree(&self, alloc: Global) -> Result<Value, AllocError> {
         let mut fields = Map::new(alloc);
@@ -85,9 +84,9 @@ impl ToTree for OsvPackage {
 }
 
 impl ToTree for OsvEcosystemSpecificAffected {
-    ghost use Rattle.rustsec_osv.specs.TreeAffected.{affects_tree};
+    ghost use Rattle.rustsec_osv.specs.DocumentCodec.{affects_codec};
 
-    ghost tree = { affects_tree };
+    ghost tree = { affects_codec.tree };
 
     fn to_tree(&self, alloc: Global) -> Result<Value, AllocError> {
         let mut fields = Map::new(alloc);
@@ -99,9 +98,9 @@ impl ToTree for OsvEcosystemSpecificAffected {
 }
 
 impl ToTree for OsvEcosystemSpecific {
-    ghost use Rattle.rustsec_osv.specs.TreeAffected.{ecosystem_tree};
+    ghost use Rattle.rustsec_osv.specs.DocumentCodec.{ecosystem_codec};
 
-    ghost tree = { ecosystem_tree };
+    ghost tree = { ecosystem_codec.tree };
 
     fn to_tree(&self, alloc: Global) -> Result<Value, AllocError> {
         let mut fields = Map::new(alloc);
@@ -117,9 +116,9 @@ impl ToTree for OsvEcosystemSpecific {
 }
 
 impl ToTree for OsvDatabaseSpecific {
-    ghost use Rattle.rustsec_osv.specs.TreeAffected.{database_tree};
+    ghost use Rattle.rustsec_osv.specs.DocumentCodec.{database_codec};
 
-    ghost tree = { database_tree };
+    ghost tree = { database_codec.tree };
 
     fn to_tree(&self, alloc: Global) -> Result<Value, AllocError> {
         let mut fields = Map::new(alloc);
@@ -131,9 +130,9 @@ impl ToTree for OsvDatabaseSpecific {
 }
 
 impl ToTree for OsvAffected {
-    ghost use Rattle.rustsec_osv.specs.TreeAffected.{affected_tree};
+    ghost use Rattle.rustsec_osv.specs.DocumentCodec.{affected_codec};
 
-    ghost tree = { affected_tree };
+    ghost tree = { affected_codec.tree };
 
     fn to_tree(&self, alloc: Global) -> Result<Value, AllocError> {
         let mut fields = Map::new(alloc);

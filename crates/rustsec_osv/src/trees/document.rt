@@ -2,13 +2,11 @@
 
 ghost use Rattle.std.specs.Prelude.{◌≡◌, IfErr, IfOk, OnOk, Some, codes, option_map};
 ghost use Rattle.serde_json.specs.View.{members_view, view};
-ghost use Rattle.rustsec_osv.specs.DocumentAgain.{AreEventsValid, IsDocumentAgain};
+ghost use Rattle.rustsec_json.specs.Codecs.{put_some};
+ghost use Rattle.rustsec_osv.specs.DocumentCodec.{AreEventsValid, IsDocumentAgain, document_tree, read_document};
 ghost use Rattle.rustsec_osv.specs.Documents.{Document, ranges_of};
+ghost use Rattle.rustsec_osv.specs.EventCodec.{version_tree};
 ghost use Rattle.rustsec_osv.specs.Export.{document_events};
-ghost use Rattle.rustsec_osv.specs.ReaderDocument.{read_document};
-ghost use Rattle.rustsec_osv.specs.TreeAffected.{version_tree};
-ghost use Rattle.rustsec_osv.specs.TreeDocument.{document_tree, list_rows, text_rows};
-ghost use Rattle.rustsec_osv.specs.TreeObjects.{row_if, with_rows};
 ghost use Rattle.rustsec_error.specs.Failure.{IsMemory};
 ghost use Rattle.semver.specs.Identifiers.{parts_of};
 
@@ -16,8 +14,7 @@ use crate::document::{MainOsvDatabaseSpecific, OsvAdvisory};
 use crate::reference::{OsvReference, OsvReferenceKind};
 use crate::severity::OsvSeverity;
 use crate::trees::affected::version_tree;
-use crate::trees::objects::{put_at, put_if};
-use rustsec_json::ToTree;
+use rustsec_json::{ToTree, put_at, put_if};
 use semver::Version;
 use serde_json::{Map, Value};
 use std::alloc::{AllocError, Global};
@@ -34,9 +31,9 @@ impl ToTree for OsvReferenceKind {
 }
 
 impl ToTree for OsvReference {
-    ghost use Rattle.rustsec_osv.specs.TreeDocument.{reference_tree};
+    ghost use Rattle.rustsec_osv.specs.DocumentCodec.{reference_codec};
 
-    ghost tree = { reference_tree };
+    ghost tree = { reference_codec.tree };
 
     fn to_tree(&self, alloc: Global) -> Result<Value, AllocError> {
         let mut fields = Map::new(alloc);
@@ -47,33 +44,27 @@ impl ToTree for OsvReference {
 }
 
 impl ToTree for OsvSeverity {
-    ghost use Rattle.rustsec_osv.specs.TreeDocument.{severity_tree};
+    ghost use Rattle.rustsec_osv.specs.DocumentCodec.{severity_tree};
 
     ghost tree = { severity_tree };
 
     fn to_tree(&self, alloc: Global) -> Result<Value, AllocError> {
-        let (kind, score) = match self {
-            OsvSeverity::CVSS_V3(base) => ("CVSS_V3", base.to_string(alloc)?),
-            OsvSeverity::CVSS_V4(vector) => {
-                ("CVSS_V4", String::from_str(alloc, vector.as_str())?)
-            }
+        let score = match self {
+            OsvSeverity::CVSS_V3(base) => base.to_string(alloc)?,
+            OsvSeverity::CVSS_V4(vector) => String::from_str(alloc, vector.as_str())?,
         };
         let mut fields = Map::new(alloc);
-        serde_json::put(
-            &mut fields,
-            alloc,
-            "type",
-            Value::try_from_str(alloc, kind)?,
-        )?;
+        let kind = Value::try_from_str(alloc, self.kind())?;
+        serde_json::put(&mut fields, alloc, "type", kind)?;
         serde_json::put(&mut fields, alloc, "score", Value::from(score))?;
         Ok(Value::from(fields))
     }
 }
 
 impl ToTree for MainOsvDatabaseSpecific {
-    ghost use Rattle.rustsec_osv.specs.TreeDocument.{license_tree};
+    ghost use Rattle.rustsec_osv.specs.DocumentCodec.{license_codec};
 
-    ghost tree = { license_tree };
+    ghost tree = { license_codec.tree };
 
     fn to_tree(&self, alloc: Global) -> Result<Value, AllocError> {
         let mut fields = Map::new(alloc);
@@ -89,7 +80,7 @@ fn put_schema_version(
     version: &Option<Version>,
 ) -> Result<(), AllocError>
     ensures { OnOk result (members_view fields.new.entries
-        ≡ with_rows (members_view fields.old.entries) (row_if (codes "schema_version") version_tree (option_map parts_of version.now))) }
+        ≡ put_some (codes "schema_version") (option_map version_tree (option_map parts_of version.now)) (members_view fields.old.entries)) }
 {
     match version {
         Some(version) => {
@@ -98,44 +89,6 @@ fn put_schema_version(
         }
         None => Ok(()),
     }
-}
-
-/// Puts the values at the keys with lists, and at the key with an object.
-fn put_lists(
-    document: &OsvAdvisory,
-    alloc: Global,
-    fields: &mut Map<String, Value>,
-) -> Result<(), AllocError>
-    ensures { OnOk result (members_view fields.new.entries ≡ with_rows (members_view fields.old.entries) (list_rows document.now)) }
-{
-    put_at(alloc, fields, "aliases", &document.aliases)?;
-    put_at(alloc, fields, "related", &document.related)?;
-    put_at(alloc, fields, "severity", &document.severity)?;
-    put_at(alloc, fields, "affected", &document.affected)?;
-    put_at(alloc, fields, "references", &document.references)?;
-    put_at(
-        alloc,
-        fields,
-        "database_specific",
-        &document.database_specific,
-    )
-}
-
-/// Puts the values at the keys with texts.
-fn put_texts(
-    document: &OsvAdvisory,
-    alloc: Global,
-    fields: &mut Map<String, Value>,
-) -> Result<(), AllocError>
-    ensures { OnOk result (members_view fields.new.entries ≡ with_rows (members_view fields.old.entries) (text_rows document.now)) }
-{
-    put_at(alloc, fields, "id", &document.id)?;
-    put_at(alloc, fields, "modified", &document.modified)?;
-    put_at(alloc, fields, "published", &document.published)?;
-    put_at(alloc, fields, "summary", &document.summary)?;
-    put_at(alloc, fields, "details", &document.details)?;
-    put_schema_version(alloc, fields, &document.schema_version)?;
-    put_if(alloc, fields, "withdrawn", &document.withdrawn)
 }
 
 impl OsvAdvisory {
@@ -161,8 +114,24 @@ impl OsvAdvisory {
             → document_events d ≡ document_events self.now) }
     {
         let mut fields = Map::new(alloc);
-        put_lists(self, alloc, &mut fields)?;
-        put_texts(self, alloc, &mut fields)?;
+        put_schema_version(alloc, &mut fields, &self.schema_version)?;
+        put_at(alloc, &mut fields, "id", &self.id)?;
+        put_at(alloc, &mut fields, "modified", &self.modified)?;
+        put_at(alloc, &mut fields, "published", &self.published)?;
+        put_if(alloc, &mut fields, "withdrawn", &self.withdrawn)?;
+        put_at(alloc, &mut fields, "summary", &self.summary)?;
+        put_at(alloc, &mut fields, "details", &self.details)?;
+        put_at(alloc, &mut fields, "severity", &self.severity)?;
+        put_at(
+            alloc,
+            &mut fields,
+            "database_specific",
+            &self.database_specific,
+        )?;
+        put_at(alloc, &mut fields, "aliases", &self.aliases)?;
+        put_at(alloc, &mut fields, "related", &self.related)?;
+        put_at(alloc, &mut fields, "affected", &self.affected)?;
+        put_at(alloc, &mut fields, "references", &self.references)?;
         Ok(Value::from(fields))
     }
 }

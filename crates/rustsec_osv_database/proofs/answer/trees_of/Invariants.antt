@@ -1,6 +1,6 @@
 use Rattle.std.proofs.Common.{◌≡◌, map, take}
 use Rattle.serde_json.specs.View.{view}
-use Rattle.rustsec_osv.specs.TreeDocument.{document_tree}
+use Rattle.rustsec_osv.specs.DocumentCodec.{document_tree}
 use Rattle.rustsec_osv_database.proofs.answer.trees_of.Given as goal
 
 -- the trees of the documents so far

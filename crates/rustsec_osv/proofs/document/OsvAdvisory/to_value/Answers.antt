@@ -1,22 +1,17 @@
-use Rattle.std.proofs.Common.{◌≡◌, ◌∙◌, ap, rules, sym}
-use Rattle.serde_json.specs.View.{view}
-use Rattle.rustsec_osv.specs.ReaderDocument.{read_document}
-use Rattle.rustsec_osv.specs.TreeDocument.{document_tree}
+use Rattle.std.proofs.Common.{◌∙◌, ap, rules, sym}
+use Rattle.rustsec_osv.specs.DocumentCodec.{read_document}
 use Rattle.rustsec_osv.proofs.DocumentsAgain.{document-again}
 use Rattle.rustsec_osv.proofs.EventsKept.{events-same, ranges-same}
 use Rattle.rustsec_osv.proofs.document.OsvAdvisory.to_value.Goals as goal
 
+pub returns-clause-ok : goal.returns-clause-ok
+returns-clause-ok c = search rules
+
 pub returns-clause-again : goal.returns-clause-again
-returns-clause-again c =
-    let tree : view c.from.result ≡ document_tree c.args.self.now = search rules in
-    λ h. ap read_document tree ∙ document-again c.args.self.now h
+returns-clause-again c = λ h. ap read_document (returns-clause-ok c) ∙ document-again c.args.self.now h
 
 pub returns-clause-ranges : goal.returns-clause-ranges
-returns-clause-ranges c =
-    let tree : view c.from.result ≡ document_tree c.args.self.now = search rules in
-    λ h d e. ranges-same c.args.self.now d h (ap read_document (sym tree) ∙ e)
+returns-clause-ranges c = λ h d e. ranges-same c.args.self.now d h (ap read_document (sym (returns-clause-ok c)) ∙ e)
 
 pub returns-clause-events : goal.returns-clause-events
-returns-clause-events c =
-    let tree : view c.from.result ≡ document_tree c.args.self.now = search rules in
-    λ h d e. events-same c.args.self.now d h (ap read_document (sym tree) ∙ e)
+returns-clause-events c = λ h d e. events-same c.args.self.now d h (ap read_document (sym (returns-clause-ok c)) ∙ e)

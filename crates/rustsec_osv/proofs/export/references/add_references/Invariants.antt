@@ -1,5 +1,5 @@
 use Rattle.std.proofs.Common.{◌≡◌, ◌++◌, All, map}
-use Rattle.rustsec_osv.specs.DocumentAgain.{IsReferenceAgain}
+use Rattle.rustsec_osv.specs.DocumentCodec.{IsReferenceAgain}
 use Rattle.rustsec_osv.specs.References.{reference_of}
 use Rattle.rustsec_osv.proofs.export.references.add_references.Given as goal
 

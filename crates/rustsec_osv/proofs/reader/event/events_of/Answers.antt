@@ -1,6 +1,6 @@
 use Rattle.std.proofs.Common.{inl, inr, ⊎_elim}
 use Rattle.rustsec_json.proofs.Lists.{items_stop}
-use Rattle.rustsec_osv.specs.ReaderAffected.{read_event}
+use Rattle.rustsec_osv.specs.EventCodec.{read_event}
 use Rattle.rustsec_osv.proofs.EventLists.{events-more, events-start}
 use Rattle.rustsec_osv.proofs.reader.event.events_of.Goals as goal
 

@@ -2,7 +2,7 @@ use Rattle.std.proofs.Common.{◌≡◌, map, take, Some}
 use Rattle.serde_json.specs.View.{items_view}
 use Rattle.rustsec_json.specs.Fields.{list_of}
 use Rattle.rustsec_osv.specs.DocumentEvents.{event_of}
-use Rattle.rustsec_osv.specs.ReaderAffected.{read_event}
+use Rattle.rustsec_osv.specs.EventCodec.{read_event}
 use Rattle.rustsec_values.specs.Reading.{read_all}
 use Rattle.rustsec_osv.proofs.reader.event.events_of.Given as goal
 

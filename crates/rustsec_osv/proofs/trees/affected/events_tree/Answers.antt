@@ -3,7 +3,7 @@ use Rattle.std.proofs.lemmas.List.{take_all}
 use Rattle.serde_json.specs.Data.{array}
 use Rattle.serde_json.specs.View.{items_of}
 use Rattle.rustsec_osv.specs.DocumentEvents.{event_of}
-use Rattle.rustsec_osv.specs.TreeAffected.{event_tree}
+use Rattle.rustsec_osv.specs.EventCodec.{event_tree}
 use Rattle.rustsec_osv.proofs.EventLists.{map_map}
 use Rattle.rustsec_osv.proofs.trees.affected.events_tree.Goals as goal
 

@@ -1,7 +1,7 @@
 use Rattle.std.proofs.Common.{◌≡◌, map, take}
 use Rattle.serde_json.specs.View.{view}
 use Rattle.rustsec_osv.specs.DocumentEvents.{event_of}
-use Rattle.rustsec_osv.specs.TreeAffected.{event_tree}
+use Rattle.rustsec_osv.specs.EventCodec.{event_tree}
 use Rattle.rustsec_osv.proofs.trees.affected.events_tree.Given as goal
 
 abbrev pub invariant-loop-event : goal.invariant-loop-event

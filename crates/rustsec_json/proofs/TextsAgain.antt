@@ -16,9 +16,8 @@ use Rattle.rustsec_texts.specs.declared.category.Category.TheVariants as categor
 use Rattle.rustsec_texts.specs.Ids.{IdValue, has_year, id_of, id_with, is_placeholder, kind_of_id, year_of_kind}
 use Rattle.rustsec_texts.specs.Informational.{informational_kinds, informational_name, informational_of}
 use Rattle.rustsec_texts.specs.declared.informational.Informational.TheVariants as informational
-use Rattle.rustsec_texts.specs.Paths.{path_of}
+use Rattle.rustsec_texts.specs.Paths.{path_of, path_text}
 use Rattle.rustsec_texts.proofs.Colons.{is_path-path_of, path_of-path_text}
-use Rattle.rustsec_osv.specs.DocumentAgain.{IsIdAgain, IsPathAgain}
 
 some-same : {A : Type 0} (a b : A) → Some a ≡ Some b → a ≡ b
 some-same a b h = cc h
@@ -30,10 +29,10 @@ id-text true o t i e = ap (λ (x : IdValue). x.text) (sym (some-same (id_with t 
 id-text false None t i e = cc e
 id-text false (Some y) t i e = ap (λ (x : IdValue). x.text) (sym (some-same (id_with t y) i e))
 
-pub id-again : (t : List ℕ) (i : IdValue) → id_of t ≡ Some i → IsIdAgain i
+pub id-again : (t : List ℕ) (i : IdValue) → id_of t ≡ Some i → id_of i.text ≡ Some i
 id-again t i e = subst (λ (x : List ℕ). id_of x ≡ Some i) (sym (id-text (is_placeholder t) (year_of_kind (has_year (kind_of_id t)) t) t i e)) e
 
-pub path-again : (t : List ℕ) (p : List (List ℕ)) → path_of t ≡ Some p → IsPathAgain p
+pub path-again : (t : List ℕ) (p : List (List ℕ)) → path_of t ≡ Some p → path_of (path_text p) ≡ Some p
 path-again t p e = path_of-path_text p (is_path-path_of t p e)
 
 -- ---- closed tables
