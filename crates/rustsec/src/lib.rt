@@ -76,7 +76,7 @@ pub mod platforms {
 }
 
 pub use rustsec_advisory::Advisory;
-pub use rustsec_database::{Database, Entries, Index, Slot};
+pub use rustsec_database::{Database, Entries, Index, Pair, Slot, vulnerabilities_of};
 pub use rustsec_error::{Error, ErrorKind, Result};
 pub use rustsec_fixer::{FixCommand, Fixer};
 pub use rustsec_folders::{FolderEntry, Folders, SourceFile};

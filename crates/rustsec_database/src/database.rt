@@ -7,7 +7,7 @@ ghost use Rattle.std.specs.Option.{option_copied};
 ghost use Rattle.std.specs.Slice.Iter.{iter_rest};
 ghost use Rattle.rustsec_error.specs.Failure.{IsMemory};
 ghost use Rattle.rustsec_advisory.specs.declared.advisory.Advisory as given;
-ghost use Rattle.rustsec_query.specs.Pairs.{as_vulnerability, is_audited, pairs, pairs_of, vulnerability_of};
+ghost use Rattle.rustsec_query.specs.Pairs.{as_vulnerability, is_audited, pairs, pairs_of};
 ghost use Rattle.rustsec_query.specs.Query.{crate_scope, of_package};
 ghost use Rattle.rustsec_query.specs.Selects.{selects};
 ghost use Rattle.rustsec_database.specs.Loaded.{AreLoaded, IsAdded, IsFault, IsFirstFault, IsOnlyWithId, has_id};
@@ -16,6 +16,7 @@ ghost use Rattle.rustsec_database.specs.Places.{IsIndexOf, at_places, is_under, 
 use crate::entries::Entries;
 use crate::index::Index;
 use crate::matches::{Matches, MatchesPackage};
+use crate::pair::{Pair, push_pairs, vulnerabilities_of};
 use crate::slot::Slot;
 use rustsec_advisory::Advisory;
 use rustsec_error::Result;
@@ -24,7 +25,7 @@ use rustsec_lock::Lockfile;
 use rustsec_lock::package::{Name, Package};
 use rustsec_query::{Query, Vulnerability};
 use rustsec_texts::{Collection, Id};
-use rustsec_values::{Items, Test};
+use rustsec_values::Test;
 use std::alloc::{AllocError, Global};
 use std::marker::Model;
 use std::{slice, vec};
@@ -151,24 +152,6 @@ fn all_matching<'a, T: Test<Advisory>>(
         }
     }
     Ok(found)
-}
-
-/// Appends one vulnerability for each advisory, all of `package`.
-fn add_vulnerabilities(
-    alloc: Global,
-    vulnerabilities: &mut Items<Vulnerability>,
-    package: &Package,
-    advisories: &[&Advisory],
-) -> Result<()>
-    ensures ok { OnOk result (vulnerabilities.new
-        ≡ vulnerabilities.old ++ map (λ a. vulnerability_of a.now «package».now) advisories.now) }
-    ensures err { IfErr result IsMemory }
-{
-    for advisory in advisories {
-        let vulnerability = Vulnerability::new(alloc, advisory, package)?;
-        vulnerabilities.push(vulnerability)?;
-    }
-    Ok(())
 }
 
 /// Returns whether a package is audited: whether its source is one of the two default registries.
@@ -323,47 +306,50 @@ impl Database {
         }
     }
 
-    /// Appends one vulnerability for each advisory that a query finds for a package. A package that is not
-    /// audited adds none.
-    fn query_package(
-        &self,
+    /// Appends one pair for each advisory that a query finds for a package. A package that is not audited adds
+    /// none.
+    fn query_package<'a>(
+        &'a self,
         alloc: Global,
         query: &Query,
-        package: &Package,
-        vulnerabilities: &mut Items<Vulnerability>,
-    ) -> Result<()>
-        ensures ok { OnOk result (vulnerabilities.new
-            ≡ vulnerabilities.old ++ map as_vulnerability (pairs_of self.now query.now «package».now)) }
-        ensures err { IfErr result IsMemory }
+        package: &'a Package,
+        pairs: &mut Vec<Pair<'a>>,
+    ) -> std::result::Result<(), AllocError>
+        ensures { OnOk result (pairs.new.items ≡ pairs.old.items ++ pairs_of self.now query.now «package».now) }
     {
         if !is_audited(package) {
             return Ok(());
         }
         let found = self.query_of_package(alloc, query, package)?;
-        add_vulnerabilities(alloc, vulnerabilities, package, found.as_slice())
+        push_pairs(package, &found, pairs)
     }
 
-    /// Returns the vulnerabilities that a query finds for some packages, in the order of the packages.
-    fn query_packages(
-        &self,
+    /// Returns the pairs of a package of a lockfile and an advisory that a query finds for it, without copies of
+    /// either. They are in the lockfile's order of packages, then in the order in which the advisories were loaded. A
+    /// package is looked at only if its source is one of the two default registries. The query takes its name, version
+    /// and source from the package.
+    ///
+    /// # Errors
+    ///
+    /// `OutOfMemory` alone.
+    pub fn query_pairs<'a>(
+        &'a self,
         alloc: Global,
-        packages: &[Package],
+        lockfile: &'a Lockfile,
         query: &Query,
-    ) -> Result<Items<Vulnerability>>
-        ensures ok { IfOk result (λ v. v ≡ map as_vulnerability (pairs self.now packages.now query.now)) }
+    ) -> Result<Vec<Pair<'a>>>
+        ensures ok { IfOk result (λ v. v.items ≡ pairs self.now lockfile.now.packages query.now) }
         ensures err { IfErr result IsMemory }
     {
-        let mut vulnerabilities = Items::new(alloc);
-        for package in packages {
-            self.query_package(alloc, query, package, &mut vulnerabilities)?;
+        let mut pairs = Vec::new(alloc);
+        for package in lockfile.packages.as_slice() {
+            self.query_package(alloc, query, package, &mut pairs)?;
         }
-        Ok(vulnerabilities)
+        Ok(pairs)
     }
 
-    /// Returns one vulnerability for each package of a lockfile and each advisory that a query finds for
-    /// it. They are in the lockfile's order of packages, then in the order in which the advisories were
-    /// loaded. A package is looked at only if its source is one of the two default registries. The query
-    /// takes its name, version and source from the package.
+    /// Returns one vulnerability for each pair that `query_pairs` finds, in its order. Each has copies of its package
+    /// and of its advisory.
     ///
     /// # Errors
     ///
@@ -377,7 +363,8 @@ impl Database {
         ensures ok { IfOk result (λ v. v.items ≡ map as_vulnerability (pairs self.now lockfile.now.packages query.now)) }
         ensures err { IfErr result IsMemory }
     {
-        let found = self.query_packages(alloc, lockfile.packages.as_slice(), query)?;
+        let pairs = self.query_pairs(alloc, lockfile, query)?;
+        let found = vulnerabilities_of(alloc, &pairs)?;
         Ok(Vec::from(found))
     }
 

@@ -7,10 +7,12 @@ pub mod filing;
 mod index;
 mod matches;
 mod open;
+mod pair;
 mod slot;
 
 pub use crate::database::{Database, Iter};
 pub use crate::entries::Entries;
 pub use crate::index::Index;
+pub use crate::pair::{Pair, vulnerabilities_of};
 pub use crate::slot::Slot;
 pub use rustsec_folders::SourceFile;

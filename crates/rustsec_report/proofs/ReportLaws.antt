@@ -56,7 +56,7 @@ map-step : {A B : Type 0} (f : A → B) (x : A) (b : Bool) (us : List B) (vs : L
 map-step f x true us vs h = ap (λ l. f x ∷ l) h
 map-step f x false us vs h = h
 
-filter-map : {A B : Type 0} (t : B → Bool) (f : A → B) (xs : List A) → filter t (map f xs) ≡ map f (filter (λ x. t (f x)) xs)
+pub filter-map : {A B : Type 0} (t : B → Bool) (f : A → B) (xs : List A) → filter t (map f xs) ≡ map f (filter (λ x. t (f x)) xs)
 filter-map t f [] = refl
 filter-map t f (x ∷ xs) = map-step f x (t (f x)) (filter t (map f xs)) (filter (λ x. t (f x)) xs) (filter-map t f xs)
 

@@ -15,14 +15,14 @@ ghost use Rattle.rustsec_report.specs.Held.{ListsWhatIsInForce};
 ghost use Rattle.rustsec_report.specs.Report.{info_of, report_of, vulnerabilities, warnings};
 ghost use Rattle.rustsec_report.specs.ReportLaws.{AddTheirOwn, FindTheSame, LacksOnly, ignoring};
 
+use crate::counted::counted_pairs;
 use crate::info::{LockfileInfo, VulnerabilityInfo};
 use crate::report::Report;
 use crate::settings::Settings;
-use crate::warnings::{WarningInfo, warnings_of, without_ignored};
-use rustsec_database::Database;
+use crate::warnings::{WarningInfo, warnings_by_kind};
+use rustsec_database::{Database, vulnerabilities_of};
 use rustsec_error::Result;
 use rustsec_lock::Lockfile;
-use rustsec_values::Items;
 use std::alloc::Global;
 
 /// Returns the warnings about a lockfile's packages that settings ask for: kind by kind, each list by package in the
@@ -41,8 +41,8 @@ pub fn find_warnings(
     ensures err { IfErr result IsMemory }
 {
     let query = settings.query(alloc)?.informational(true);
-    let found = database.query_vulnerabilities(alloc, lockfile, &query)?;
-    warnings_of(alloc, Items::from(found), settings)
+    let counted = counted_pairs(alloc, database, lockfile, &query, &settings.ignore)?;
+    warnings_by_kind(alloc, counted.as_slice(), settings)
 }
 
 /// Returns the vulnerabilities of a lockfile's packages that settings ask for, without those of ignored advisories: by
@@ -61,9 +61,9 @@ pub fn find_vulnerabilities(
     ensures err { IfErr result IsMemory }
 {
     let query = settings.query(alloc)?;
-    let found = database.query_vulnerabilities(alloc, lockfile, &query)?;
-    let counted = without_ignored(Items::from(found), &settings.ignore);
-    Ok(VulnerabilityInfo::of_items(counted))
+    let counted = counted_pairs(alloc, database, lockfile, &query, &settings.ignore)?;
+    let list = vulnerabilities_of(alloc, counted.as_slice())?;
+    Ok(VulnerabilityInfo::of_items(list))
 }
 
 impl Report {

@@ -4,6 +4,7 @@
 
 mod advisory_tree;
 mod binary_format;
+mod counted;
 mod end_to_end;
 mod filter;
 mod generate;

@@ -1,49 +1,21 @@
-//! The warnings of informational advisories, and the removal of ignored advisories.
+//! The warnings of informational advisories.
 
-ghost use Rattle.std.specs.Prelude.{◌≡◌, IfErr, IfOk, OnOk, option_and_then};
+ghost use Rattle.std.specs.Prelude.{◌≡◌, IfErr, IfOk, OnOk, map, option_and_then};
 ghost use Rattle.rustsec_error.specs.Failure.{IsMemory};
-ghost use Rattle.rustsec_report.specs.Report.{as_warning, is_among, is_wanted, wanted_kind, warnings_by_kind, warnings_of_kind, without};
+ghost use Rattle.rustsec_query.specs.Pairs.{as_vulnerability};
+ghost use Rattle.rustsec_report.specs.Report.{as_warning, is_wanted, wanted_kind, warnings_by_kind, warnings_of_kind};
 ghost use Rattle.rustsec_report.specs.Kinds.{with_kind};
 
 use crate::settings::Settings;
 use crate::warning::Warning;
+use rustsec_database::Pair;
 use rustsec_error::Result;
-use rustsec_query::Vulnerability;
-use rustsec_texts::{Id, Informational, WarningKind};
-use rustsec_values::{Items, Named, SortedMap, Test};
+use rustsec_texts::{Informational, WarningKind};
+use rustsec_values::{Items, Named, SortedMap};
 use std::alloc::Global;
 
 /// Warnings by their kinds. A kind without warnings may be missing.
 pub type WarningInfo = SortedMap<WarningKind, Items<Warning>>;
-
-/// The predicate that an advisory is not among these.
-#[derive(Drop)]
-struct NotAmong<'a> {
-    ids: &'a Items<Id>,
-}
-
-impl<'a> Test<Vulnerability> for NotAmong<'a> {
-    ghost use Rattle.std.specs.Prelude.{not};
-    ghost use Rattle.rustsec_report.specs.Report.{is_among};
-
-    ghost passes = { λ test v. not (is_among test.ids.now v.advisory.id) };
-
-    fn passes(&self, element: &Vulnerability) -> bool {
-        !self.ids.as_slice().contains(&element.advisory.id)
-    }
-}
-
-/// Returns the vulnerabilities whose advisory is not ignored, in order. This takes no memory.
-pub(crate) fn without_ignored(
-    mut found: Items<Vulnerability>,
-    ignored: &Items<Id>,
-) -> Items<Vulnerability>
-    ensures { result ≡ without ignored.now found }
-{
-    let test = NotAmong { ids: ignored };
-    found.retain(&test);
-    found
-}
 
 /// Returns whether settings ask for warnings of an informational kind.
 fn is_wanted(settings: &Settings, kind: &Informational) -> bool
@@ -62,38 +34,38 @@ fn wanted_kind(settings: &Settings, kind: &Option<Informational>) -> Option<Warn
     }
 }
 
-/// Returns a vulnerability as a warning of a kind.
-fn as_warning(alloc: Global, kind: WarningKind, found: &Vulnerability) -> Result<Warning>
-    ensures ok { IfOk result (λ w. w ≡ as_warning kind found.now) }
+/// Returns a pair as a warning of a kind, with copies of the package and of the advisory.
+fn as_warning(alloc: Global, kind: WarningKind, pair: &Pair<'_>) -> Result<Warning>
+    ensures ok { IfOk result (λ w. w ≡ as_warning kind (as_vulnerability pair.now)) }
     ensures err { IfErr result IsMemory }
 {
-    let advisory = Clone::clone(&found.advisory)?;
-    let affected = Clone::clone(&found.affected)?;
-    let versions = Clone::clone(&found.versions)?;
+    let advisory = Clone::clone(&pair.advisory.metadata)?;
+    let affected = Clone::clone(&pair.advisory.affected)?;
+    let versions = Clone::clone(&pair.advisory.versions)?;
     Warning::new(
         alloc,
         kind,
-        &found.package,
+        pair.package,
         Some(advisory),
         affected,
         Some(versions),
     )
 }
 
-/// Returns the warnings of a kind, in order.
+/// Returns the warnings of a kind that settings ask for, in order. A pair that gives none is not copied.
 fn warnings_of_kind(
     alloc: Global,
-    found: &[Vulnerability],
+    pairs: &[Pair<'_>],
     settings: &Settings,
     kind: WarningKind,
 ) -> Result<Items<Warning>>
-    ensures ok { IfOk result (λ ws. ws ≡ warnings_of_kind settings.now found.now kind) }
+    ensures ok { IfOk result (λ ws. ws ≡ warnings_of_kind settings.now (map as_vulnerability pairs.now) kind) }
     ensures err { IfErr result IsMemory }
 {
     let mut warnings = Items::new(alloc);
-    for vulnerability in found {
-        if wanted_kind(settings, &vulnerability.advisory.informational) == Some(kind) {
-            warnings.push(as_warning(alloc, kind, vulnerability)?)?;
+    for pair in pairs {
+        if wanted_kind(settings, &pair.advisory.metadata.informational) == Some(kind) {
+            warnings.push(as_warning(alloc, kind, pair)?)?;
         }
     }
     Ok(warnings)
@@ -103,45 +75,33 @@ fn warnings_of_kind(
 fn add_kind(
     alloc: Global,
     warnings: &mut WarningInfo,
-    found: &[Vulnerability],
+    pairs: &[Pair<'_>],
     settings: &Settings,
     kind: WarningKind,
 ) -> Result<()>
-    ensures ok { OnOk result (warnings.new ≡ with_kind warnings.old kind (warnings_of_kind settings.now found.now kind)) }
+    ensures ok { OnOk result (warnings.new
+        ≡ with_kind warnings.old kind (warnings_of_kind settings.now (map as_vulnerability pairs.now) kind)) }
     ensures err { IfErr result IsMemory }
 {
-    let list = warnings_of_kind(alloc, found, settings, kind)?;
+    let list = warnings_of_kind(alloc, pairs, settings, kind)?;
     if !list.is_empty() {
         warnings.insert(kind, list)?;
     }
     Ok(())
 }
 
-/// Returns the warnings that settings ask for, kind by kind, from the pairs of a query.
-fn warnings_by_kind(
+/// Returns the warnings that settings ask for, kind by kind, from the pairs that count.
+pub(crate) fn warnings_by_kind(
     alloc: Global,
-    found: &[Vulnerability],
+    pairs: &[Pair<'_>],
     settings: &Settings,
 ) -> Result<WarningInfo>
-    ensures ok { IfOk result (λ ws. ws ≡ warnings_by_kind settings.now found.now) }
+    ensures ok { IfOk result (λ ws. ws ≡ warnings_by_kind settings.now (map as_vulnerability pairs.now)) }
     ensures err { IfErr result IsMemory }
 {
     let mut warnings = SortedMap::new(alloc);
     for kind in WarningKind::all() {
-        add_kind(alloc, &mut warnings, found, settings, *kind)?;
+        add_kind(alloc, &mut warnings, pairs, settings, *kind)?;
     }
     Ok(warnings)
-}
-
-/// Returns the warnings that settings ask for, from the pairs of a query for informational advisories.
-pub(crate) fn warnings_of(
-    alloc: Global,
-    found: Items<Vulnerability>,
-    settings: &Settings,
-) -> Result<WarningInfo>
-    ensures ok { IfOk result (λ ws. ws ≡ warnings_by_kind settings.now (without settings.now.ignore found)) }
-    ensures err { IfErr result IsMemory }
-{
-    let counted = without_ignored(found, &settings.ignore);
-    warnings_by_kind(alloc, counted.as_slice(), settings)
 }

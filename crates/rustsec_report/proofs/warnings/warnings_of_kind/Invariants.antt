@@ -1,6 +1,9 @@
-use Rattle.std.proofs.Common.{◌≡◌, ◌++◌, drop}
+use Rattle.std.proofs.Common.{◌≡◌, ◌++◌, drop, map}
+use Rattle.rustsec_query.specs.Pairs.{as_vulnerability}
 use Rattle.rustsec_report.specs.Report.{warnings_of_kind}
 use Rattle.rustsec_report.proofs.warnings.warnings_of_kind.Given as goal
 
-abbrev pub invariant-loop-vulnerability : goal.invariant-loop-vulnerability
-invariant-loop-vulnerability l = l.warnings ++ warnings_of_kind l.settings (drop l.vulnerability-index l.found) l.kind ≡ warnings_of_kind l.settings l.found l.kind
+abbrev pub invariant-loop-pair : goal.invariant-loop-pair
+invariant-loop-pair l =
+    l.warnings ++ warnings_of_kind l.settings (map as_vulnerability (drop l.pair-index l.pairs)) l.kind
+    ≡ warnings_of_kind l.settings (map as_vulnerability l.pairs) l.kind
