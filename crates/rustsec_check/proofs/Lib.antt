@@ -1,5 +1,6 @@
 pub mod AllKept
 pub mod AsReport
+pub mod BothKinds
 pub mod Fixes
 pub mod Known
 pub mod MoreFindings

@@ -11,8 +11,7 @@ use Rattle.rustsec_query.specs.Pairs.{finds, is_audited}
 use Rattle.rustsec_query.specs.Query.{Asked, of_package}
 use Rattle.rustsec_query.specs.Selects.{selects}
 use Rattle.rustsec_report.specs.declared.settings.Settings.{Settings}
-use Rattle.rustsec_report.specs.Report.{informational_query, query_of}
-use Rattle.rustsec_check.specs.Pairs.{as_vulnerable, as_wanted, found, found_at, vulnerable_at, wanted_at}
+use Rattle.rustsec_check.specs.Pairs.{found, found_at}
 
 filter-none : {A : Type 0} (xs : List A) → filter (λ (x : A). false) xs ≡ []
 filter-none [] = refl
@@ -60,16 +59,6 @@ module _ {B : Type 0} (f : Advisory → Option B) where
 pub enumerate-more : {A : Type 0} (n m : ℕ) (xs : List A) (x : A) → m ≡ n + length xs → enumerate_from n (xs ++ x ∷ []) ≡ enumerate_from n xs ++ (m, x) ∷ []
 enumerate-more n m [] x is = let same : m ≡ n = omega (arith, is) in rw same refl
 enumerate-more n m (y ∷ ys) x is = ap (λ zs. (n, y) ∷ zs) (enumerate-more (n + 1) m ys x (omega (arith, is)))
-
-pub vulnerable-by : (advisories : List Advisory) (s : Settings) (q : Asked) (placed : ℕ × PackageValue) → q ≡ query_of s
-    → map (as_vulnerable placed) (filter (finds q placed.1) advisories) ≡ vulnerable_at advisories s placed
-unfolding vulnerable_at
-vulnerable-by advisories s q placed is = ap (λ r. map (as_vulnerable placed) (filter (finds r placed.1) advisories)) is
-
-pub wanted-by : (advisories : List Advisory) (s : Settings) (q : Asked) (placed : ℕ × PackageValue) → q ≡ informational_query s
-    → filter_map (as_wanted s placed) (filter (finds q placed.1) advisories) ≡ wanted_at advisories s placed
-unfolding wanted_at
-wanted-by advisories s q placed is = ap (λ r. filter_map (as_wanted s placed) (filter (finds r placed.1) advisories)) is
 
 pub found-none : (advisories : List Advisory) (s : Settings) → found advisories [] s ≡ []
 unfolding found

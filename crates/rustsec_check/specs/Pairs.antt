@@ -1,10 +1,11 @@
 -- Which pairs of a package and an advisory a check finds: those of a report.
-use Rattle.std.specs.Prelude.{◌++◌, not, ℕ, Bool, List, Option, Some, None, filter_map, map, option_and_then, option_map}
+use Rattle.std.specs.Prelude.{◌++◌, not, ℕ, Bool, if◌then◌else◌, List, Option, Some, None, filter_map, is_some, map, option_and_then, option_map}
 use Rattle.std.specs.List.{enumerate_from, filter, flat_map}
 use Rattle.rustsec_lock.specs.Package.{PackageValue}
 use Rattle.rustsec_texts.specs.Ids.{IdValue}
 use Rattle.rustsec_advisory.specs.declared.advisory.Advisory.{Advisory}
 use Rattle.rustsec_query.specs.Pairs.{finds}
+use Rattle.rustsec_query.specs.Query.{Asked}
 use Rattle.rustsec_report.specs.Report.{informational_query, is_among, query_of, wanted_kind}
 use Rattle.rustsec_report.specs.declared.settings.Settings.{Settings}
 use Rattle.rustsec_check.specs.Values.{Found, IgnoredValue}
@@ -46,3 +47,13 @@ left_out ids fs = filter (is_ignored ids) fs
 -- a pair without the place of its package
 abbrev pub as_ignored : Found → IgnoredValue
 as_ignored f = record { kind = f.kind; advisory = f.advisory; «package» = f.«package» }
+
+-- ---- one query for both, which only helps proofs
+
+-- the query of settings for vulnerabilities and for informational advisories together
+abbrev pub query_of_both : Settings → Asked
+query_of_both s = record (query_of s) { informational = None }
+
+-- a vulnerability of the package at a place, unless the advisory is informational
+abbrev pub as_unwarned : ℕ × PackageValue → Advisory → Option Found
+as_unwarned placed a = if is_some a.metadata.informational then None else Some (as_vulnerable placed a)

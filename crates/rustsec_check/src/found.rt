@@ -5,7 +5,7 @@ ghost use Rattle.std.specs.List.{filter};
 ghost use Rattle.rustsec_error.specs.Failure.{IsMemory};
 ghost use Rattle.rustsec_query.specs.Pairs.{finds, is_audited};
 ghost use Rattle.rustsec_report.specs.Report.{is_wanted, wanted_kind};
-ghost use Rattle.rustsec_check.specs.Pairs.{as_vulnerable, as_wanted, counted, found, is_ignored};
+ghost use Rattle.rustsec_check.specs.Pairs.{as_unwarned, as_wanted, counted, found, is_ignored, query_of_both};
 
 use rustsec_advisory::Advisory;
 use rustsec_database::Database;
@@ -14,7 +14,7 @@ use rustsec_lock::Lockfile;
 use rustsec_lock::package::Package;
 use rustsec_query::Query;
 use rustsec_report::Settings;
-use rustsec_texts::{Id, Informational, WarningKind};
+use rustsec_texts::{Collection, Id, Informational, WarningKind};
 use std::alloc::{AllocError, Global};
 use std::marker::Model;
 
@@ -90,17 +90,29 @@ fn advisories_for<'a>(
     database.query_of_package(alloc, query, package)
 }
 
-/// Appends vulnerabilities of a package, one for each advisory.
+/// Returns the vulnerability of a package by an advisory, unless the advisory is informational.
+fn vulnerable<'a>(placed: &Placed<'a>, advisory: &'a Advisory) -> Option<Found<'a>>
+    ensures { result ≡ as_unwarned placed.now advisory.now }
+{
+    if advisory.metadata.informational.is_some() {
+        None
+    } else {
+        Some(placed.found(None, advisory))
+    }
+}
+
+/// Appends vulnerabilities of a package, one for each advisory that is not informational.
 fn push_vulnerable<'a>(
     advisories: &[&'a Advisory],
     placed: &Placed<'a>,
     found: &mut Vec<Found<'a>>,
 ) -> std::result::Result<(), AllocError>
-    ensures { OnOk result (found.new.items ≡ found.old.items ++ map (as_vulnerable placed.now) (map (λ a. a.now) advisories.now)) }
+    ensures { OnOk result (found.new.items ≡ found.old.items ++ filter_map (as_unwarned placed.now) (map (λ a. a.now) advisories.now)) }
 {
     for advisory in advisories {
-        let pair = placed.found(None, advisory);
-        found.push(pair).map_err(|_| AllocError)?;
+        if let Some(pair) = vulnerable(placed, advisory) {
+            found.push(pair).map_err(|_| AllocError)?;
+        }
     }
     Ok(())
 }
@@ -149,6 +161,24 @@ fn push_wanted<'a>(
     Ok(())
 }
 
+/// Returns the query of settings for vulnerabilities and for informational advisories together.
+fn query_of_both(alloc: Global, settings: &Settings) -> Result<Query>
+    ensures ok { IfOk result (λ q. q ≡ query_of_both settings.now) }
+    ensures err { IfErr result IsMemory }
+{
+    let arch = Clone::clone(&settings.target_arch)?;
+    let os = Clone::clone(&settings.target_os)?;
+    let query = Query::new(alloc)
+        .collection(Collection::Crates)
+        .withdrawn(false)
+        .target_arch(Vec::from(arch))
+        .target_os(Vec::from(os));
+    match settings.severity {
+        Some(severity) => Ok(query.severity(severity)),
+        None => Ok(query),
+    }
+}
+
 /// Returns the pairs of a lockfile's packages, package by package: of each the vulnerabilities, and then the warnings.
 pub(crate) fn all_found<'a>(
     alloc: Global,
@@ -159,14 +189,12 @@ pub(crate) fn all_found<'a>(
     ensures ok { IfOk result (λ v. v.items ≡ found database.now lockfile.now.packages settings.now) }
     ensures err { IfErr result IsMemory }
 {
-    let query = settings.query(alloc)?;
-    let warnings = settings.query(alloc)?.informational(true);
+    let query = query_of_both(alloc, settings)?;
     let mut found = Vec::new(alloc);
     for (place, package) in lockfile.packages.as_slice().iter().enumerate() {
         let placed = Placed { place, package };
         let advisories = advisories_for(alloc, database, &query, package)?;
         push_vulnerable(&advisories, &placed, &mut found)?;
-        let advisories = advisories_for(alloc, database, &warnings, package)?;
         push_wanted(&advisories, settings, &placed, &mut found)?;
     }
     Ok(found)

@@ -1,19 +1,16 @@
 -- Whole searches keep the laws of a search: a list of places, the edges of a place, the roots.
-use Rattle.std.proofs.Common.{◌≡◌, ◌≢◌, ◌∙◌, ◌+◌, ◌<◌, ◌≤◌, ◌++◌, ◌⊎◌, inl, inr, ℕ, zero, suc, Bool, false, List, [], ◌∷◌, Option, Some, None, length, length-append, get_or, replicate, arith, refl, sym, ap, subst}
+use Rattle.std.proofs.Common.{◌≡◌, ◌∙◌, ◌+◌, ◌<◌, ◌≤◌, ◌⊎◌, inl, inr, ℕ, zero, suc, List, [], ◌∷◌, Option, Some, None, length, length-append, get_or, replicate, arith, refl, sym, ap, subst}
 use Rattle.std.specs.Prelude.{Contains, nat_eq}
-use Rattle.std.specs.Cmp.{nat_eq_equiv}
-use Rattle.std.specs.List.{All, IsDistinct, list_any}
+use Rattle.std.specs.List.{All, IsDistinct}
 use Rattle.std.specs.List.Sorted.{IsNonDecreasing, IsPermutation}
-use Rattle.std.proofs.lemmas.Bool.{cases_eq, cases_lt, eqb-true, ne_eqb}
-use Rattle.std.proofs.lemmas.List.{get_or-replicate, get_or-set_other, get_or-set_same, get_or_append_left, get_or_default, get_or_past, length-replicate, length-set}
+use Rattle.std.proofs.lemmas.Bool.{cases_lt, eqb-true}
+use Rattle.std.proofs.lemmas.List.{get_or-replicate, get_or_default, get_or_past, length-replicate}
 use Rattle.std.proofs.lemmas.List.Elements.{All-contains}
-use Rattle.std.proofs.lemmas.List.Folds.{Any-from_list_any, list_any_none}
+use Rattle.std.proofs.lemmas.List.Folds.{Any-from_list_any}
 use Rattle.std.proofs.lemmas.List.Sorted.{Contains-permutation, IsPermutation-sym}
-use Rattle.std.proofs.lemmas.Map.Keys.{IsDistinct-push}
 use Rattle.std.proofs.lemmas.Map.Steps.{length-le_from_distinct_below}
-use Rattle.std.proofs.Math.Seq.{get_or-append_seam}
 use Rattle.rustsec_graph.specs.Paths.{HasEdge, successors}
-use Rattle.rustsec_graph.specs.Search.{IsEarly, IsRising, IsSearch, IsSearchTo, IsWhole, Rise, SearchValue, before_of, place_of, seat_of, visit, visit_if, visits}
+use Rattle.rustsec_graph.specs.Search.{IsEarly, IsSearch, IsSearchTo, IsWhole, Rise, SearchValue, before_of, place_of, seat_of, visit_if, visits}
 use Rattle.rustsec_graph.proofs.Visits.{Grown, IsStep, IsWeak, new-seat, same-weak, seat-grows, seat-keeps, seated-at, strict}
 
 contains-cases : (x : ℕ) (xs : List ℕ) (y : ℕ) → Contains (x ∷ xs) y → (x ≡ y) ⊎ Contains xs y

@@ -1,6 +1,6 @@
 -- The paths of a whole search are the first of the shortest ones.
 use Rattle.std.proofs.Common.{◌≡◌, ◌≢◌, ◌∙◌, ◌+◌, ◌<◌, ◌≤◌, ◌++◌, ◌⊎◌, inl, inr, ℕ, zero, suc, List, [], ◌∷◌, Option, Some, None, Less, Equal, Greater, length, length-append, append_assoc, reverse, arith, refl, sym, ap, subst}
-use Rattle.std.specs.Prelude.{Contains, option_map}
+use Rattle.std.specs.Prelude.{option_map}
 use Rattle.std.specs.Cmp.{nat_cmp_is}
 use Rattle.std.specs.Cmp.Lexicographic.{nat_list_cmp_total, slice_cmp}
 use Rattle.std.specs.Option.{option_map_or}
@@ -8,8 +8,8 @@ use Rattle.std.specs.Ordering.{nat_cmp, ordering_then}
 use Rattle.std.specs.declared.cmp.Ordering.{Ordering}
 use Rattle.std.proofs.lemmas.Bool.{cases_lt}
 use Rattle.std.proofs.lemmas.List.{append-nil, reverse-append}
-use Rattle.rustsec_graph.specs.Paths.{HasEdge, IsAnswer, IsFirst, IsPathTo, IsShortest, LeadsTo, StartsAt}
-use Rattle.rustsec_graph.specs.Search.{IsEarly, IsRising, IsSearch, IsSearchTo, IsWhole, SearchValue, before_of, path_at, path_if, path_to, path_within, place_of, seat_of}
+use Rattle.rustsec_graph.specs.Paths.{HasEdge, IsAnswer, IsFirst, IsPathTo, LeadsTo, StartsAt}
+use Rattle.rustsec_graph.specs.Search.{IsEarly, IsRising, IsWhole, SearchValue, before_of, path_at, path_if, path_to, path_within, place_of, seat_of}
 
 -- ---- paths in order: by length, and then place by place
 
@@ -244,3 +244,10 @@ module _ (edges : List (List ℕ)) (roots : List ℕ) (s : SearchValue) (w : IsW
       one : (o : Option ℕ) → seat_of s target ≡ o → IsAnswer edges roots target (option_map (path_at s) o)
       one None e = λ path p. (let there = reached target path p in cc (sym e ∙ there.1))
       one (Some seat) e = is-first target seat e
+
+-- ---- an answer that is a path
+
+pub is-reached : (edges : List (List ℕ)) (roots : List ℕ) (target : ℕ) (o : Option (List ℕ)) → IsAnswer edges roots target o → o ≢ None
+    → (path : List ℕ) × IsPathTo edges roots target path
+is-reached edges roots target None a h = absurd (h refl)
+is-reached edges roots target (Some path) a h = (path, a.shortest.is_path)

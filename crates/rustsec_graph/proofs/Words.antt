@@ -1,6 +1,6 @@
 -- An entry has the first word of the name of each package that it fits.
-use Rattle.std.proofs.Common.{◌≡◌, ◌∙◌, ◌++◌, ◌+◌, ◌||◌, inl, inr, ℕ, zero, suc, Bool, true, false, cond, not, if◌then◌else◌, List, [], ◌∷◌, Option, Some, None, length, map, take, arith, refl, sym, ap, subst}
-use Rattle.std.specs.Prelude.{codes, nat_eq, option_map, slice_get}
+use Rattle.std.proofs.Common.{◌≡◌, ◌∙◌, ◌++◌, ◌+◌, ◌||◌, inl, inr, ℕ, suc, Bool, true, false, cond, not, if◌then◌else◌, List, [], ◌∷◌, Option, Some, None, length, map, take, arith, refl, sym, ap, subst}
+use Rattle.std.specs.Prelude.{nat_eq, option_map, slice_get}
 use Rattle.std.specs.Borrow.{Bor}
 use Rattle.std.specs.Cmp.Lexicographic.{pointwise}
 use Rattle.std.specs.HashMap.{HashMap}
@@ -15,12 +15,11 @@ use Rattle.std.proofs.lemmas.List.Folds.{list_any-append}
 use Rattle.std.proofs.lemmas.List.FromFn.{map-range_with_len_more}
 use Rattle.std.proofs.lemmas.Option.{slice_get-map}
 use Rattle.std.proofs.lemmas.Slice.Eq.{bytes_eq-Decides}
-use Rattle.semver.specs.Identifiers.{parts_text}
 use Rattle.rustsec_lock.specs.Package.{PackageValue}
 use Rattle.rustsec_lock.specs.Source.{Source, source_text}
-use Rattle.rustsec_graph.specs.Candidates.{Candidate, candidate_of, in_entries, source_texts, texts_from, with_source, with_version, without_precise}
-use Rattle.rustsec_graph.specs.Entries.{fits, fits_at, fitting, places}
-use Rattle.rustsec_graph.specs.Words.{AreWords, FindsAll, first_word, has_word, has_word_at, is_space, places_under, with_word}
+use Rattle.rustsec_graph.specs.Candidates.{Candidate, candidate_of, in_entries, source_texts, with_source, with_version, without_precise}
+use Rattle.rustsec_graph.specs.Entries.{fits, fits_at, places}
+use Rattle.rustsec_graph.specs.Words.{AreWords, FindsAll, first_word, has_word, has_word_at, is_space}
 
 -- ---- first words
 

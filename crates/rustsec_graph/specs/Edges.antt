@@ -5,7 +5,7 @@ use Rattle.toml.specs.Data.{Data, Items, Members, as_array}
 use Rattle.rustsec_toml.specs.Fields.{list_of}
 use Rattle.rustsec_lock.specs.Package.{PackageValue}
 use Rattle.rustsec_graph.specs.Candidates.{Candidate, candidates}
-use Rattle.rustsec_graph.specs.Entries.{named_by, places, value_at}
+use Rattle.rustsec_graph.specs.Entries.{named_by, packages_in, places, value_at, value_in}
 use Rattle.rustsec_graph.specs.Paths.{successors}
 
 -- the places that a list of entries names, in their order; a value that is not a list has no entries
@@ -55,13 +55,22 @@ abbrev pub unreplaced : List Candidate → Option Data → ℕ
 unreplaced cs None = 0
 unreplaced cs (Some d) = count_missing (named_by cs d)
 
--- the places that the entries of a package name: those at `dependencies`, then the one at `replace`
-abbrev pub targets_at : List Candidate → Members → ℕ → List ℕ
-targets_at cs ms place = targets_of cs (dependencies_at ms place) ++ replaced cs (replace_at ms place)
+-- the places that the entries of a package name, by the values of the array `package`: those at `dependencies`, then the
+-- one at `replace`
+abbrev pub targets_in : List Candidate → Option (List Data) → ℕ → List ℕ
+targets_in cs packages place = targets_of cs (value_in (codes "dependencies") packages place) ++ replaced cs (value_in (codes "replace") packages place)
 
--- how many entries of a package name no place
+-- likewise by the document
+abbrev pub targets_at : List Candidate → Members → ℕ → List ℕ
+targets_at cs ms place = targets_in cs (packages_in ms) place
+
+-- how many entries of a package name no place, by the values of the array `package`
+abbrev pub unresolved_in : List Candidate → Option (List Data) → ℕ → ℕ
+unresolved_in cs packages place = unresolved_of cs (value_in (codes "dependencies") packages place) + unreplaced cs (value_in (codes "replace") packages place)
+
+-- likewise by the document
 abbrev pub unresolved_at : List Candidate → Members → ℕ → ℕ
-unresolved_at cs ms place = unresolved_of cs (dependencies_at ms place) + unreplaced cs (replace_at ms place)
+unresolved_at cs ms place = unresolved_in cs (packages_in ms) place
 
 -- for each package the places that its entries name
 abbrev pub edges_of : Members → List PackageValue → List (List ℕ)

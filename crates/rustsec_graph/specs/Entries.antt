@@ -67,9 +67,13 @@ packages_in ms = option_map list_of (get_member (codes "package") ms >>= as_arra
 abbrev pub table_at : ℕ → List Data → Option Members
 table_at place ds = slice_get ds place >>= as_table
 
--- the value at a key of the table of a package, by its place in the array `package`
+-- the value at a key of the table of a package, by its place in the array `package` and the values of that array
+abbrev pub value_in : List ℕ → Option (List Data) → ℕ → Option Data
+value_in key packages place = packages >>= table_at place >>= get_member key
+
+-- likewise by the document
 abbrev pub value_at : List ℕ → Members → ℕ → Option Data
-value_at key ms place = packages_in ms >>= table_at place >>= get_member key
+value_at key ms place = value_in key (packages_in ms) place
 
 -- what is found after one more place: the place if it is the only one so far, else none
 abbrev pub next_found : Option (Option ℕ) → ℕ → Option (Option ℕ)

@@ -1,5 +1,5 @@
 -- A breadth-first search from the roots. It finds each place by the first of its shortest paths.
-use Rattle.std.specs.Prelude.{◌≡◌, ◌+◌, ◌<◌, ◌≤◌, ◌++◌, ◌⊎◌, ℕ, zero, suc, Contains, List, [], ◌∷◌, Option, Some, None, length, nat_eq, option_map, set, slice_index_or}
+use Rattle.std.specs.Prelude.{◌≡◌, ◌<◌, ◌≤◌, ◌++◌, ◌⊎◌, ℕ, zero, suc, Contains, List, [], ◌∷◌, Option, Some, None, length, nat_eq, option_map, set, slice_index_or}
 use Rattle.std.specs.List.{AllPairs, IsDistinct, fold}
 use Rattle.std.specs.Option.{option_map_or}
 use Rattle.rustsec_graph.specs.Paths.{HasEdge}

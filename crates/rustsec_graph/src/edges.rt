@@ -1,18 +1,19 @@
 //! The edges between the packages of a lockfile.
 
-ghost use Rattle.std.specs.Prelude.{◌≡◌, ◌<◌, ◌==◌, ◌&&◌, ◌||◌, not, false, IfOk, length, map, slice_get, slice_index_or, ℕ};
+ghost use Rattle.std.specs.Prelude.{◌≡◌, ◌<◌, ◌==◌, ◌&&◌, ◌||◌, not, false, IfOk, OnErr, length, map, option_map, slice_get, slice_index_or, ℕ};
 ghost use Rattle.std.specs.List.{list_any, range_with_len};
-ghost use Rattle.toml.specs.View.{table_view};
-ghost use Rattle.rustsec_graph.specs.Edges.{dependents, is_needed, is_successor, targets_at, unresolved_at};
+ghost use Rattle.toml.specs.View.{table_view, view};
+ghost use Rattle.rustsec_graph.specs.Edges.{dependents, is_needed, is_successor, targets_at, targets_in, unresolved_at, unresolved_in};
+ghost use Rattle.rustsec_graph.specs.Entries.{places};
 ghost use Rattle.rustsec_graph.specs.Graph.{is_local, roots_of};
 
-use crate::entries::{resolve, resolve_more, value_at};
+use crate::entries::{packages_in, resolve, resolve_more, value_in};
 use crate::index::Index;
 use crate::search::successors_of;
 use rustsec_lock::package::Package;
 use rustsec_values::Items;
 use std::alloc::{AllocError, Global};
-use toml::Table;
+use toml::{Table, Value};
 
 /// The places that each package depends on, and how many entries of each name no package.
 pub(crate) struct Resolved {
@@ -20,21 +21,22 @@ pub(crate) struct Resolved {
     pub(crate) unresolved: Items<usize>,
 }
 
-/// Returns the places that the entries of a package name, and how many of its entries name none.
+/// Returns the places that the entries of a package name, and how many of its entries name none, by the values of the
+/// array `package`.
 fn resolve_at(
     alloc: Global,
-    table: &Table,
+    packages: Option<&[Value]>,
     index: &Index<'_>,
     place: usize,
 ) -> Result<(Items<usize>, usize), AllocError>
-    ensures targets { IfOk result (λ r. r.0 ≡ targets_at index.now (table_view table.now) place) }
-    ensures unresolved { IfOk result (λ r. r.1 ≡ unresolved_at index.now (table_view table.now) place) }
+    ensures targets { IfOk result (λ r. r.0 ≡ targets_in index.now (option_map (λ vs. map view vs.now) packages.entry) place) }
+    ensures unresolved { IfOk result (λ r. r.1 ≡ unresolved_in index.now (option_map (λ vs. map view vs.now) packages.entry) place) }
 {
-    let (targets, unresolved) = resolve(alloc, index, value_at(table, "dependencies", place))?;
+    let (targets, unresolved) = resolve(alloc, index, value_in(packages, "dependencies", place))?;
     resolve_more(
         alloc,
         index,
-        value_at(table, "replace", place),
+        value_in(packages, "replace", place),
         targets,
         unresolved,
     )
@@ -51,10 +53,11 @@ pub(crate) fn resolve_all(
     ensures unresolved { IfOk result (λ r. r.unresolved
         ≡ map (unresolved_at index.now (table_view table.now)) (range_with_len 0 (length index.now))) }
 {
+    let packages = packages_in(table);
     let mut edges = Items::new(alloc);
     let mut unresolved = Items::new(alloc);
     for place in 0..index.candidates().len() {
-        let (targets, missing) = resolve_at(alloc, table, index, place)?;
+        let (targets, missing) = resolve_at(alloc, packages, index, place)?;
         edges.push(targets)?;
         unresolved.push(missing)?;
     }
@@ -103,14 +106,28 @@ fn is_marked(marks: &[bool], place: usize) -> bool
     }
 }
 
+/// Returns whether there is an edge to a place.
+fn has_dependents(edges: &[Items<usize>], place: usize) -> bool
+    ensures { result ≡ list_any (is_successor edges.now place) (places (length edges.now)) }
+{
+    (0..edges.len()).any(|from| is_successor(edges, place, from))
+}
+
 /// Returns the places with an edge to a place, in order.
+#[tactic(auto, using(crate::proofs::Lists::any_kept, crate::proofs::Lists::none_kept))]
 pub(crate) fn dependents(
     alloc: Global,
     edges: &[Items<usize>],
     place: usize,
 ) -> Result<Vec<usize>, AllocError>
-    ensures { IfOk result (λ v. v.items ≡ dependents edges.now place) }
+    ensures ok { IfOk result (λ v. v.items ≡ dependents edges.now place) }
+
+    // No place takes no memory.
+    ensures none { OnErr result (0 < length (dependents edges.now place)) }
 {
+    if !has_dependents(edges, place) {
+        return Ok(Vec::new(alloc));
+    }
     (0..edges.len())
         .filter(|from| is_successor(edges, place, *from))
         .collect(alloc)

@@ -1,11 +1,11 @@
 //! Which package a dependency entry names.
 
-ghost use Rattle.std.specs.Prelude.{◌≡◌, ◌+◌, ◌-◌, ◌++◌, IfOk, OnOk, filter_map, length, map, option_map};
+ghost use Rattle.std.specs.Prelude.{◌≡◌, ◌+◌, ◌-◌, ◌++◌, ◌∷◌, [], IfOk, OnOk, filter_map, length, map, option_map};
 ghost use Rattle.std.specs.List.{filter, list_all};
 ghost use Rattle.std.specs.Option.{option_or};
 ghost use Rattle.toml.specs.View.{table_view, view};
 ghost use Rattle.rustsec_graph.specs.Edges.{as_list, replaced, targets_of, unreplaced, unresolved_of};
-ghost use Rattle.rustsec_graph.specs.Entries.{fits_at, found, is_local_at, is_same_release, named, named_by, next_found, only, only_local, packages_in, release_at, table_at, value_at};
+ghost use Rattle.rustsec_graph.specs.Entries.{fits_at, found, is_local_at, is_same_release, named, named_by, next_found, only, only_local, packages_in, release_at, table_at, value_in};
 
 use crate::candidates::Candidate;
 use crate::index::Index;
@@ -146,12 +146,32 @@ fn named_among(candidates: &[Candidate<'_>], places: &[usize]) -> Option<usize>
     }
 }
 
+/// Returns a place if an entry fits the package there. No other package is near the entry.
+fn fitting_alone(
+    alloc: Global,
+    candidates: &[Candidate<'_>],
+    entry: &str,
+    place: usize,
+) -> Result<Option<usize>, AllocError>
+    ensures { IfOk result (λ found. found ≡ only (filter (fits_at candidates.now entry.now) (place ∷ []))) }
+{
+    if fits_at(alloc, candidates, entry, place)? {
+        Ok(Some(place))
+    } else {
+        Ok(None)
+    }
+}
+
 /// Returns the place of the package that an entry names.
 fn named(alloc: Global, index: &Index<'_>, entry: &str) -> Result<Option<usize>, AllocError>
     ensures { IfOk result (λ place. place ≡ named index.now entry.now) }
 {
     let candidates = index.candidates();
-    let fitting = fitting_among(alloc, candidates, entry, index.near(entry))?;
+    let near = index.near(entry);
+    if let [place] = near {
+        return fitting_alone(alloc, candidates, entry, *place);
+    }
+    let fitting = fitting_among(alloc, candidates, entry, near)?;
     Ok(named_among(candidates, fitting.as_slice()))
 }
 
@@ -231,7 +251,7 @@ pub(crate) fn resolve_more(
 }
 
 /// Returns the values of the array `package`.
-fn packages_in(table: &Table) -> Option<&[Value]>
+pub(crate) fn packages_in(table: &Table) -> Option<&[Value]>
     ensures { option_map (λ vs. map view vs.now) result ≡ packages_in (table_view table.now) }
 {
     let root = Section {
@@ -258,11 +278,15 @@ fn table_at(values: &[Value], place: usize) -> Option<&Table>
     }
 }
 
-/// Returns the value at a key of the table of a package.
-pub(crate) fn value_at<'a>(table: &'a Table, key: &str, place: usize) -> Option<&'a Value>
-    ensures { option_map (λ d. view d.now) result ≡ value_at key.now (table_view table.now) place }
+/// Returns the value at a key of the table of a package, by the values of the array `package`.
+pub(crate) fn value_in<'a>(
+    packages: Option<&'a [Value]>,
+    key: &str,
+    place: usize,
+) -> Option<&'a Value>
+    ensures { option_map (λ d. view d.now) result ≡ value_in key.now (option_map (λ vs. map view vs.now) packages.entry) place }
 {
-    let table = table_at(packages_in(table)?, place)?;
+    let table = table_at(packages?, place)?;
     let package = Section {
         table,
         name: "",

@@ -1,11 +1,11 @@
 //! The graph of a lockfile's dependencies.
 
-ghost use Rattle.std.specs.Prelude.{◌≡◌, IfErr, IfOk, option_map};
+ghost use Rattle.std.specs.Prelude.{◌≡◌, ◌<◌, IfErr, IfOk, List, OnErr, length, option_map, ℕ};
 ghost use Rattle.toml.specs.View.{table_view};
 ghost use Rattle.rustsec_error.specs.Failure.{IsMemory};
 ghost use Rattle.rustsec_graph.specs.Edges.{dependents};
 ghost use Rattle.rustsec_graph.specs.Graph.{graph_of};
-ghost use Rattle.rustsec_graph.specs.Paths.{IsAnswer};
+ghost use Rattle.rustsec_graph.specs.Paths.{IsAnswer, IsPathTo};
 
 use crate::candidates::is_old;
 use crate::edges::{Resolved, dependents, resolve_all, roots_of};
@@ -71,10 +71,13 @@ impl Graph {
     ///
     /// # Errors
     ///
-    /// `OutOfMemory` alone.
+    /// `OutOfMemory` alone, and only if a root reaches the package.
     pub fn path_to(&self, alloc: Global, place: usize) -> Result<Option<Vec<usize>>>
         ensures ok { IfOk result (λ path. IsAnswer self.now.edges self.now.roots place (option_map (λ v. v.items) path)) }
         ensures err { IfErr result IsMemory }
+
+        // No path takes no memory.
+        ensures none { OnErr result ((path : List ℕ) × IsPathTo self.now.edges self.now.roots place path) }
     {
         let path = path_to(alloc, &self.search, place)?;
         Ok(path)
@@ -84,10 +87,13 @@ impl Graph {
     ///
     /// # Errors
     ///
-    /// `OutOfMemory` alone.
+    /// `OutOfMemory` alone, and only if a package depends on it.
     pub fn dependents(&self, alloc: Global, place: usize) -> Result<Vec<usize>>
         ensures ok { IfOk result (λ v. v.items ≡ dependents self.now.edges place) }
         ensures err { IfErr result IsMemory }
+
+        // No package takes no memory.
+        ensures none { OnErr result (0 < length (dependents self.now.edges place)) }
     {
         let places = dependents(alloc, self.edges.as_slice(), place)?;
         Ok(places)

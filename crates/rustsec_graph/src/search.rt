@@ -1,6 +1,6 @@
 //! A breadth-first search from the roots, which finds the first of the shortest paths to each package.
 
-ghost use Rattle.std.specs.Prelude.{◌≡◌, ◌+◌, ◌<◌, [], IfOk, List, None, OnOk, Some, length, option_map, replicate, slice_index_or, ℕ};
+ghost use Rattle.std.specs.Prelude.{◌≡◌, ◌≢◌, ◌+◌, ◌<◌, [], IfOk, List, None, OnErr, OnOk, Some, length, option_map, replicate, slice_index_or, ℕ};
 ghost use Rattle.std.specs.List.{All};
 ghost use Rattle.std.specs.List.Sorted.{IsNonDecreasing, IsPermutation};
 ghost use Rattle.rustsec_graph.specs.Graph.{IsClosed};
@@ -201,7 +201,10 @@ pub(crate) fn path_to(
     place: usize,
 ) -> Result<Option<Vec<usize>>, AllocError>
     requires { (a b : ℕ) → before_of search.now a ≡ Some b → b < a }
-    ensures { IfOk result (λ path. option_map (λ v. v.items) path ≡ path_to search.now place) }
+    ensures ok { IfOk result (λ path. option_map (λ v. v.items) path ≡ path_to search.now place) }
+
+    // A place that was not found takes no memory.
+    ensures none { OnErr result (path_to search.now place ≢ None) }
 {
     match search.seat_of(place) {
         Some(seat) => Ok(Some(path_at(alloc, search, seat)?)),

@@ -1,5 +1,5 @@
-use Rattle.std.proofs.Common.{◌≡◌, ◌∙◌, ◌++◌, ◌∷◌, ◌||◌, ℕ, [], ap, false, not, rules, sym, true}
-use Rattle.std.specs.Prelude.{slice_get, slice_index_or}
+use Rattle.std.proofs.Common.{◌≡◌, ◌∙◌, ◌++◌, ◌∷◌, ◌||◌, ℕ, [], ap, not, rules, sym}
+use Rattle.std.specs.Prelude.{slice_get}
 use Rattle.rustsec_graph.specs.Edges.{is_needed}
 use Rattle.rustsec_graph.specs.Graph.{is_local}
 use Rattle.rustsec_graph.proofs.Words.{place-dropped, place-kept}

@@ -1,4 +1,4 @@
-use Rattle.std.proofs.Common.{◌∙◌, ◌<◌, ap, arith, length, rules}
+use Rattle.std.proofs.Common.{◌<◌, ap, arith, length}
 use Rattle.std.proofs.lemmas.List.Elements.{All-contains}
 use Rattle.rustsec_graph.specs.Search.{SearchValue}
 use Rattle.rustsec_graph.proofs.Searches.{few-seats, roots-searched, whole-from}
