@@ -9,7 +9,7 @@ use Rattle.rustsec_advisory.specs.declared.advisory.Advisory.{Advisory}
 use Rattle.rustsec_osv.specs.Documents.{Document}
 use Rattle.rustsec_osv.specs.Export.{IsDocument}
 use Rattle.rustsec_osv.specs.References.{references_of}
-use Rattle.rustsec_osv.specs.TreeDocument.{document_tree}
+use Rattle.rustsec_osv.specs.DocumentCodec.{document_tree}
 use Rattle.rustsec_commands.specs.Output.{Output, refused_as, tree_line}
 
 -- the output for a document: its tree, and status 0

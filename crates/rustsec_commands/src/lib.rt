@@ -28,5 +28,5 @@ pub use crate::audit::write_audit;
 pub use crate::commands::{run, run_over, run_with_notes};
 pub use crate::fault::Fault;
 pub use crate::output::tree_line;
-pub use crate::overview::Paths;
+pub use crate::overview::{Paths, unlisted_note};
 pub use crate::report::{NotedReport, report_of};

@@ -2,7 +2,7 @@
 
 ghost use Rattle.std.specs.Prelude.{◌≡◌, IfErr, IfOk, string_bytes};
 ghost use Rattle.rustsec_folders.specs.Allowed.{AllowSame};
-ghost use Rattle.rustsec_osv.specs.TreeDocument.{document_tree};
+ghost use Rattle.rustsec_osv.specs.DocumentCodec.{document_tree};
 ghost use Rattle.rustsec_commands.specs.Osv.{IsDocumentOf, IsOsvOutput, IsOsvRefusal, document_output};
 ghost use Rattle.rustsec_commands.specs.Output.{tree_line};
 

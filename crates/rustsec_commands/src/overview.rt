@@ -172,6 +172,20 @@ fn add_unlisted<F: Folders>(
     Ok(())
 }
 
+/// Returns a line of warning if the folder `rust` of a root cannot be listed, else no text. Its advisories are left out
+/// then. No contract mentions the line.
+///
+/// # Errors
+///
+/// `OutOfMemory` alone.
+pub fn unlisted_note<F: Folders>(alloc: Global, folders: &mut F, root: &str) -> Result<String>
+    ensures same { AllowSame (F.allowed folders.old) (F.allowed folders.new) }
+{
+    let mut note = String::new(alloc);
+    add_unlisted(alloc, folders, &mut note, root)?;
+    Ok(note)
+}
+
 /// Returns the lines that say what a report looked at: the folder `rust` if it cannot be listed, the packages that
 /// advisories without a source do not match, the ignored IDs that no advisory has, and the numbers of advisories and
 /// packages.

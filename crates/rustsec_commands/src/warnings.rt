@@ -2,7 +2,7 @@
 //! matching reads differently.
 
 use rustsec_advisory::Advisory;
-use rustsec_lint_database::{edition_note, readings_of, upstream_remarks};
+use rustsec_lint_database::{edition_note, reading_notes, upstream_notes};
 use rustsec_shown::push_shown;
 use std::alloc::{AllocError, Global};
 use std::fmt::Write as _;
@@ -26,18 +26,28 @@ fn add_edition(alloc: Global, note: &mut String, text: &str) -> Result<(), Alloc
 }
 
 /// Appends a warning for each part of an advisory that the Rust crate refuses.
-fn add_upstream(alloc: Global, note: &mut String, advisory: &Advisory) -> Result<(), AllocError> {
-    let remarks = upstream_remarks(alloc, advisory)?;
-    for remark in remarks.as_slice() {
-        add_warning(note, remark.text.as_str())?;
+fn add_upstream(
+    alloc: Global,
+    note: &mut String,
+    text: &str,
+    advisory: &Advisory,
+) -> Result<(), AllocError> {
+    let refused = upstream_notes(alloc, text, advisory)?;
+    for words in refused.as_slice() {
+        add_warning(note, words.as_str())?;
     }
     Ok(())
 }
 
 /// Appends a warning for each of the first requirements that Cargo's matching reads differently, and the number of the
 /// others.
-fn add_readings(alloc: Global, note: &mut String, advisory: &Advisory) -> Result<(), AllocError> {
-    let readings = readings_of(alloc, &advisory.versions)?;
+fn add_readings(
+    alloc: Global,
+    note: &mut String,
+    text: &str,
+    advisory: &Advisory,
+) -> Result<(), AllocError> {
+    let readings = reading_notes(alloc, text, &advisory.versions)?;
     for reading in readings.iter().take(SHOWN) {
         add_warning(note, reading.as_str())?;
     }
@@ -60,6 +70,6 @@ pub fn add_warnings(
     advisory: &Advisory,
 ) -> Result<(), AllocError> {
     add_edition(alloc, note, text)?;
-    add_upstream(alloc, note, advisory)?;
-    add_readings(alloc, note, advisory)
+    add_upstream(alloc, note, text, advisory)?;
+    add_readings(alloc, note, text, advisory)
 }

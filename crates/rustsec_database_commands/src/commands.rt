@@ -12,13 +12,31 @@ use crate::osv_database::osv_database;
 use crate::osv_query::query_osv;
 use crate::stats::stats;
 use crate::words::{Command, command_of};
-use rustsec_commands::Fault;
+use rustsec_commands::{Fault, unlisted_note};
 use rustsec_folders::{Folders, RealFolders};
 use rustsec_program::output::{self, Output};
 use rustsec_program::{finish, write_fault};
 use std::alloc::{AllocError, Global};
 use std::io::{Read, Write};
 use std::rt::Files;
+
+/// Warns if the folder `rust` of a command's database cannot be listed. The warning is lost if it cannot be written or
+/// memory for it is refused.
+fn warn_unlisted<F: Folders, N: Write>(
+    alloc: Global,
+    folders: &mut F,
+    command: Command<'_>,
+    notes: &mut N,
+)
+    ensures same { AllowSame (F.allowed folders.old) (F.allowed folders.new) }
+{
+    let Some(root) = command.root() else {
+        return;
+    };
+    if let Ok(note) = unlisted_note(alloc, folders, root) {
+        let _ = notes.write_all(note.as_bytes());
+    }
+}
 
 /// Makes the output of a command of this crate.
 fn output_of<F: Folders, N: Write>(
@@ -41,6 +59,24 @@ fn output_of<F: Folders, N: Write>(
     }
 }
 
+/// Makes the output of a command of this crate, and warns of a folder `rust` that cannot be listed unless the command is
+/// refused.
+fn noted_output_of<F: Folders, N: Write>(
+    alloc: Global,
+    folders: &mut F,
+    command: Command<'_>,
+    notes: &mut N,
+) -> Result<Output, AllocError>
+    ensures ok { IfOk result (IsOwnOutput (F.allowed folders.old) (command_view command.entry)) }
+    ensures same { AllowSame (F.allowed folders.old) (F.allowed folders.new) }
+{
+    let made = output_of(alloc, folders, command, notes)?;
+    if made.status() < 2 {
+        warn_unlisted(alloc, folders, command, notes);
+    }
+    Ok(made)
+}
+
 /// Carries out the command that the words name, and returns its status:
 ///
 /// - `lint-database`, a root and options: lints all files of the database under the root, and writes what is wrong: a
@@ -61,8 +97,9 @@ fn output_of<F: Folders, N: Write>(
 /// - any other words: as `rustsec_program::run_over`.
 ///
 /// All files are read through `folders`. Notes for a person are written to `notes`: by `lint-database` after each file,
-/// why it is refused and which of its requirements Cargo's matching reads differently, and with `--progress` after each
-/// 1,000 files. Their wording is unspecified. A note is lost if it cannot be written or memory for it is refused.
+/// why it is refused, the lines of its remarks and which of its requirements Cargo's matching reads differently, and with
+/// `--progress` after each 1,000 files; by these four commands, that the folder `rust` cannot be listed. Their wording is
+/// unspecified. A note is lost if it cannot be written or memory for it is refused.
 ///
 /// # Errors
 ///
@@ -88,7 +125,7 @@ pub fn run_over<F: Folders, R: Read, W: Write, N: Write>(
     let Some(command) = command_of(words) else {
         return rustsec_program::run_over(folders, alloc, words, input, output, notes);
     };
-    match output_of(alloc, folders, command, notes) {
+    match noted_output_of(alloc, folders, command, notes) {
         Ok(made) => finish(&made, output, notes),
         Err(_) => {
             write_fault(Fault::Memory, notes);

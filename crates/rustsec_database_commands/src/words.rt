@@ -21,6 +21,19 @@ pub enum Command<'a> {
     Short,
 }
 
+impl<'a> Command<'a> {
+    /// Returns the root of the database that the command reads, if any.
+    pub(crate) fn root(self) -> Option<&'a str> {
+        match self {
+            Command::LintDatabase(root, _)
+            | Command::Stats(root, _)
+            | Command::OsvDatabase(root, _, _) => Some(root),
+            Command::QueryOsv(question) => Some(question.root),
+            Command::Short => None,
+        }
+    }
+}
+
 /// Returns the command of the words after `lint-database`.
 fn lint_of<'a>(words: &'a [&'a str]) -> Command<'a>
     ensures { command_view result ≡ lint_of (map (λ w. w.now) words.now) }

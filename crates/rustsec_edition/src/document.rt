@@ -5,7 +5,7 @@ ghost use Rattle.rustsec_edition.specs.Forms.{first_form};
 
 use crate::form::NewForm;
 use crate::token::{form_at, last, track};
-use rustsec_places::{Place, next_token, skip_mark, up_to};
+use rustsec_places::{Place, after_token, skip_mark, up_to};
 use std::alloc::{AllocError, Global};
 use toml_parser::text::{first, skip_blank};
 
@@ -29,11 +29,12 @@ fn first_found(alloc: Global, document: &str) -> Result<Option<(&str, NewForm)>,
         if rest.is_empty() {
             return Ok(None);
         }
-        if let Some(form) = form_at(alloc, &brackets, before, rest)? {
+        let after = after_token(alloc, rest)?;
+        let next = skip_blank(after, true);
+        if let Some(form) = form_at(&brackets, before, rest, after, next) {
             return Ok(Some((rest, form)));
         }
         track(&mut brackets, first(rest))?;
-        let next = next_token(alloc, rest)?;
         before = last(up_to(next, rest));
         rest = next;
     }

@@ -1,12 +1,13 @@
 //! Which form of TOML 1.1 a token shows.
 
-ghost use Rattle.std.specs.Prelude.{◌≡◌, ◌<◌, ◌^◌, IfOk, OnOk, false};
-ghost use Rattle.rustsec_edition.specs.Forms.{after_bracket, form_at, goes_on_after, has_line_feed_after, has_new_escape, has_two_digits, is_in_table, is_last_comma, is_new_letter, is_new_string, is_short_time, is_table_end, is_table_split, last};
+ghost use Rattle.std.specs.Prelude.{◌≡◌, ◌<◌, ◌^◌, OnOk, false};
+ghost use Rattle.rustsec_edition.specs.Forms.{after_bracket, form_at, goes_on_after, has_line_feed_after, has_new_escape, has_two_digits, is_in_table, is_new_letter, is_new_string, is_short_time, is_table_end, is_table_split, last};
+ghost use Rattle.rustsec_places.specs.Places.{after_token, next_token};
 
 use crate::form::NewForm;
-use rustsec_places::{after_token, next_token, up_to};
-use std::alloc::{AllocError, Global};
-use toml_parser::text::{byte_at, first, skip_blank};
+use rustsec_places::up_to;
+use std::alloc::AllocError;
+use toml_parser::text::{byte_at, first};
 
 /// Returns whether a byte is the letter of an escape of TOML 1.1.
 fn is_new_letter(byte: u8) -> bool
@@ -30,15 +31,13 @@ fn has_new_escape(string: &[u8]) -> bool
     false
 }
 
-/// Returns whether a token is a string between double quotation marks that has an escape of TOML 1.1.
-fn is_new_string(alloc: Global, text: &str) -> Result<bool, AllocError>
-    ensures { IfOk result (λ b. b ≡ is_new_string text.now) }
+/// Returns whether a token is a string between double quotation marks that has an escape of TOML 1.1. The other text is
+/// the one after the token.
+fn is_new_string(text: &str, after: &str) -> bool
+    requires { after.now ≡ after_token text.now }
+    ensures { result ≡ is_new_string text.now }
 {
-    if first(text) != b'"' {
-        return Ok(false);
-    }
-    let rest = after_token(alloc, text)?;
-    Ok(has_new_escape(up_to(rest, text)))
+    first(text) == b'"' && has_new_escape(up_to(after, text))
 }
 
 /// Returns whether a text has two digits at an index.
@@ -101,68 +100,59 @@ fn is_in_table_after(byte: u8, brackets: &[u8]) -> bool
     }
 }
 
-/// Returns whether a token is a comma right before a closing brace.
-fn is_last_comma(alloc: Global, text: &str) -> Result<bool, AllocError>
-    ensures { IfOk result (λ b. b ≡ is_last_comma text.now) }
-{
-    if first(text) != b',' {
-        return Ok(false);
-    }
-    let next = next_token(alloc, text)?;
-    Ok(first(next) == b'}')
-}
-
-/// Returns whether a line feed comes between a token and the next one.
-fn has_line_feed_after(alloc: Global, text: &str) -> Result<bool, AllocError>
-    ensures { IfOk result (λ b. b ≡ has_line_feed_after text.now) }
-{
-    let rest = after_token(alloc, text)?;
-    let next = skip_blank(rest, true);
-    Ok(up_to(next, rest).contains(&b'\n'))
-}
-
 /// Returns whether a token, with these brackets open before it, is a comma right before the closing brace of an inline
-/// table.
-fn is_table_end(alloc: Global, brackets: &[u8], text: &str) -> Result<bool, AllocError>
-    ensures { IfOk result (λ b. b ≡ is_table_end brackets.now text.now) }
+/// table. The last text is the one from the next token on.
+fn is_table_end(brackets: &[u8], text: &str, next: &str) -> bool
+    requires { next.now ≡ next_token text.now }
+    ensures { result ≡ is_table_end brackets.now text.now }
 {
-    if last(brackets) != b'{' {
-        return Ok(false);
-    }
-    is_last_comma(alloc, text)
+    last(brackets) == b'{' && first(text) == b',' && first(next) == b'}'
 }
 
-/// Returns whether a line feed follows a token within an inline table. These brackets are open before the token.
-fn is_table_split(alloc: Global, brackets: &[u8], text: &str) -> Result<bool, AllocError>
-    ensures { IfOk result (λ b. b ≡ is_table_split brackets.now text.now) }
+/// Returns whether a line feed comes between a token and the next one. The texts are the one from the token on, the one
+/// after it, and the one from the next token on.
+fn has_line_feed_after(text: &str, after: &str, next: &str) -> bool
+    requires after { after.now ≡ after_token text.now }
+    requires next { next.now ≡ next_token text.now }
+    ensures { result ≡ has_line_feed_after text.now }
 {
-    if !is_in_table_after(first(text), brackets) {
-        return Ok(false);
-    }
-    has_line_feed_after(alloc, text)
+    up_to(next, after).contains(&b'\n')
+}
+
+/// Returns whether a line feed follows a token within an inline table. These brackets are open before the token, and the
+/// texts are as above.
+fn is_table_split(brackets: &[u8], text: &str, after: &str, next: &str) -> bool
+    requires after { after.now ≡ after_token text.now }
+    requires next { next.now ≡ next_token text.now }
+    ensures { result ≡ is_table_split brackets.now text.now }
+{
+    is_in_table_after(first(text), brackets) && has_line_feed_after(text, after, next)
 }
 
 /// Returns the form of TOML 1.1 that a token shows, if any. The token comes after this byte, and these brackets are open
-/// before it.
+/// before it. The texts are the one from the token on, the one after it, and the one from the next token on.
 pub(crate) fn form_at(
-    alloc: Global,
     brackets: &[u8],
     before: u8,
     text: &str,
-) -> Result<Option<NewForm>, AllocError>
-    ensures { IfOk result (λ o. o ≡ form_at brackets.now before text.now) }
+    after: &str,
+    next: &str,
+) -> Option<NewForm>
+    requires after { after.now ≡ after_token text.now }
+    requires next { next.now ≡ next_token text.now }
+    ensures { result ≡ form_at brackets.now before text.now }
 {
     if is_short_time(before, text) {
-        return Ok(Some(NewForm::Time));
+        return Some(NewForm::Time);
     }
-    if is_new_string(alloc, text)? {
-        return Ok(Some(NewForm::Escape));
+    if is_new_string(text, after) {
+        return Some(NewForm::Escape);
     }
-    if is_table_end(alloc, brackets, text)? {
-        return Ok(Some(NewForm::Comma));
+    if is_table_end(brackets, text, next) {
+        return Some(NewForm::Comma);
     }
-    if is_table_split(alloc, brackets, text)? {
-        return Ok(Some(NewForm::LineFeed));
+    if is_table_split(brackets, text, after, next) {
+        return Some(NewForm::LineFeed);
     }
-    Ok(None)
+    None
 }

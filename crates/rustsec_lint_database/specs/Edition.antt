@@ -1,5 +1,5 @@
 -- The remark on a form of TOML 1.1 in the front matter of an advisory.
-use Rattle.std.specs.Prelude.{◌++◌, ℕ, List, [], ◌∷◌, Option, None, Some, codes}
+use Rattle.std.specs.Prelude.{◌++◌, List, [], ◌∷◌, Option, None, Some, codes}
 use Rattle.rustsec_texts.specs.Parts.{FileParts, parts_of}
 use Rattle.rustsec_edition.specs.Forms.{first_form, form_words}
 use Rattle.rustsec_edition.specs.declared.form.NewForm.{NewForm}
@@ -16,7 +16,3 @@ form_remarks (Some f) = remark kind.Upstream (codes "the Rust crate refuses " ++
 abbrev pub form_of : Option FileParts → Option NewForm
 form_of None = None
 form_of (Some p) = first_form p.front_matter
-
--- the remark on the first form in the front matter of a text
-abbrev pub edition_remarks : List ℕ → List Remark
-edition_remarks text = form_remarks (form_of (parts_of text))

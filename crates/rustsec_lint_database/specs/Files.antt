@@ -6,11 +6,13 @@ use Rattle.rustsec_error.specs.Failure.{kind_text}
 use Rattle.rustsec_error.specs.declared.error.ErrorKind.{ErrorKind}
 use Rattle.rustsec_error.specs.declared.error.ErrorKind.TheVariants as failure
 use Rattle.rustsec_texts.specs.Ids.{IdValue, is_placeholder}
+use Rattle.rustsec_texts.specs.Parts.{parts_of}
+use Rattle.rustsec_edition.specs.declared.form.NewForm.{NewForm}
 use Rattle.rustsec_advisory.specs.Advisory.{IsAdvisory}
 use Rattle.rustsec_advisory.specs.LintErrors.{LintError, lint_error_text}
 use Rattle.rustsec_advisory.specs.Lints.{Lints}
 use Rattle.rustsec_advisory.specs.declared.advisory.Advisory.{Advisory}
-use Rattle.rustsec_lint_database.specs.Edition.{edition_remarks}
+use Rattle.rustsec_lint_database.specs.Edition.{form_of, form_remarks}
 use Rattle.rustsec_lint_database.specs.Placement.{placement_remarks}
 use Rattle.rustsec_lint_database.specs.Remarks.{remark}
 use Rattle.rustsec_lint_database.specs.Upstream.{upstream_remarks}
@@ -26,13 +28,17 @@ lint_remark e = remark kind.Lint (lint_error_text e)
 abbrev pub own_id : Advisory → Option IdValue
 own_id a = if is_placeholder a.metadata.id.text then None else Some a.metadata.id
 
--- the remarks on the file of an advisory with this path, this text and these lint errors
-abbrev pub advisory_remarks : List ℕ → List ℕ → Advisory → List LintError → List Remark
-advisory_remarks path text a errors = map lint_remark errors ++ (placement_remarks path a ++ (upstream_remarks a ++ edition_remarks text))
+-- the remarks on the file of an advisory with this path, these lint errors and this first form of TOML 1.1, if any
+abbrev pub remarks_with : List ℕ → Advisory → List LintError → Option NewForm → List Remark
+remarks_with path a errors form = map lint_remark errors ++ (placement_remarks path a ++ (upstream_remarks a ++ form_remarks form))
 
--- the remarks on the file of an advisory
+-- the file of an advisory with its remarks
+abbrev pub file_with : List ℕ → Advisory → List LintError → Option NewForm → FileLint
+file_with path a errors form = record { path = path; id = own_id a; remarks = remarks_with path a errors form }
+
+-- the file of an advisory with this path, this text and these lint errors
 abbrev pub of_advisory : List ℕ → List ℕ → Advisory → List LintError → FileLint
-of_advisory path text a errors = record { path = path; id = own_id a; remarks = advisory_remarks path text a errors }
+of_advisory path text a errors = file_with path a errors (form_of (parts_of text))
 
 -- the remarks on a file that is refused
 abbrev pub of_refusal : List ℕ → ErrorKind → FileLint

@@ -1,6 +1,6 @@
 //! How many files, faults and notes there are.
 
-ghost use Rattle.std.specs.Prelude.{◌≡◌, ◌+◌, ◌∷◌, [], IfOk, OnOk, count_by, length, not};
+ghost use Rattle.std.specs.Prelude.{◌≡◌, ◌+◌, ◌≤◌, ◌^◌, ◌∷◌, [], IfOk, OnErr, OnOk, count_by, length, not};
 ghost use Rattle.rustsec_lint_database.specs.Counts.{faults, has_earlier, notes};
 ghost use Rattle.rustsec_lint_database.specs.Remarks.{is_fault};
 
@@ -21,7 +21,8 @@ pub struct Counts {
 
 /// Returns the number above a number. Beyond the last one the answer is out of memory.
 fn next(number: usize) -> Result<usize, AllocError>
-    ensures { IfOk result (λ n. n ≡ number + 1) }
+    ensures ok { IfOk result (λ n. n ≡ number + 1) }
+    ensures err { OnErr result (2 ^ 64 ≤ number + 1) }
 {
     match number.checked_add(1) {
         Some(next) => Ok(next),
@@ -35,6 +36,8 @@ impl Counts {
         ensures faults { OnOk result (self.new.faults ≡ self.old.faults + count_by (λ r. is_fault upstream r.kind) (remark.now ∷ [])) }
         ensures notes { OnOk result (self.new.notes ≡ self.old.notes + count_by (λ r. not (is_fault upstream r.kind)) (remark.now ∷ [])) }
         ensures files { self.new.files ≡ self.old.files }
+        ensures sum { OnOk result (self.new.faults + self.new.notes ≡ self.old.faults + self.old.notes + 1) }
+        ensures err { OnErr result (2 ^ 64 ≤ self.old.faults + self.old.notes + 1) }
     {
         if remark.kind.is_fault(upstream) {
             self.faults = next(self.faults)?;
@@ -49,6 +52,8 @@ impl Counts {
         ensures faults { OnOk result (self.new.faults ≡ self.old.faults + count_by (λ r. is_fault upstream r.kind) remarks.now) }
         ensures notes { OnOk result (self.new.notes ≡ self.old.notes + count_by (λ r. not (is_fault upstream r.kind)) remarks.now) }
         ensures files { self.new.files ≡ self.old.files }
+        ensures sum { OnOk result (self.new.faults + self.new.notes ≡ self.old.faults + self.old.notes + length remarks.now) }
+        ensures err { OnErr result (2 ^ 64 ≤ self.old.faults + self.old.notes + length remarks.now) }
     {
         for remark in remarks {
             self.add_remark(upstream, remark)?;
@@ -57,10 +62,12 @@ impl Counts {
     }
 
     /// Adds the remarks on a file, and that it has the ID of an earlier one.
+    #[tactic(auto, using(crate::proofs::CountLaws::all_counted))]
     fn add(&mut self, upstream: bool, entry: &Entry) -> Result<(), AllocError>
         ensures faults { OnOk result (self.new.faults ≡ self.old.faults + faults upstream (entry.now ∷ [])) }
         ensures notes { OnOk result (self.new.notes ≡ self.old.notes + notes upstream (entry.now ∷ [])) }
         ensures files { self.new.files ≡ self.old.files }
+        ensures err { OnErr result (2 ^ 64 ≤ self.old.faults + self.old.notes + (faults upstream (entry.now ∷ []) + notes upstream (entry.now ∷ []))) }
     {
         self.add_remarks(upstream, entry.file.remarks.as_slice())?;
         if entry.first.is_some() {
@@ -75,12 +82,15 @@ impl Counts {
 ///
 /// # Errors
 ///
-/// Out of memory, also if a number is too large.
-#[tactic(auto, using(crate::proofs::CountLaws::faults_more, crate::proofs::CountLaws::notes_more))]
+/// Out of memory, only if there are more faults and notes than a number can count.
+#[tactic(auto, using(crate::proofs::CountLaws::faults_more, crate::proofs::CountLaws::notes_more, crate::proofs::CountLaws::at_most_all))]
 pub fn counts_of(upstream: bool, entries: &[Entry]) -> Result<Counts, AllocError>
     ensures files { IfOk result (λ c. c.files ≡ length entries.now) }
     ensures faults { IfOk result (λ c. c.faults ≡ faults upstream entries.now) }
     ensures notes { IfOk result (λ c. c.notes ≡ notes upstream entries.now) }
+
+    // A call that succeeds takes no memory.
+    ensures err { OnErr result (2 ^ 64 ≤ faults upstream entries.now + notes upstream entries.now) }
 {
     let mut counts = Counts {
         files: entries.len(),

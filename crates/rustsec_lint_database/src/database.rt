@@ -10,6 +10,7 @@ ghost use Rattle.rustsec_lint_database.specs.Firsts.{AreFirsts, IsAdded, file_of
 ghost use Rattle.rustsec_lint_database.specs.declared.file.FileLint.{FileLint};
 
 use crate::file::{FileLint, FileNotes, lint_file};
+use crate::lines::after_line;
 use rustsec_error::{ErrorKind, Result};
 use rustsec_folders::{Folders, source_paths};
 use rustsec_texts::Id;
@@ -102,6 +103,23 @@ impl Linting {
         self.keep_first(&file, &first)?;
         self.entries.push(Entry { file, first })
     }
+
+    /// Appends to the notes on the last file that an earlier one has its ID, if so, after the line of the ID.
+    fn note_first(
+        &self,
+        alloc: Global,
+        notes: &mut FileNotes,
+    ) -> std::result::Result<(), AllocError> {
+        let Some(entry) = self.entries.as_slice().last() else {
+            return Ok(());
+        };
+        let Some(first) = &entry.first else {
+            return Ok(());
+        };
+        let path = first.as_str();
+        let words = format!(in alloc; "the ID is that of {path}")?;
+        notes.words.push(after_line(alloc, notes.id_line, &words)?)
+    }
 }
 
 /// Lints the file at a path after others, and returns the notes on it.
@@ -117,8 +135,10 @@ fn lint_next<F: Folders>(
     ensures same { AllowSame (F.allowed folders.old) (F.allowed folders.new) }
 {
     let linted = lint_file(alloc, folders, path)?;
+    let mut notes = linted.notes;
     linting.add(linted.lint)?;
-    Ok(linted.notes)
+    linting.note_first(alloc, &mut notes)?;
+    Ok(notes)
 }
 
 /// Lints the files at some paths. One text is held at a time.

@@ -2,7 +2,7 @@
 
 ghost use Rattle.std.specs.Prelude.{◌≡◌, ◌++◌, IfOk, OnOk, Some, is_some, option_map};
 ghost use Rattle.rustsec_texts.specs.Parts.{parts_of};
-ghost use Rattle.rustsec_lint_database.specs.Edition.{edition_remarks, form_of, form_remarks};
+ghost use Rattle.rustsec_lint_database.specs.Edition.{form_of, form_remarks};
 
 use crate::placement::between;
 use crate::remark::{Remark, RemarkKind, push_remark};
@@ -26,7 +26,7 @@ fn push_form(alloc: Global, remarks: &mut Items<Remark>, form: NewForm) -> Resul
 }
 
 /// Returns the first form of TOML 1.1 in the front matter of an advisory's text, if any.
-fn form_in(alloc: Global, text: &str) -> Result<Option<FoundForm>, AllocError>
+pub(crate) fn form_in(alloc: Global, text: &str) -> Result<Option<FoundForm>, AllocError>
     ensures { IfOk result (λ o. option_map (λ f. f.form) o ≡ form_of (parts_of text.now)) }
 {
     let Ok(parts) = Parts::parse(alloc, text) else {
@@ -35,18 +35,39 @@ fn form_in(alloc: Global, text: &str) -> Result<Option<FoundForm>, AllocError>
     first_form(alloc, parts.front_matter)
 }
 
-/// Appends a remark if the front matter of a text has a form of TOML 1.1. It names the first one.
+/// Returns the form that was found, if any.
+fn form_found(found: Option<FoundForm>) -> Option<NewForm>
+    ensures { result ≡ option_map (λ f. f.form) found }
+{
+    match found {
+        Some(found) => Some(found.form),
+        None => None,
+    }
+}
+
+/// Appends a remark on the first form of TOML 1.1 in a front matter, if any.
 pub(crate) fn push_edition(
     alloc: Global,
     remarks: &mut Items<Remark>,
-    text: &str,
+    found: Option<FoundForm>,
 ) -> Result<(), AllocError>
-    ensures { OnOk result (remarks.new ≡ remarks.old ++ edition_remarks text.now) }
+    ensures { OnOk result (remarks.new ≡ remarks.old ++ form_remarks (option_map (λ f. f.form) found)) }
 {
-    match form_in(alloc, text)? {
-        Some(found) => push_form(alloc, remarks, found.form),
+    match form_found(found) {
+        Some(form) => push_form(alloc, remarks, form),
         None => Ok(()),
     }
+}
+
+/// Returns the words about a form of TOML 1.1 that was found in the front matter of an advisory's text.
+pub(crate) fn form_note(alloc: Global, text: &str, found: FoundForm) -> Result<Text, AllocError> {
+    let line = found
+        .line
+        .saturating_add(first_line(text))
+        .saturating_sub(1);
+    let form = found.form.words();
+    let words = format!(in alloc; "line {line}: the Rust crate refuses {form} (TOML 1.1)")?;
+    Ok(Text::from(words))
 }
 
 /// Returns the words about the first form of TOML 1.1 in the front matter of an advisory's text, with its line. There are
@@ -61,11 +82,6 @@ pub fn edition_note(alloc: Global, text: &str) -> Result<Option<Text>, AllocErro
     let Some(found) = form_in(alloc, text)? else {
         return Ok(None);
     };
-    let line = found
-        .line
-        .saturating_add(first_line(text))
-        .saturating_sub(1);
-    let form = found.form.words();
-    let words = format!(in alloc; "line {line}: the Rust crate refuses {form} (TOML 1.1)")?;
-    Ok(Some(Text::from(words)))
+    let words = form_note(alloc, text, found)?;
+    Ok(Some(words))
 }

@@ -1,20 +1,22 @@
 //! The remarks on one file.
 
-ghost use Rattle.std.specs.Prelude.{◌≡◌, ◌++◌, ◌≢◌, IfOk, OnOk, map};
+ghost use Rattle.std.specs.Prelude.{◌≡◌, ◌++◌, ◌≢◌, IfOk, OnOk, map, option_map};
 ghost use Rattle.rustsec_folders.specs.Allowed.{AllowSame};
 ghost use Rattle.rustsec_advisory.specs.LintErrors.{LintError};
 ghost use Rattle.rustsec_advisory.specs.declared.advisory.Advisory as given;
 ghost use Rattle.rustsec_error.specs.declared.error.ErrorKind.TheVariants as failure;
 ghost use Rattle.rustsec_lint_database.specs.Placement.{HasNone};
-ghost use Rattle.rustsec_lint_database.specs.Files.{IsLintAt, IsLintOf, advisory_remarks, lint_remark, of_advisory, of_refusal, own_id};
+ghost use Rattle.rustsec_lint_database.specs.Files.{IsLintAt, IsLintOf, file_with, lint_remark, of_advisory, of_refusal, own_id, remarks_with};
 
-use crate::edition::push_edition;
+use crate::edition::{form_in, push_edition};
+use crate::lines::KeyIn;
 use crate::placement::push_placement;
 use crate::remark::{Remark, RemarkKind, push_remark};
 use crate::upstream::push_upstream;
-use crate::words::words_of;
+use crate::words::{Source, words_of};
 use rustsec_advisory::Advisory;
 use rustsec_advisory::linter::{self, Linter};
+use rustsec_edition::FoundForm;
 use rustsec_error::{Error, ErrorKind};
 use rustsec_files::path;
 use rustsec_folders::Folders;
@@ -48,21 +50,21 @@ fn push_lints(
     Ok(())
 }
 
-/// Returns the remarks on the file of an advisory.
+/// Returns the remarks on the file of an advisory with this first form of TOML 1.1.
 fn remarks_of(
     alloc: Global,
     path: &str,
-    text: &str,
     linter: &Linter,
+    found: Option<FoundForm>,
 ) -> Result<Items<Remark>, AllocError>
-    ensures { IfOk result (λ rs. rs ≡ advisory_remarks path.now text.now linter.now.advisory linter.now.errors) }
+    ensures { IfOk result (λ rs. rs ≡ remarks_with path.now linter.now.advisory linter.now.errors (option_map (λ f. f.form) found)) }
 {
     let mut remarks = Items::new(alloc);
     let advisory = linter.advisory();
     push_lints(alloc, &mut remarks, linter.errors())?;
     push_placement(alloc, &mut remarks, path, advisory)?;
     push_upstream(alloc, &mut remarks, advisory)?;
-    push_edition(alloc, &mut remarks, text)?;
+    push_edition(alloc, &mut remarks, found)?;
     Ok(remarks)
 }
 
@@ -78,16 +80,16 @@ fn own_id(advisory: &Advisory) -> Result<Option<Id>, AllocError>
     Ok(Some(copy))
 }
 
-/// Returns the remarks on the file of an advisory.
+/// Returns the file of an advisory with this first form of TOML 1.1, with its remarks.
 fn of_advisory(
     alloc: Global,
     path: &str,
-    text: &str,
     linter: &Linter,
+    found: Option<FoundForm>,
 ) -> Result<FileLint, AllocError>
-    ensures { IfOk result (λ f. f ≡ of_advisory path.now text.now linter.now.advisory linter.now.errors) }
+    ensures { IfOk result (λ f. f ≡ file_with path.now linter.now.advisory linter.now.errors (option_map (λ f. f.form) found)) }
 {
-    let remarks = remarks_of(alloc, path, text, linter)?;
+    let remarks = remarks_of(alloc, path, linter, found)?;
     let id = own_id(linter.advisory())?;
     let path = Text::from_str(alloc, path)?;
     Ok(FileLint { path, id, remarks })
@@ -117,9 +119,11 @@ fn of_refusal(alloc: Global, path: &str, error: &Error) -> Result<FileLint, Allo
 pub struct FileNotes {
     /// Why the file was refused, if it was.
     pub refusal: Option<Error>,
-    /// Words on the advisory: the line of each lint error, the first form of TOML 1.1, and the requirements that Cargo's
-    /// matching reads differently.
+    /// Words on the advisory, with their lines: the first lint errors, the other remarks, and the requirements that
+    /// Cargo's matching reads differently.
     pub words: Items<Text>,
+    /// The line of the advisory's ID, if the file is one's.
+    pub id_line: Option<usize>,
 }
 
 /// A file with its remarks, and the notes on it.
@@ -139,20 +143,37 @@ fn refused(alloc: Global, path: &str, error: Error) -> Result<Linted, AllocError
     let notes = FileNotes {
         refusal: Some(error),
         words: Items::new(alloc),
+        id_line: None,
     };
     Ok(Linted { lint, notes })
+}
+
+/// Returns the notes on the file of an advisory that has these remarks.
+fn notes_on(
+    alloc: Global,
+    source: Source<'_>,
+    remarks: &[Remark],
+) -> Result<FileNotes, AllocError> {
+    Ok(FileNotes {
+        refusal: None,
+        words: words_of(alloc, source, remarks)?,
+        id_line: KeyIn::advisory(source.text, "id").line(alloc)?,
+    })
 }
 
 /// Returns the remarks on the file of an advisory with this text, and the notes on it.
 fn accepted(alloc: Global, path: &str, text: &str, linter: &Linter) -> Result<Linted, AllocError>
     ensures { IfOk result (λ r. r.lint ≡ of_advisory path.now text.now linter.now.advisory linter.now.errors) }
 {
-    let lint = of_advisory(alloc, path, text, linter)?;
-    let words = words_of(alloc, text, linter)?;
-    let notes = FileNotes {
-        refusal: None,
-        words,
+    let found = form_in(alloc, text)?;
+    let lint = of_advisory(alloc, path, linter, found)?;
+    let source = Source {
+        path,
+        text,
+        linter,
+        found,
     };
+    let notes = notes_on(alloc, source, lint.remarks.as_slice())?;
     Ok(Linted { lint, notes })
 }
 

@@ -36,7 +36,7 @@ pub(crate) fn between(
 }
 
 /// Appends the remark on the file's name.
-fn push_name(
+pub(crate) fn push_name(
     alloc: Global,
     remarks: &mut Items<Remark>,
     path: &str,
@@ -53,7 +53,7 @@ fn push_name(
 }
 
 /// Appends the remark on the folder's name.
-fn push_folder(
+pub(crate) fn push_folder(
     alloc: Global,
     remarks: &mut Items<Remark>,
     path: &str,
@@ -75,7 +75,7 @@ fn push_folder(
 }
 
 /// Appends the remark on the collection, for the one that the advisory names and the one that the folder is in.
-fn push_collection(
+pub(crate) fn push_collection(
     alloc: Global,
     remarks: &mut Items<Remark>,
     named: Option<Collection>,

@@ -1,5 +1,6 @@
 //! Notes on requirements that Cargo's matching reads differently.
 
+use crate::lines::{KeyIn, after_line};
 use rustsec_matching::{Difference, find_difference};
 use rustsec_values::{Items, Text};
 use rustsec_versions::{Versions, requirement_text};
@@ -91,4 +92,41 @@ pub fn readings_of(alloc: Global, versions: &Versions) -> Result<Items<Text>, Al
     push_readings(alloc, &mut readings, versions.patched())?;
     push_readings(alloc, &mut readings, versions.unaffected())?;
     Ok(readings)
+}
+
+/// Appends the notes on the requirements of a key that Cargo's matching reads differently, after the line of the key.
+fn push_placed(
+    alloc: Global,
+    notes: &mut Items<Text>,
+    key: KeyIn<'_>,
+    requirements: &[VersionReq],
+) -> Result<(), AllocError> {
+    let mut readings = Items::new(alloc);
+    push_readings(alloc, &mut readings, requirements)?;
+    if readings.is_empty() {
+        return Ok(());
+    }
+    let line = key.line(alloc)?;
+    for reading in readings.as_slice() {
+        notes.push(after_line(alloc, line, reading.as_str())?)?;
+    }
+    Ok(())
+}
+
+/// Returns the notes of `readings_of` on an advisory with this text, each after the line of the requirement's list.
+///
+/// # Errors
+///
+/// Out of memory.
+pub fn reading_notes(
+    alloc: Global,
+    text: &str,
+    versions: &Versions,
+) -> Result<Items<Text>, AllocError> {
+    let mut notes = Items::new(alloc);
+    let patched = KeyIn::versions(text, "patched");
+    push_placed(alloc, &mut notes, patched, versions.patched())?;
+    let unaffected = KeyIn::versions(text, "unaffected");
+    push_placed(alloc, &mut notes, unaffected, versions.unaffected())?;
+    Ok(notes)
 }

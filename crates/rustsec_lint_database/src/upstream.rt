@@ -6,11 +6,12 @@ ghost use Rattle.rustsec_versions.specs.Views.{comparators_of};
 ghost use Rattle.rustsec_advisory.specs.Addresses.{address_of};
 ghost use Rattle.rustsec_lint_database.specs.Upstream.{overlap_remarks, source_remarks, upstream_remarks};
 
+use crate::lines::{KeyIn, push_remarks};
 use crate::remark::{Remark, RemarkKind, push_remark};
 use rustsec_advisory::{Address, Advisory};
 use rustsec_error::ErrorKind;
 use rustsec_lock::SourceId;
-use rustsec_values::Items;
+use rustsec_values::{Items, Text};
 use rustsec_versions::Versions;
 use semver::VersionReq;
 use std::alloc::{AllocError, Global};
@@ -136,4 +137,27 @@ pub fn upstream_remarks(alloc: Global, advisory: &Advisory) -> Result<Items<Rema
     let mut remarks = Items::new(alloc);
     push_upstream(alloc, &mut remarks, advisory)?;
     Ok(remarks)
+}
+
+/// Returns the words of `upstream_remarks` on an advisory with this text, each after the line of the key that it is
+/// about. No contract says which words they are.
+///
+/// # Errors
+///
+/// Out of memory.
+pub fn upstream_notes(
+    alloc: Global,
+    text: &str,
+    advisory: &Advisory,
+) -> Result<Items<Text>, AllocError> {
+    let mut notes = Items::new(alloc);
+    let mut overlap = Items::new(alloc);
+    push_overlap(alloc, &mut overlap, &advisory.versions)?;
+    let patched = KeyIn::versions(text, "patched");
+    push_remarks(alloc, &mut notes, patched, overlap.as_slice())?;
+    let mut address = Items::new(alloc);
+    push_source(alloc, &mut address, &advisory.metadata.source)?;
+    let source = KeyIn::advisory(text, "source");
+    push_remarks(alloc, &mut notes, source, address.as_slice())?;
+    Ok(notes)
 }

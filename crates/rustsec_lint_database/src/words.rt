@@ -1,22 +1,42 @@
-//! Words on an advisory for a person: where its lint errors are, and what others read differently.
+//! Words on an advisory for a person: where the remarks on it are, and what others read differently.
 
-use crate::edition::edition_note;
-use crate::readings::readings_of;
+use crate::edition::form_note;
+use crate::lines::{KeyIn, after_line, push_remarks};
+use crate::placement::{push_collection, push_folder, push_name};
+use crate::readings::reading_notes;
+use crate::remark::{Remark, RemarkKind};
+use crate::upstream::upstream_notes;
 use rustsec_advisory::lint_error_line;
 use rustsec_advisory::linter::{self, Linter};
+use rustsec_database::filing;
+use rustsec_edition::FoundForm;
 use rustsec_values::{Items, Text};
 use std::alloc::{AllocError, Global};
 
 /// The number of lint errors whose lines are named. Each takes a search of the whole front matter.
 const SHOWN: usize = 10;
 
+/// The file of an advisory: its path, its text, what the linter read of it, and the first form of TOML 1.1 in it.
+#[derive(Clone, Copy)]
+pub(crate) struct Source<'a> {
+    /// The path.
+    pub path: &'a str,
+    /// The text.
+    pub text: &'a str,
+    /// What the linter read.
+    pub linter: &'a Linter,
+    /// The form, if any.
+    pub found: Option<FoundForm>,
+}
+
 /// Returns a lint error after its line in the text of the advisory, if the line is known.
 fn placed(alloc: Global, text: &str, error: &linter::Error) -> Result<Option<Text>, AllocError> {
     let Some(line) = lint_error_line(alloc, text, error)? else {
         return Ok(None);
     };
-    let words = format!(in alloc; "line {line}: {error}")?;
-    Ok(Some(Text::from(words)))
+    let words = error.to_string(alloc)?;
+    let placed = after_line(alloc, Some(line), &words)?;
+    Ok(Some(placed))
 }
 
 /// Returns the first lint errors of an advisory's text after their lines, and how many more there are.
@@ -39,19 +59,58 @@ fn lint_words(
     Ok(words)
 }
 
-/// Returns the words on an advisory and its text.
+/// Returns whether a remark is of a kind.
+fn has_kind(remarks: &[Remark], kind: RemarkKind) -> bool {
+    remarks.iter().any(|remark| remark.kind == kind)
+}
+
+/// Appends the words on the place of an advisory's file: on its name, its folder and its collection, after the lines of
+/// the ID, the package and the collection.
+fn push_place(
+    alloc: Global,
+    words: &mut Items<Text>,
+    source: Source<'_>,
+) -> Result<(), AllocError> {
+    let (path, text, advisory) = (source.path, source.text, source.linter.advisory());
+    let mut name = Items::new(alloc);
+    push_name(alloc, &mut name, path, advisory)?;
+    push_remarks(alloc, words, KeyIn::advisory(text, "id"), name.as_slice())?;
+    let mut folder = Items::new(alloc);
+    push_folder(alloc, &mut folder, path, advisory)?;
+    let package = KeyIn::advisory(text, "package");
+    push_remarks(alloc, words, package, folder.as_slice())?;
+    let mut collection = Items::new(alloc);
+    let (named, at) = (advisory.metadata.collection, filing::collection_at(path));
+    push_collection(alloc, &mut collection, named, at)?;
+    let key = KeyIn::advisory(text, "collection");
+    push_remarks(alloc, words, key, collection.as_slice())
+}
+
+/// Appends some words.
+fn push_all(words: &mut Items<Text>, more: Items<Text>) -> Result<(), AllocError> {
+    for text in Vec::from(more) {
+        words.push(text)?;
+    }
+    Ok(())
+}
+
+/// Returns the words on the file of an advisory that has these remarks.
 pub(crate) fn words_of(
     alloc: Global,
-    text: &str,
-    linter: &Linter,
+    source: Source<'_>,
+    remarks: &[Remark],
 ) -> Result<Items<Text>, AllocError> {
-    let mut words = lint_words(alloc, text, linter.errors())?;
-    if let Some(edition) = edition_note(alloc, text)? {
-        words.push(edition)?;
+    let (text, advisory) = (source.text, source.linter.advisory());
+    let mut words = lint_words(alloc, text, source.linter.errors())?;
+    if has_kind(remarks, RemarkKind::Misplaced) {
+        push_place(alloc, &mut words, source)?;
     }
-    let advisory = linter.advisory();
-    for reading in Vec::from(readings_of(alloc, &advisory.versions)?) {
-        words.push(reading)?;
+    if has_kind(remarks, RemarkKind::Upstream) {
+        push_all(&mut words, upstream_notes(alloc, text, advisory)?)?;
     }
+    if let Some(found) = source.found {
+        words.push(form_note(alloc, text, found)?)?;
+    }
+    push_all(&mut words, reading_notes(alloc, text, &advisory.versions)?)?;
     Ok(words)
 }

@@ -14,8 +14,8 @@ returns-in-Some c =
     let more : (length c.tokens.rest.now == 0) ≡ false = grind (arith, common_steps) in
     let left = length c.args.document.now - (c.tokens._at + 1) in
     let room : length c.args.document.now - c.tokens._at ≡ suc left = omega (arith, c.tokens-test.true) in
-    let shown : form_at c.tokens.brackets.items c.tokens.before c.tokens.rest.now ≡ c.in_ok-form.field-0 =
-    ap (λ bs. form_at bs c.tokens.before c.tokens.rest.now) (sym c.deref.ensures.value) ∙ sym c.in_ok-form.ensures in
+    let shown : form_at c.tokens.brackets.items c.tokens.before c.tokens.rest.now ≡ c.form_at.result =
+    ap (λ bs. form_at bs c.tokens.before c.tokens.rest.now) (sym c.deref.ensures.value) ∙ sym c.form_at.ensures in
     sym (c.tokens.invariant.1 ∙ one_more _ left _ _ _ room more ∙ some_first _ _ _ (shown ∙ c.in-Some.is))
 
 pub tokens-preserved : goal.tokens-preserved
@@ -23,10 +23,10 @@ tokens-preserved c =
     let more : (length c.tokens.rest.now == 0) ≡ false = grind (arith, common_steps) in
     let left = length c.args.document.now - (c.tokens._at + 1) in
     let room : length c.args.document.now - c.tokens._at ≡ suc left = omega (arith, c.tokens-test.true) in
-    let shown : form_at c.tokens.brackets.items c.tokens.before c.tokens.rest.now ≡ c.in_ok-form.field-0 =
-    ap (λ bs. form_at bs c.tokens.before c.tokens.rest.now) (sym c.deref.ensures.value) ∙ sym c.in_ok-form.ensures in (
+    let shown : form_at c.tokens.brackets.items c.tokens.before c.tokens.rest.now ≡ c.form_at.result =
+    ap (λ bs. form_at bs c.tokens.before c.tokens.rest.now) (sym c.deref.ensures.value) ∙ sym c.form_at.ensures in (
       search rules,
-      rw (c.in_ok-track.ensures, c.first.ensures, c.last-before.ensures, c.up_to.ensures.value, c.in_ok-next.ensures.value)
+      rw (c.in_ok-track.ensures, c.first.ensures, c.last-before.ensures, c.up_to.ensures.value, c.skip_blank-next.ensures.rest, c.in_ok-after.ensures.value)
           (c.tokens.invariant.1 ∙ one_more _ left _ _ _ room more ∙ none_first _ _ (shown ∙ c.in_default.is)),
     )
 

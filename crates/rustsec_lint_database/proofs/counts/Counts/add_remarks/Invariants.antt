@@ -10,4 +10,5 @@ invariant-loop-remark l = record {
   faults : l.self.faults ≡ l.fn.self.faults + count_by (λ (r : Remark). is_fault l.upstream r.kind) (take l.remark-index l.remarks);
   notes : l.self.notes ≡ l.fn.self.notes + count_by (λ (r : Remark). not (is_fault l.upstream r.kind)) (take l.remark-index l.remarks);
   files : l.self.files ≡ l.fn.self.files;
+  sum : l.self.faults + l.self.notes ≡ l.fn.self.faults + l.fn.self.notes + l.remark-index;
 }
