@@ -54,17 +54,17 @@ const REFUSED: &[Row<'static>] = &[
     (
         "```toml\n[advisory]\nid = \"RUSTSEC-2001-2101\"\npackage = \"base\"\ndate = \"2001-02-03\"\n[versions]\npatched = [\">= 1.0.0\", \">= 1.5.0\"]\n```\n\n# T\n\nD\n",
         0,
-        "rustsec_audit: warning: the Rust crate refuses patched requirements that overlap\n",
+        "rustsec_audit: warning: line 7: the Rust crate refuses patched requirements that overlap\n",
     ),
     (
         "```toml\n[advisory]\nid = \"RUSTSEC-2001-2101\"\npackage = \"base\"\ndate = \"2001-02-03\"\nsource = \"registry+nowhere\"\n[versions]\npatched = [\">= 1.0.0\", \">= 1.5.0\"]\n```\n\n# T\n\nD\n",
         0,
-        "rustsec_audit: warning: the Rust crate refuses patched requirements that overlap\nrustsec_audit: warning: the Rust crate refuses a `source` whose address is not a URL\n",
+        "rustsec_audit: warning: line 8: the Rust crate refuses patched requirements that overlap\nrustsec_audit: warning: line 6: the Rust crate refuses a `source` whose address is not a URL\n",
     ),
     (
         "```toml\n[advisory]\nid = \"RUSTSEC-2001-2101\"\npackage = \"base\"\ndate = \"2001-02-03\"\nsource = \"registry+https://a b.example/\"\n[versions]\npatched = []\n```\n\n# T\n\nD\n",
         0,
-        "rustsec_audit: warning: the Rust crate refuses a `source` whose address is not a URL\n",
+        "rustsec_audit: warning: line 6: the Rust crate refuses a `source` whose address is not a URL\n",
     ),
     (
         "```toml\n[advisory]\nid = \"RUSTSEC-2001-2101\"\npackage = \"base\"\ndate = \"2001-02-03\"\n# \"\\e\"\nkeywords = ['\\e', \"a\", \"\\\\\\x62\"]\n[versions]\npatched = []\n```\n\n# T\n\nD\n",
@@ -98,7 +98,7 @@ const DIFFERENT: &[Row<'static>] = &[
     (
         "```toml\n[advisory]\nid = \"RUSTSEC-2001-2101\"\npackage = \"base\"\ndate = \"2001-02-03\"\n[versions]\npatched = [\"> 4\"]\nunaffected = [\"<= 2\", \"= 3.1\"]\n```\n\n# T\n\nD\n",
         0,
-        "rustsec_audit: warning: `>4` is read as `>4.0.0`: 4.0.1 is held, though Cargo's matching does not hold it\nrustsec_audit: warning: `<=2` is read as `<=2.0.0`: 2.0.1 is not held, though Cargo's matching holds it\nrustsec_audit: warning: `=3.1` is read as `=3.1.0`: 3.1.1 is not held, though Cargo's matching holds it\n",
+        "rustsec_audit: warning: line 7: `>4` is read as `>4.0.0`: 4.0.1 is held, though Cargo's matching does not hold it\nrustsec_audit: warning: line 8: `<=2` is read as `<=2.0.0`: 2.0.1 is not held, though Cargo's matching holds it\nrustsec_audit: warning: line 8: `=3.1` is read as `=3.1.0`: 3.1.1 is not held, though Cargo's matching holds it\n",
     ),
     (
         "```toml\n[advisory]\nid = \"RUSTSEC-2001-2101\"\npackage = \"base\"\ndate = \"2001-02-03\"\n[versions]\npatched = [\"> 4.0.0\"]\nunaffected = [\"< 2\", \"= 3.1.0\", \"^3.2\", \"~3.1.1\"]\n```\n\n# T\n\nD\n",

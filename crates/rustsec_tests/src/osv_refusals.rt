@@ -111,3 +111,33 @@ fn deep_trees_are_refused(rt: HostRuntime) -> std::result::Result<(), Fail> {
     assert!(rt; is_shown_in_part(rt.alloc(), 1000)?);
     Ok(())
 }
+
+/// Returns a list of one text of this many bytes.
+fn large_list(alloc: Global, length: usize) -> std::result::Result<Value, AllocError> {
+    let text = "a".repeat(alloc, length)?;
+    let mut items = Vec::new(alloc);
+    items.push(Value::from(text))?;
+    Ok(Value::Array(items))
+}
+
+/// The refusal of a list of a long text of `a`.
+const BEGINNING: &str =
+    "found the list `[\"aaaaaaaaaaaaaaaaaaaaaaaaaaaaaaaaaaaaaaaaaaaaaaaaaaaaaaaaaa`, expected an object";
+
+/// Returns whether a large tree is refused with the beginning of its text, the same for each length.
+fn is_beginning_shown(alloc: Global, length: usize) -> std::result::Result<bool, Fail> {
+    let tree = large_list(alloc, length)?;
+    Ok(refuses(OsvAdvisory::from_value(alloc, &tree), BEGINNING, false))
+}
+
+// A tree of 10 MB is refused with the message of one of 100 bytes.
+#[test]
+fn large_trees_are_refused(rt: HostRuntime) -> std::result::Result<(), Fail> {
+    for length in &[100, 10_000_000] {
+        assert!(rt;
+            is_beginning_shown(rt.alloc(), *length)?,
+            "of {length} bytes"
+        );
+    }
+    Ok(())
+}

@@ -231,12 +231,59 @@ fn large_check_by_policy(rt: HostRuntime) -> Result<(), Fail> {
     Ok(())
 }
 
+/// Returns how often a text contains another one.
+fn occurrences(text: &[u8], part: &str) -> usize {
+    match str::from_utf8(text) {
+        Ok(text) => text.matches(part).count(),
+        Err(_) => 0,
+    }
+}
+
+/// A form of a check, a text in it, and how often the form of a check of all packages contains this text.
+type Form<'a> = (&'a str, &'a str, usize);
+
+/// Markdown has a limit of bytes, so it is the line with the number of findings that is looked at.
+const FORMS: &[Form<'static>] = &[
+    ("json", "\"dependents\":[", COUNT),
+    ("sarif", "\"ruleIndex\":", COUNT),
+    ("html", "<article>\n", COUNT),
+    ("markdown", "## 300 findings: 300 denied, 0 not denied\n", 1),
+];
+
+/// Returns whether a check of all packages in a form contains its text as often as the form says.
+fn contains_all<T: Files + AllocGlobal>(rt: &T, form: &Form<'_>) -> Result<bool, Fail> {
+    let (name, part, count) = form;
+    let words = &[
+        "check",
+        "large-forms",
+        "large-forms/Cargo.lock",
+        "--format",
+        name,
+    ];
+    let mut written = Vec::new(rt.alloc());
+    let status = append(rt, words, "", &mut written)?;
+    Ok(status == 1 && occurrences(written.as_slice(), part) == *count)
+}
+
+/// Checks each form of a check of all packages.
+fn expect_forms<T: Files + AllocGlobal + Abort>(rt: &T, forms: &[Form<'_>]) -> Result<(), Fail> {
+    for form in forms {
+        assert!(rt; contains_all(rt, form)?, "as {}", form.0);
+    }
+    Ok(())
+}
+
+#[test]
+fn large_check_in_each_form(rt: HostRuntime) -> Result<(), Fail> {
+    make(&rt, "large-forms")?;
+    expect_forms(&rt, FORMS)?;
+    fs::remove_dir_all(&rt, "large-forms")?;
+    Ok(())
+}
+
 /// Returns whether a line lists each ignored pair.
 fn lists_all(line: &[u8]) -> bool {
-    match str::from_utf8(line) {
-        Ok(text) => text.matches("{\"advisory\":\"RUSTSEC-2001-").count() == COUNT,
-        Err(_) => false,
-    }
+    occurrences(line, "{\"advisory\":\"RUSTSEC-2001-") == COUNT
 }
 
 /// Returns the list of that many lockfiles. All are the same one.

@@ -1,16 +1,13 @@
 //! Advisories with a description of a megabyte, and with thousands of affected functions.
 
 use crate::folders::output_over;
-use crate::numbers::{FUNCTIONS, numbered, occurrences};
+use crate::numbers::{FUNCTIONS, MEGABYTE, numbered, occurrences};
 use rustsec_advisory::{Advisory, Linter};
 use rustsec_fixtures::{Holds, VALID, changed};
 use rustsec_osv::OsvAdvisory;
 use serde_json::Value;
 use std::alloc::Global;
 use std::test::Fail;
-
-/// How many bytes the description has.
-const MEGABYTE: usize = 1 << 20;
 
 /// The time of the last change.
 const MODIFIED: &str = "2020-01-01T00:00:00Z";

@@ -19,7 +19,7 @@ const PACKAGE: &str = "[[package]]\nname = \"package-@\"\nversion = \"0.0.@\"\n\
     source = \"registry+https://github.com/rust-lang/crates.io-index\"\n";
 
 /// The package `base` in a version with a number, in a lockfile.
-const BASE: &str = "[[package]]\nname = \"base\"\nversion = \"0.0.@\"\n\
+pub(crate) const BASE: &str = "[[package]]\nname = \"base\"\nversion = \"0.0.@\"\n\
     source = \"registry+https://github.com/rust-lang/crates.io-index\"\n";
 
 /// Returns the file of the advisory with a number.

@@ -6,13 +6,19 @@
 #[cfg(test)]
 mod descriptions;
 #[cfg(test)]
+mod differences;
+#[cfg(test)]
 mod files;
 #[cfg(test)]
 mod folders;
 #[cfg(test)]
+mod indexes;
+#[cfg(test)]
 mod lists;
 #[cfg(test)]
 mod numbers;
+#[cfg(test)]
+mod pairs;
 #[cfg(test)]
 mod requirements;
 #[cfg(test)]

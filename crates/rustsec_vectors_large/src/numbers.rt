@@ -15,6 +15,9 @@ pub(crate) const ADVISORIES: u32 = 10000;
 /// How many functions an advisory has.
 pub(crate) const FUNCTIONS: u32 = 10000;
 
+/// How many bytes a long description has.
+pub(crate) const MEGABYTE: usize = 1 << 20;
+
 /// How many bytes a long text has.
 pub(crate) const LONG: usize = 65536;
 

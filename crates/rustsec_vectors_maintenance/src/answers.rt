@@ -37,6 +37,20 @@ pub(crate) fn writes(
     Ok(found == status && written.as_slice() == text.as_bytes())
 }
 
+/// Appends what words write over files for an input, and returns the status.
+pub(crate) fn append_for(
+    alloc: Global,
+    files: Paths<'_>,
+    words: &[&str],
+    input: &str,
+    written: &mut Vec<u8>,
+) -> Result<u8, Fault> {
+    let mut folders = MemoryFolders::new(files, NONE);
+    let mut input: &[u8] = input.as_bytes();
+    let mut notes = io::sink();
+    run_over(&mut folders, alloc, words, &mut input, written, &mut notes)
+}
+
 /// Returns what words write to the error output over files.
 pub(crate) fn notes_of(alloc: Global, files: Paths<'_>, words: &[&str]) -> Result<Vec<u8>, Fault> {
     let mut folders = MemoryFolders::new(files, NONE);

@@ -1,152 +1,53 @@
-//! What is wrong with some files of a database, and what is written about each.
+//! What is wrong with some files of a database, and what is written about each. The lint errors and refusals are those of
+//! the Rust crate's linter, and the lines were counted in the texts, by the keys alone.
+
+mod first;
+mod second;
 
 use crate::files::{collection_of, id_of, path_of};
 use std::alloc::Global;
 use std::test::Fail;
 
-/// What is wrong with a file.
+/// Whose ID is in a file with a fault.
 #[derive(Clone, Copy, PartialEq, Eq, Debug)]
-pub(crate) enum Fault {
-    /// It cannot be read.
-    Unreadable,
-    /// Its text is not an advisory.
-    Unparsed,
-    /// A category is unknown.
-    Category,
-    /// The license is unknown.
-    License,
-    /// It has another name than its ID.
-    Name,
-    /// It is in the folder of another package.
-    Folder,
-    /// It names another collection than that of its folder.
-    Collection,
-    /// It has the ID of the file before it.
-    Twice,
-    /// Its patched requirements overlap.
-    Overlap,
-    /// The address of its source is not a URL.
-    Source,
-    /// Its front matter has a form of TOML 1.1.
-    Edition,
+pub(crate) enum Named {
+    /// That of its name.
+    Own,
+    /// One that no file is named after.
+    Other,
+    /// That of the file before it.
+    Before,
 }
 
-/// The kinds of faults, in the order in which files have them.
-const FAULTS: &[Fault] = &[
-    Fault::Unreadable,
-    Fault::Unparsed,
-    Fault::Category,
-    Fault::License,
-    Fault::Name,
-    Fault::Folder,
-    Fault::Collection,
-    Fault::Twice,
-    Fault::Overlap,
-    Fault::Source,
-    Fault::Unreadable,
-    Fault::Unparsed,
-    Fault::Category,
-    Fault::License,
-    Fault::Name,
-    Fault::Folder,
-    Fault::Collection,
-    Fault::Twice,
-    Fault::Overlap,
-    Fault::Edition,
-];
+/// What is wrong with a file, and what is written about it.
+#[derive(Debug)]
+pub(crate) struct Fault {
+    /// Its text, with marks: `$` for the ID, `~` for the package of the folder.
+    pub text: &'static str,
+    /// Whose ID is in it.
+    pub named: Named,
+    /// Whether it can be read.
+    pub is_read: bool,
+    /// The lines about it, with marks: `@` for the path, `#` for the ID, `!` for the path of the file before it, `%` for
+    /// the collection of the folder.
+    pub lines: &'static str,
+    /// The remarks about it as JSON, with marks as above, and `^` for whether what the Rust crate refuses is a fault.
+    pub remarks: &'static str,
+    /// Whether it has the ID of the file before it.
+    pub is_twice: bool,
+    /// Parts of the notes about it, each with a line, and with marks as above.
+    pub notes: &'static [&'static str],
+}
 
 /// Returns what is wrong with the file of a number: with one of 25 files, each of these in turn.
-pub(crate) fn fault_of(number: u32) -> Option<Fault> {
+pub(crate) fn fault_of(number: u32) -> Option<&'static Fault> {
     if number % 25 != 7 {
         return None;
     }
-    let place = (number / 25 % 20) as usize;
-    FAULTS.get(place).copied()
-}
-
-/// Returns the lines about a fault, with marks: `@` for the path, `#` for the ID, `!` for the path of the file before it,
-/// `%` for the collection of the folder.
-fn lines_about(fault: Fault) -> &'static str {
-    match fault {
-        Fault::Unreadable => "@: refused: refused: I/O operation failed\n",
-        Fault::Unparsed => "@: refused: refused: parse error\n",
-        Fault::Category => {
-            "@: lint: invalid value `nope` for key `category` in [advisory]: unknown category\n"
-        }
-        Fault::License => {
-            "@: lint: invalid value `MPL-2.0` for key `license` in [advisory]: Unknown license\n"
-        }
-        Fault::Name => "@: misplaced: another file name, expected `#.md`\n",
-        Fault::Folder => "@: misplaced: another folder, expected `other`, the package\n",
-        Fault::Collection => {
-            "@: lint: malformed content in [advisory]: collection shouldn't be explicit; inferred by location\n@: misplaced: another `collection` in [advisory], expected `%`\n"
-        }
-        Fault::Twice => {
-            "@: misplaced: another file name, expected `#.md`\n@: twice: the ID of !\n"
-        }
-        Fault::Overlap => {
-            "@: upstream: the Rust crate refuses patched requirements that overlap\n"
-        }
-        Fault::Source => {
-            "@: upstream: the Rust crate refuses a `source` whose address is not a URL\n"
-        }
-        Fault::Edition => {
-            "@: upstream: the Rust crate refuses an escape `\\e` or `\\x` (TOML 1.1)\n"
-        }
-    }
-}
-
-/// Returns how a note about a fault begins, with the mark for the path; no text if no note names the path. The key at
-/// fault is in the sixth line.
-fn note_about(fault: Fault) -> &'static str {
-    match fault {
-        Fault::Unparsed => "rustsec_audit: parse error: error parsing @: line 6, column 1: ",
-        Fault::Category | Fault::License | Fault::Collection => "rustsec_audit: @: line 6: ",
-        Fault::Edition => "rustsec_audit: @: line 6: the Rust crate refuses an escape ",
-        _ => "",
-    }
-}
-
-/// Returns the remarks about a fault as JSON, with marks as above, and `^` for whether what the Rust crate refuses is a
-/// fault.
-fn remarks_about(fault: Fault) -> &'static str {
-    match fault {
-        Fault::Unreadable => {
-            r#"{"fault":true,"kind":"refused","text":"refused: I/O operation failed"}"#
-        }
-        Fault::Unparsed => r#"{"fault":true,"kind":"refused","text":"refused: parse error"}"#,
-        Fault::Category => {
-            r#"{"fault":true,"kind":"lint","text":"invalid value `nope` for key `category` in [advisory]: unknown category"}"#
-        }
-        Fault::License => {
-            r#"{"fault":true,"kind":"lint","text":"invalid value `MPL-2.0` for key `license` in [advisory]: Unknown license"}"#
-        }
-        Fault::Name | Fault::Twice => {
-            r##"{"fault":true,"kind":"misplaced","text":"another file name, expected `#.md`"}"##
-        }
-        Fault::Folder => {
-            r#"{"fault":true,"kind":"misplaced","text":"another folder, expected `other`, the package"}"#
-        }
-        Fault::Collection => {
-            r#"{"fault":true,"kind":"lint","text":"malformed content in [advisory]: collection shouldn't be explicit; inferred by location"},{"fault":true,"kind":"misplaced","text":"another `collection` in [advisory], expected `%`"}"#
-        }
-        Fault::Overlap => {
-            r#"{"fault":^,"kind":"upstream","text":"the Rust crate refuses patched requirements that overlap"}"#
-        }
-        Fault::Source => {
-            r#"{"fault":^,"kind":"upstream","text":"the Rust crate refuses a `source` whose address is not a URL"}"#
-        }
-        Fault::Edition => {
-            r#"{"fault":^,"kind":"upstream","text":"the Rust crate refuses an escape `\\e` or `\\x` (TOML 1.1)"}"#
-        }
-    }
-}
-
-/// Returns the path of the first file with the ID as JSON, with marks as above.
-fn first_about(fault: Fault) -> &'static str {
-    match fault {
-        Fault::Twice => r#""!""#,
-        _ => "null",
+    let place = (number / 25 % 40) as usize;
+    match first::FAULTS.get(place) {
+        Some(fault) => Some(fault),
+        None => second::FAULTS.get(place.saturating_sub(20)),
     }
 }
 
@@ -180,21 +81,42 @@ fn with_places(alloc: Global, template: &str, number: u32) -> Result<String, Fai
     Ok(text.replace(alloc, "%", collection_of(number))?)
 }
 
-/// Returns how a note about the file of a number with a fault begins; no text if no note names the file.
-pub(crate) fn note_of(alloc: Global, number: u32, fault: Fault) -> Result<String, Fail> {
-    with_path(alloc, note_about(fault), number)
-}
-
-/// Returns the lines about the file of a number with a fault.
-pub(crate) fn lines_of(alloc: Global, number: u32, fault: Fault) -> Result<String, Fail> {
-    let text = with_names(alloc, lines_about(fault), number)?;
+/// Returns a template for the file of a number.
+fn filled(alloc: Global, template: &str, number: u32) -> Result<String, Fail> {
+    let text = with_names(alloc, template, number)?;
     with_places(alloc, &text, number)
 }
 
+/// Returns whether notes have a part that is about the file of a number.
+fn has_part(alloc: Global, notes: &str, number: u32, part: &str) -> Result<bool, Fail> {
+    let text = filled(alloc, part, number)?;
+    Ok(notes.contains(text.as_str()))
+}
+
+/// Returns whether notes have all parts about the file of a number with a fault.
+pub(crate) fn is_noted(
+    alloc: Global,
+    notes: &str,
+    number: u32,
+    fault: &Fault,
+) -> Result<bool, Fail> {
+    for part in fault.notes {
+        if !has_part(alloc, notes, number, part)? {
+            return Ok(false);
+        }
+    }
+    Ok(true)
+}
+
+/// Returns the lines about the file of a number with a fault.
+pub(crate) fn lines_of(alloc: Global, number: u32, fault: &Fault) -> Result<String, Fail> {
+    filled(alloc, fault.lines, number)
+}
+
 /// Returns the JSON object about a file with a fault, with marks.
-fn object_about(alloc: Global, fault: Fault) -> Result<String, Fail> {
-    let first = first_about(fault);
-    let remarks = remarks_about(fault);
+fn object_about(alloc: Global, fault: &Fault) -> Result<String, Fail> {
+    let first = if fault.is_twice { r#""!""# } else { "null" };
+    let remarks = fault.remarks;
     Ok(format!(in alloc; "{{\"first\":{first},\"path\":\"@\",\"remarks\":[{remarks}]}}")?)
 }
 
@@ -203,11 +125,10 @@ fn object_about(alloc: Global, fault: Fault) -> Result<String, Fail> {
 pub(crate) fn object_of(
     alloc: Global,
     number: u32,
-    fault: Fault,
+    fault: &Fault,
     upstream: &str,
 ) -> Result<String, Fail> {
     let template = object_about(alloc, fault)?;
-    let named = with_names(alloc, &template, number)?;
-    let text = with_places(alloc, &named, number)?;
+    let text = filled(alloc, &template, number)?;
     Ok(text.replace(alloc, "^", upstream)?)
 }

@@ -1,6 +1,6 @@
 //! A database of a thousand files in memory. Forty of them have a fault.
 
-use crate::faults::{Fault, fault_of};
+use crate::faults::{Named, fault_of};
 use rustsec_files::path;
 use rustsec_fixtures::Holds;
 use rustsec_folders::SourceFile;
@@ -36,9 +36,12 @@ pub(crate) fn path_of(alloc: Global, number: u32) -> Result<String, Fail> {
 /// Returns the number of the ID in the file of a number.
 fn id_number(number: u32) -> u32 {
     match fault_of(number) {
-        Some(Fault::Name) => number.saturating_add(4000),
-        Some(Fault::Twice) => number.saturating_sub(1),
-        _ => number,
+        Some(fault) => match fault.named {
+            Named::Own => number,
+            Named::Other => number.saturating_add(4000),
+            Named::Before => number.saturating_sub(1),
+        },
+        None => number,
     }
 }
 
@@ -48,45 +51,23 @@ pub(crate) fn id_of(alloc: Global, number: u32) -> Result<String, Fail> {
     Ok(format!(in alloc; "RUSTSEC-2001-{number}")?)
 }
 
-/// Returns the package that the file of a number is about.
-fn package_of(number: u32) -> &'static str {
-    match fault_of(number) {
-        Some(Fault::Folder) => "other",
-        _ if is_crate(number) => "base",
-        _ => "std",
-    }
-}
+/// The text of a file without a fault, with the marks of a fault's text.
+const TEXT: &str =
+    "```toml\n[advisory]\nid = \"$\"\npackage = \"~\"\ndate = \"2001-02-03\"\n\n[versions]\npatched = [\">= 1.0.0\"]\n```\n\n# T\n\nD\n";
 
-/// Returns further lines of the section `advisory`.
-fn more_of(number: u32) -> &'static str {
+/// Returns the text of the file of a number, with marks.
+fn template_of(number: u32) -> &'static str {
     match fault_of(number) {
-        Some(Fault::Unparsed) => "url = 1\n",
-        Some(Fault::Category) => "categories = [\"nope\"]\n",
-        Some(Fault::License) => "license = \"MPL-2.0\"\n",
-        Some(Fault::Collection) if is_crate(number) => "collection = \"rust\"\n",
-        Some(Fault::Collection) => "collection = \"crates\"\n",
-        Some(Fault::Source) => "source = \"registry+base\"\n",
-        Some(Fault::Edition) => "keywords = [\"\\x61\"]\n",
-        _ => "",
-    }
-}
-
-/// Returns the patched requirements.
-fn patched_of(number: u32) -> &'static str {
-    match fault_of(number) {
-        Some(Fault::Overlap) => "\">= 1.0.0\", \">= 2.0.0\"",
-        _ => "\">= 1.0.0\"",
+        Some(fault) => fault.text,
+        None => TEXT,
     }
 }
 
 /// Returns the text of the file of a number with an ID.
 fn text_with(alloc: Global, number: u32, id: &str) -> Result<Text, Fail> {
-    let package = package_of(number);
-    let more = more_of(number);
-    let patched = patched_of(number);
-    let text = format!(in alloc;
-        "```toml\n[advisory]\nid = \"{id}\"\npackage = \"{package}\"\ndate = \"2001-02-03\"\n{more}\n[versions]\npatched = [{patched}]\n```\n\n# T\n\nD\n"
-    )?;
+    let package = if is_crate(number) { "base" } else { "std" };
+    let named = template_of(number).replace(alloc, "$", id)?;
+    let text = named.replace(alloc, "~", package)?;
     Ok(Text::from(text))
 }
 
@@ -146,6 +127,14 @@ pub(crate) fn make_listings(alloc: Global, files: &[SourceFile]) -> Result<Listi
     Ok(Listings { base, std })
 }
 
+/// Returns whether the file of a number can be read.
+fn is_read(number: u32) -> bool {
+    match fault_of(number) {
+        Some(fault) => fault.is_read,
+        None => true,
+    }
+}
+
 /// Returns what each path of the database holds. The files that cannot be read are left out.
 pub(crate) fn rows<'a>(
     alloc: Global,
@@ -158,7 +147,7 @@ pub(crate) fn rows<'a>(
     rows.push(("db/crates", Holds::Entries(&[("base", true)])))?;
     rows.push(("db/rust", Holds::Entries(&[("std", true)])))?;
     for (file, number) in files.iter().zip(NUMBERS) {
-        if fault_of(number) != Some(Fault::Unreadable) {
+        if is_read(number) {
             rows.push((file.path.as_str(), Holds::Text(file.text.as_str())))?;
         }
     }

@@ -6,9 +6,10 @@ use std::alloc::Global;
 use std::str;
 use std::test::Fail;
 
-/// A database without a fault, one whose only fault is what the Rust crate refuses, one with files that are refused, and
-/// one with a folder that cannot be listed.
+/// A database without a fault, two whose only fault is what the Rust crate refuses, one with files that are refused, one
+/// with a folder that cannot be listed, and one with a file at another place. The first alone has a folder `rust`.
 const FILES: Paths<'_> = &[
+    ("clean/rust", Holds::Entries(&[])),
     ("clean/crates", Holds::Entries(&[("base", true)])),
     (
         "clean/crates/base",
@@ -64,6 +65,17 @@ const FILES: Paths<'_> = &[
         ),
     ),
     ("unlisted/crates", Holds::Entries(&[("base", true)])),
+    ("misplaced/crates", Holds::Entries(&[("other", true)])),
+    (
+        "misplaced/crates/other",
+        Holds::Entries(&[("RUSTSEC-2001-0009.md", false)]),
+    ),
+    (
+        "misplaced/crates/other/RUSTSEC-2001-0009.md",
+        Holds::Text(
+            "```toml\n# One.\nid = \"RUSTSEC-2001-0008\"\npackage = \"base\"\ndate = \"2001-02-03\"\ncollection = \"rust\"\n\n[versions]\npatched = [\">= 2.0.0\"]\n```\n\n# T\n\nD\n",
+        ),
+    ),
 ];
 
 /// What is written for words that are not those of a command.
@@ -140,7 +152,11 @@ const NOTES: &[(&[&str], &[&str])] = &[
     (&["lint-database", "clean", "--progress"], &[]),
     (
         &["lint-database", "overlap"],
-        &["rustsec_audit: overlap/crates/base/RUSTSEC-2001-0002.md: `>3` is read as `>3.0.0`: "],
+        &[
+            "rustsec_audit: overlap/crates/base/RUSTSEC-2001-0002.md: line 8: the Rust crate refuses patched requirements that overlap\n",
+            "rustsec_audit: overlap/crates/base/RUSTSEC-2001-0002.md: line 8: `>3` is read as `>3.0.0`: ",
+            "rustsec_audit: warning: I/O operation failed: the folders fail\n",
+        ],
     ),
     (
         &["lint-database", "edition"],
@@ -155,6 +171,28 @@ const NOTES: &[(&[&str], &[&str])] = &[
             "rustsec_audit: parse error: error parsing refused/crates/base/RUSTSEC-2001-0004.md: line 8, ",
             "rustsec_audit: I/O operation failed: ",
         ],
+    ),
+    (
+        &["lint-database", "misplaced"],
+        &[
+            "/RUSTSEC-2001-0009.md: line 6: malformed content in [advisory]: ",
+            "/RUSTSEC-2001-0009.md: line 3: another file name, expected `RUSTSEC-2001-0008.md`\n",
+            "/RUSTSEC-2001-0009.md: line 4: another folder, expected `base`, the package\n",
+            "/RUSTSEC-2001-0009.md: line 6: another `collection` in [advisory], expected `crates`\n",
+        ],
+    ),
+    (&["stats", "clean"], &[]),
+    (
+        &["stats", "overlap"],
+        &["rustsec_audit: warning: I/O operation failed: the folders fail\n"],
+    ),
+    (
+        &["osv-database", "overlap", "2001-01-01T00:00:00Z"],
+        &["rustsec_audit: warning: I/O operation failed: the folders fail\n"],
+    ),
+    (
+        &["query-osv", "overlap", "base", "1.0.0"],
+        &["rustsec_audit: warning: I/O operation failed: the folders fail\n"],
     ),
     (
         &["lint-database"],

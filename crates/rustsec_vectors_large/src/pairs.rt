@@ -1,0 +1,134 @@
+//! Reports on thousands of packages by an advisory with a description of a megabyte.
+
+use crate::files::BASE;
+use crate::numbers::{MEGABYTE, numbered};
+use rustsec::database::{Database, Query};
+use rustsec::report::{Report, Settings};
+use rustsec_folders::SourceFile;
+use rustsec_lock::Lockfile;
+use rustsec_texts::{Id, Informational};
+use rustsec_values::Text;
+use std::alloc::Global;
+use std::test::Fail;
+
+/// How many packages a lockfile has.
+const MANY: u32 = 4000;
+
+/// The ID of the advisory.
+const ID: &str = "RUSTSEC-2001-2101";
+
+/// A line of the advisory, the ignored ID, how many packages there are, and how many vulnerabilities and warnings the
+/// report lists; it asks for notices alone.
+#[derive(Clone, Copy)]
+struct Row<'a> {
+    line: &'a str,
+    ignored: &'a str,
+    packages: u32,
+    listed: (usize, usize),
+}
+
+/// Worked by hand. The first three list nothing, though the advisory affects each package.
+const ROWS: &[Row] = &[
+    Row {
+        line: "informational = \"x\"",
+        ignored: "RUSTSEC-2001-0001",
+        packages: MANY,
+        listed: (0, 0),
+    },
+    Row {
+        line: "informational = \"notice\"",
+        ignored: ID,
+        packages: MANY,
+        listed: (0, 0),
+    },
+    Row {
+        line: "",
+        ignored: ID,
+        packages: MANY,
+        listed: (0, 0),
+    },
+    Row {
+        line: "informational = \"notice\"",
+        ignored: "RUSTSEC-2001-0001",
+        packages: 3,
+        listed: (0, 3),
+    },
+    Row {
+        line: "",
+        ignored: "RUSTSEC-2001-0001",
+        packages: 3,
+        listed: (3, 0),
+    },
+];
+
+/// Returns the file of the advisory with this line, which affects every version.
+fn source_file(alloc: Global, line: &str) -> Result<SourceFile, Fail> {
+    let description = "survive ".repeat(alloc, MEGABYTE / 8)?;
+    let text = format!(in alloc;
+        "```toml\n[advisory]\nid = \"{ID}\"\npackage = \"base\"\ndate = \"2001-02-03\"\n{line}\n[versions]\npatched = []\n```\n# T\n\n{description}\n"
+    )?;
+    let path = format!(in alloc; "crates/base/{ID}.md")?;
+    Ok(SourceFile {
+        path: Text::from(path),
+        text: Text::from(text),
+    })
+}
+
+/// Returns the database of the advisory with this line.
+fn database(alloc: Global, line: &str) -> Result<Database, Fail> {
+    let mut files = Vec::new(alloc);
+    files.push(source_file(alloc, line)?)?;
+    Ok(Database::load(alloc, &files)?)
+}
+
+/// Returns settings that ask for notices and ignore an ID.
+fn settings(alloc: Global, ignored: &str) -> Result<Settings, Fail> {
+    let mut settings = Settings::new(alloc);
+    settings.informational_warnings.push(Informational::Notice)?;
+    settings.ignore.push(Id::from_str(alloc, ignored)?)?;
+    Ok(settings)
+}
+
+/// Returns how many pairs a query for everything finds.
+fn pair_count(alloc: Global, database: &Database, lockfile: &Lockfile) -> Result<usize, Fail> {
+    let pairs = database.query_pairs(alloc, lockfile, &Query::new(alloc))?;
+    Ok(pairs.len())
+}
+
+/// Returns how many vulnerabilities and warnings a report lists.
+fn listed(
+    alloc: Global,
+    database: &Database,
+    lockfile: &Lockfile,
+    settings: &Settings,
+) -> Result<(usize, usize), Fail> {
+    let report = Report::generate(alloc, database, lockfile, settings)?;
+    let mut warnings = 0;
+    for (_, list) in report.warnings.as_map() {
+        warnings += list.len();
+    }
+    Ok((report.vulnerabilities.list.len(), warnings))
+}
+
+/// Returns whether each package gives a pair, and the report lists as many as a row wants.
+fn is_wanted(alloc: Global, row: &Row<'_>) -> Result<bool, Fail> {
+    let database = database(alloc, row.line)?;
+    let lockfile = Lockfile::from_str(alloc, &numbered(alloc, row.packages, BASE)?)?;
+    let settings = settings(alloc, row.ignored)?;
+    let found = pair_count(alloc, &database, &lockfile)?;
+    let listed = listed(alloc, &database, &lockfile, &settings)?;
+    Ok(found == row.packages as usize && listed == row.listed)
+}
+
+#[test]
+fn pairs_that_are_found_and_not_listed(rt: HostRuntime) -> Result<(), Fail> {
+    for row in ROWS {
+        assert!(rt;
+            is_wanted(rt.alloc(), row)?,
+            "of `{}`, {}",
+            row.line,
+            row.ignored
+        );
+    }
+    Ok(())
+}
