@@ -29,7 +29,10 @@ def unescaped(literal):
     return re.sub(r"\\(.)", lambda m: ESCAPES.get(m[1], m[1]), literal)
 
 
-TEST_CRATES = ("rustsec_fixtures", "rustsec_tests", "rustsec_vectors", "rustsec_vectors_databases", "rustsec_vectors_commands")
+TEST_CRATES = (
+    "rustsec_fixtures", "rustsec_tests", "rustsec_vectors", "rustsec_vectors_databases", "rustsec_vectors_commands", "rustsec_vectors_parts",
+    "rustsec_vectors_checks", "rustsec_vectors_maintenance",
+)
 
 
 def texts_of_tests():
@@ -59,6 +62,7 @@ TEXTS = [*texts_of_tests(), *examples()]
 SHORT = [t for t in TEXTS if len(t) < 100]
 ADVISORIES = [t for t in TEXTS if t.startswith("```toml")]
 LOCKFILES = [t for t in TEXTS if "[[package]]" in t]
+POLICIES = [t for t in TEXTS if "[advisories]" in t and "```" not in t]
 KNOWN = {
     "address": advisories.ADDRESSES, "arch": advisories.ARCHES, "category": advisories.KINDS, "collection": advisories.COLLECTIONS,
     "cvss": advisories.VECTORS, "date": advisories.DATES, "id": advisories.IDS, "identifier": (["base", "<A,B>"], ["0a"]),
