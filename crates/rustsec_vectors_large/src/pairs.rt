@@ -103,9 +103,9 @@ fn listed(
     settings: &Settings,
 ) -> Result<(usize, usize), Fail> {
     let report = Report::generate(alloc, database, lockfile, settings)?;
-    let mut warnings = 0;
+    let mut warnings: usize = 0;
     for (_, list) in report.warnings.as_map() {
-        warnings += list.len();
+        warnings = warnings.saturating_add(list.len());
     }
     Ok((report.vulnerabilities.list.len(), warnings))
 }
