@@ -122,7 +122,7 @@ pub(crate) fn dependents(
 ) -> Result<Vec<usize>, AllocError>
     ensures ok { IfOk result (λ v. v.items ≡ dependents edges.now place) }
 
-    // No place takes no memory.
+    // The answer that there is no place takes no memory.
     ensures none { OnErr result (0 < length (dependents edges.now place)) }
 {
     if !has_dependents(edges, place) {

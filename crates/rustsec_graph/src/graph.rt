@@ -76,7 +76,7 @@ impl Graph {
         ensures ok { IfOk result (λ path. IsAnswer self.now.edges self.now.roots place (option_map (λ v. v.items) path)) }
         ensures err { IfErr result IsMemory }
 
-        // No path takes no memory.
+        // The answer that there is no path takes no memory.
         ensures none { OnErr result ((path : List ℕ) × IsPathTo self.now.edges self.now.roots place path) }
     {
         let path = path_to(alloc, &self.search, place)?;
@@ -92,7 +92,7 @@ impl Graph {
         ensures ok { IfOk result (λ v. v.items ≡ dependents self.now.edges place) }
         ensures err { IfErr result IsMemory }
 
-        // No package takes no memory.
+        // The answer that there is no package takes no memory.
         ensures none { OnErr result (0 < length (dependents self.now.edges place)) }
     {
         let places = dependents(alloc, self.edges.as_slice(), place)?;

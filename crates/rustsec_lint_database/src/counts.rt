@@ -89,7 +89,7 @@ pub fn counts_of(upstream: bool, entries: &[Entry]) -> Result<Counts, AllocError
     ensures faults { IfOk result (λ c. c.faults ≡ faults upstream entries.now) }
     ensures notes { IfOk result (λ c. c.notes ≡ notes upstream entries.now) }
 
-    // A call that succeeds takes no memory.
+    // The call takes no memory: it fails only if a number is too large.
     ensures err { OnErr result (2 ^ 64 ≤ faults upstream entries.now + notes upstream entries.now) }
 {
     let mut counts = Counts {
