@@ -107,6 +107,7 @@ pub(crate) fn front_place(front: &str, line: usize) -> TablePlace<'_> {
         text: front,
         path: &[],
         index: None,
+        element: None,
         line,
     }
 }

@@ -337,10 +337,11 @@ impl Linter {
         ensures ok { IfOk result (λ text. (is_markdown path.now ≡ true) × (F.allowed folders.old).reads path.now (Some text)) }
         ensures err { IfErr result (IsNoText (F.allowed folders.old) path.now) }
         ensures same { AllowSame (F.allowed folders.old) (F.allowed folders.new) }
-        ensures names { IfErr result (λ e. is_markdown path.now ≡ true → F.refuses folders.old path.now e) }
+        ensures names { IfErr result (λ e. F.refuses folders.old path.now e ⊎ IsOfFile path.now e) }
     {
         if !path::is_markdown(path) {
-            return Err(refused_text(alloc, "not a Markdown file", path, "the extension `md`"));
+            let other = refused_text(alloc, "not a Markdown file", path, "the extension `md`");
+            return Err(refused_file(alloc, path, &other));
         }
         folders.read(alloc, path)
     }
@@ -368,7 +369,7 @@ impl Linter {
         ensures ok { IfOk result (λ l. AreLintsAt (F.allowed folders.old) path.now l.advisory l.errors) }
         ensures err { IfErr result (IsLintRefusal (F.allowed folders.old) path.now) }
         ensures same { AllowSame (F.allowed folders.old) (F.allowed folders.new) }
-        ensures names { IfErr result (λ e. is_markdown path.now ≡ true → F.refuses folders.old path.now e ⊎ IsOfFile path.now e) }
+        ensures names { IfErr result (λ e. F.refuses folders.old path.now e ⊎ IsOfFile path.now e) }
     {
         let text = Linter::file_text_with(alloc, folders, path)?;
         Linter::of_file(alloc, path, text.as_str())
@@ -378,11 +379,11 @@ impl Linter {
     ///
     /// # Errors
     ///
-    /// As `lint_file_with`. For a Markdown file's path every message but that of out of memory names the path.
+    /// As `lint_file_with`. Every message but that of out of memory names the path.
     pub fn lint_file<R: Files>(rt: &R, alloc: Global, path: &str) -> Result<Linter>
         ensures ok { IfOk result (λ l. AreLintsAt real_folders path.now l.advisory l.errors) }
         ensures err { IfErr result (IsLintRefusal real_folders path.now) }
-        ensures names { IfErr result (λ e. is_markdown path.now ≡ true → NamesFile path.now e) }
+        ensures names { IfErr result (NamesFile path.now) }
     {
         Linter::lint_file_with(alloc, &mut RealFolders::new(rt), path)
     }

@@ -55,7 +55,7 @@ fn requirements_in(
 {
     let mut read = Vec::new(alloc);
     for value in array {
-        match requirement_in(alloc, section, key, value) {
+        match requirement_in(alloc, section.at_element(read.len()), key, value) {
             Ok(req) => read.push(req).map_err(|_| AllocError)?,
             Err(e) => return Err(e),
         }

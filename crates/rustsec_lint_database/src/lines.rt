@@ -59,6 +59,7 @@ impl<'a> KeyIn<'a> {
             text: parts.front_matter,
             path: keys_to(self.section, parts.front_matter),
             index: None,
+            element: None,
             line: first_line(self.text),
         };
         front.line_of(alloc, self.key)

@@ -114,6 +114,7 @@ fn package_place(text: &str, index: usize) -> TablePlace<'_> {
         text,
         path: &["package"],
         index: Some(index),
+        element: None,
         line: 1,
     }
 }

@@ -195,7 +195,7 @@ fn messages_name_key_and_table(rt: HostRuntime) -> Result<(), Fail> {
         ),
         (
             "id = \"X-1\"\npackage = \"a\"\ndate = \"2001-02-03\"\n[versions]\npatched = [\">> 1\"]",
-            "line 6, column 1: key `patched` in [versions]: not a requirement `>> 1`, expected comparators such as `>=1.2.3, <2`, at `patched = [\">> 1\"]`",
+            "line 6, column 12: key `patched` in [versions]: not a requirement `>> 1`, expected comparators such as `>=1.2.3, <2`, at `patched = [\">> 1\"]`",
         ),
         (
             "[advisory]\nid = \"X-1\"\npackage = \"a\"\ndate = \"2001-02-30\"",

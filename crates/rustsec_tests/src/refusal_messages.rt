@@ -37,7 +37,12 @@ const LOCKFILES: &[(&str, &str, bool)] = &[
     ),
     (
         "package = [\"a\"]",
-        "package 1: line 1, column 1: not a package: found `string`, expected a table, at `package = [\"a\"]`",
+        "package 1: line 1, column 12: not a package: found `string`, expected a table, at `package = [\"a\"]`",
+        false,
+    ),
+    (
+        "package = [{ name = \"a\", version = \"1.0.0\" }, { name = \"b\" }]\nversion = 4",
+        "package 2, `b`: line 1, column 47: key `version` is missing in [[package]], at `package = [{ name = \"a\", version = \"1.0.0\" }, { name = \"b\" }`",
         false,
     ),
     (

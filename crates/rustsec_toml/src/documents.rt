@@ -6,7 +6,7 @@ ghost use Rattle.toml.specs.View.{table_view};
 ghost use Rattle.rustsec_error.specs.Failure.{IsMemory, IsOfKind, IsRefusal};
 
 use crate::lines::shown_line;
-use crate::statements::key_at;
+use crate::statements::{element_at, key_at};
 use rustsec_error::{Error, ErrorKind, Result};
 use rustsec_places::Place;
 use std::alloc::{AllocError, Global};
@@ -21,6 +21,8 @@ pub struct TablePlace<'a> {
     pub path: &'a [&'a str],
     /// The position of the table, from 0 on, if it is in an array of tables.
     pub index: Option<usize>,
+    /// The position of an element, from 0 on, if messages are about an element of the array at a key.
+    pub element: Option<usize>,
     /// The line of the file in which the text begins, from 1 on.
     pub line: usize,
 }
@@ -39,9 +41,18 @@ fn keys_to<'k>(
     Ok(keys)
 }
 
-/// Returns the text from the key in the header of a table on. The table is at a position in an array of tables.
-fn table_at<'a>(alloc: Global, text: &'a str, path: &[&str], index: usize) -> Option<&'a str> {
-    let mut found = key_at(alloc, text, path)?;
+/// Returns whether a key, from which on the text is given, is in the header of a table.
+fn is_header(document: &str, key: &str) -> bool {
+    match document.strip_suffix(key) {
+        Some(before) => before.trim_end().ends_with('['),
+        None => false,
+    }
+}
+
+/// Returns the text from the key in the header of a table on. The table is at a position in an array of tables, in whose
+/// first header the given text begins.
+fn table_at<'a>(alloc: Global, first: &'a str, path: &[&str], index: usize) -> Option<&'a str> {
+    let mut found = first;
     for _ in 0..index {
         let (_, rest) = found.split_once('\n')?;
         found = key_at(alloc, rest, path)?;
@@ -79,6 +90,7 @@ impl<'a> TablePlace<'a> {
             text: "",
             path: &[],
             index: None,
+            element: None,
             line: 1,
         }
     }
@@ -89,6 +101,7 @@ impl<'a> TablePlace<'a> {
             text,
             path: &[],
             index: None,
+            element: None,
             line: 1,
         }
     }
@@ -99,22 +112,54 @@ impl<'a> TablePlace<'a> {
             text: self.text,
             path,
             index: None,
+            element: None,
             line: self.line,
+        }
+    }
+
+    /// Returns the place of an element of the array at a key of this table.
+    pub fn at_element(self, index: usize) -> TablePlace<'a> {
+        TablePlace {
+            text: self.text,
+            path: self.path,
+            index: self.index,
+            element: Some(index),
+            line: self.line,
+        }
+    }
+
+    /// Returns the text from a key of the table on, or from an element of the array at the key on.
+    fn from_part(self, alloc: Global, key: &str) -> std::result::Result<&'a str, AllocError> {
+        let found = self.from_key(alloc, key)?;
+        match self.element {
+            Some(index) => Ok(element_at(alloc, found, index).unwrap_or(found)),
+            None => Ok(found),
         }
     }
 
     /// Returns the text from a key of the table on; from the table's own key on if that one is not found.
     fn from_key(self, alloc: Global, key: &str) -> std::result::Result<&'a str, AllocError> {
         if let Some(index) = self.index {
-            if let Some(table) = table_at(alloc, self.text, self.path, index) {
-                return Ok(key_in_table(alloc, table, self.path, key).unwrap_or(table));
-            }
+            return Ok(self.in_array(alloc, index, key).unwrap_or(self.text));
         }
         let keys = keys_to(alloc, self.path, key)?;
         if let Some(found) = key_at(alloc, self.text, &keys) {
             return Ok(found);
         }
         Ok(key_at(alloc, self.text, self.path).unwrap_or(self.text))
+    }
+
+    /// Returns the text from a key on of the table at a position in an array of tables; from the table on if it has no
+    /// header of its own, or the key is not found.
+    fn in_array(self, alloc: Global, index: usize, key: &str) -> Option<&'a str> {
+        let array = key_at(alloc, self.text, self.path)?;
+        if !is_header(self.text, array) {
+            return Some(element_at(alloc, array, index).unwrap_or(array));
+        }
+        match table_at(alloc, array, self.path, index) {
+            Some(table) => Some(key_in_table(alloc, table, self.path, key).unwrap_or(table)),
+            None => Some(array),
+        }
     }
 
     /// Returns the line of the file in which a key of the table is, from 1 on, if the text is known; the line of the
@@ -142,11 +187,12 @@ impl<'a> TablePlace<'a> {
         key: &str,
         message: &str,
     ) -> std::result::Result<String, AllocError> {
-        let place = Place::of_end(self.text, self.from_key(alloc, key)?);
+        let place = Place::of_end(self.text, self.from_part(alloc, key)?);
         placed(alloc, self, place, message)
     }
 
-    /// Adds the place of a key of the table to an error about it, if the text is known. Out of memory stays as it is.
+    /// Adds the place of a key of the table, or of an element of the array at the key, to an error about it, if the text
+    /// is known. Out of memory stays as it is.
     pub fn refused_at(self, alloc: Global, key: &str, error: Error) -> Error
         ensures kind { IsOfKind error.kind result }
         ensures memory { IsMemory error → IsMemory result }

@@ -68,7 +68,7 @@ fn texts<T: FromText>(
 {
     let mut read = Items::new(alloc);
     for value in array {
-        match section.text_of(alloc, key, value) {
+        match section.at_element(read.len()).text_of(alloc, key, value) {
             Ok(item) => read.push(item)?,
             Err(e) => return Err(e),
         }
@@ -77,6 +77,15 @@ fn texts<T: FromText>(
 }
 
 impl<'a> Section<'a> {
+    /// Returns the same section, for messages about an element of the array at a key.
+    pub fn at_element(self, index: usize) -> Section<'a> {
+        Section {
+            table: self.table,
+            name: self.name,
+            place: self.place.at_element(index),
+        }
+    }
+
     /// Returns the value at a key, if any.
     pub fn get(self, key: &str) -> Option<&'a Value>
         ensures { option_map (λ v. view v.now) result ≡ get_member key.now (table_view self.entry.table.now) }

@@ -213,7 +213,7 @@ pub(super) const LISTS: &[Row<'static>] = &[
         new: "[3]",
         status: 2,
         parts: &[
-            "line 7, column 1: key `categories` in [advisory]: found integer `3`, expected a string",
+            "line 7, column 15: key `categories` in [advisory]: found integer `3`, expected a string",
         ],
     },
     Row {
@@ -222,6 +222,14 @@ pub(super) const LISTS: &[Row<'static>] = &[
         status: 2,
         parts: &[
             "line 8, column 1: key `keywords` in [advisory]: found string `how`, expected an array of strings",
+        ],
+    },
+    Row {
+        old: "[\"code-execution\"]",
+        new: "[\n  \"code-execution\", # known, [1]\n  \"denial,of-service\", [],\n]",
+        status: 2,
+        parts: &[
+            "line 9, column 24: key `categories` in [advisory]: found array `[]`, expected a string",
         ],
     },
     Row {
@@ -237,7 +245,7 @@ pub(super) const LISTS: &[Row<'static>] = &[
         new: "references = [\"x\"]",
         status: 2,
         parts: &[
-            "line 8, column 1: key `references` in [advisory]: not an address `x`, expected an absolute URL",
+            "line 8, column 15: key `references` in [advisory]: not an address `x`, expected an absolute URL",
         ],
     },
     Row {
@@ -332,7 +340,7 @@ pub(super) const VERSIONS: &[Row<'static>] = &[
         old: "[\">= 1.2.3\"]",
         new: "[\">> 1\"]",
         status: 2,
-        parts: &["line 12, column 1: key `patched` in [versions]: not a requirement `>> 1`"],
+        parts: &["line 12, column 12: key `patched` in [versions]: not a requirement `>> 1`"],
     },
     Row {
         old: "[\"0.1.2\"]",
@@ -354,7 +362,7 @@ pub(super) const AFFECTED: &[Row<'static>] = &[
         old: "[\"x86\"]",
         new: "[\"x87\"]",
         status: 2,
-        parts: &["line 16, column 1: key `arch` in [affected]: "],
+        parts: &["line 16, column 9: key `arch` in [affected]: "],
     },
     Row {
         old: "[\"windows\"]",
@@ -369,7 +377,7 @@ pub(super) const AFFECTED: &[Row<'static>] = &[
         new: "[\"<< 1\"]",
         status: 2,
         parts: &[
-            "line 20, column 1: key `base::all` in [affected.functions]: not a requirement `<< 1`",
+            "line 20, column 16: key `base::all` in [affected.functions]: not a requirement `<< 1`",
         ],
     },
     Row {
