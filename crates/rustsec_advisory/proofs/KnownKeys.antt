@@ -1,11 +1,11 @@
 -- The rows of a key call it unknown exactly if no reader asks for it.
-use Rattle.std.proofs.Common.{◌≡◌, ◌∙◌, ◌⊎◌, ◌++◌, ℕ, Bool, List, [], ◌∷◌, Option, Some, None, true, false, All, Contains, codes, flat_map, is_some, not, refl, sym, ap, true≢false, inl, inr}
-use Rattle.std.proofs.lemmas.Bool.{cases_Bool, cond_both, or_from}
-use Rattle.std.proofs.lemmas.List.Elements.{All-append, All-cons, All-contains, All-nil, All-weaker}
+use Rattle.std.proofs.Common.{◌≡◌, ◌⊎◌, ◌++◌, ℕ, Bool, List, [], ◌∷◌, Option, Some, None, true, false, All, Contains, codes, flat_map, is_some, not, refl, sym, ap, true≢false, inl, inr}
+use Rattle.std.proofs.lemmas.Bool.{cond_both, or_from}
+use Rattle.std.proofs.lemmas.List.Elements.{All-append, All-cons, All-contains, All-nil}
 use Rattle.std.specs.Cmp.Lexicographic.{bytes_decides}
 use Rattle.std.specs.List.{list_all}
 use Rattle.std.specs.Str.{bytes_eq}
-use Rattle.toml.specs.Data.{Data, Members, array, boolean, datetime, float, integer, string, table}
+use Rattle.toml.specs.Data.{Data, string}
 use Rattle.toml_writer.specs.Text.{string_text}
 use Rattle.rustsec_texts.specs.declared.category.Category.{Category}
 use Rattle.rustsec_texts.specs.declared.informational.Informational.{Informational}
@@ -13,8 +13,8 @@ use Rattle.rustsec_texts.specs.declared.license.License.{License}
 use Rattle.rustsec_advisory.proofs.ReadKeys.{affected-read, affected-unread, affected_keys, document-read, document-unread, document_keys, listed, metadata-read, metadata-unread, metadata_keys, not-within, versions-read, versions-unread, versions_keys, within}
 use Rattle.rustsec_advisory.specs.Advisory.{AreVersions}
 use Rattle.rustsec_advisory.specs.Affected.{IsAffected}
-use Rattle.rustsec_advisory.specs.KnownKeys.{AreKeysKnown, IsDeprecated, IsKnown, IsRead, IsUnknown, IsUnread, ReadsAdvisory, ReadsMetadata}
-use Rattle.rustsec_advisory.specs.LintErrors.{LintError, advisory_rows, affected_rows, bad_content, bad_value, category_row, crate_name_of, draft_row, function_row, id_rows, informational_row, is_one_of, kind_row, license_row, members_in, of_string, paths_in, platform_keys, quiet_keys, section_rows, top_rows, unknown_key, url_row, versions_rows, when, year_row}
+use Rattle.rustsec_advisory.specs.KnownKeys.{AreKeysKnown, IsDeprecated, IsKnown, IsUnknown, ReadsAdvisory, ReadsMetadata}
+use Rattle.rustsec_advisory.specs.LintErrors.{LintError, advisory_rows, affected_rows, bad_content, bad_value, category_row, crate_name_of, draft_row, function_row, id_rows, informational_row, is_one_of, kind_row, license_row, members_in, of_string, paths_in, platform_keys, quiet_keys, top_rows, unknown_key, url_row, versions_rows, when, year_row}
 use Rattle.rustsec_advisory.specs.declared.advisory.Advisory.{Advisory}
 use Rattle.rustsec_advisory.specs.declared.linter.ErrorKind.{ErrorKind}
 use Rattle.rustsec_advisory.specs.declared.linter.ErrorKind.TheVariants as kind

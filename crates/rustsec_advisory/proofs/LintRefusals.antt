@@ -1,5 +1,5 @@
 -- How the linter refuses a file, from how it refuses to read it, and from how it refuses its text.
-use Rattle.std.proofs.Common.{◌≡◌, ◌⊎◌, ℕ, List, Some, inl, inr, true}
+use Rattle.std.proofs.Common.{◌≡◌, ℕ, List, Some, inl, inr, true}
 use Rattle.rustsec_advisory.specs.FileRefusals.{IsLintRefusal, IsNoText, IsTextRefusal}
 use Rattle.rustsec_files.specs.Paths.{is_markdown}
 use Rattle.rustsec_folders.specs.Allowed.{Allowed}

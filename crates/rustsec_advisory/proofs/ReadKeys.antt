@@ -19,17 +19,15 @@ use Rattle.rustsec_texts.specs.Licenses.{default_license, license_of}
 use Rattle.rustsec_advisory.specs.Addresses.{address_of}
 use Rattle.rustsec_advisory.specs.Requirements.{requirements_of}
 use Rattle.rustsec_toml.specs.Fields.{defaulted, every, optional, required, text, value_or}
-use Rattle.rustsec_versions.specs.Lists.{Lists}
-use Rattle.rustsec_advisory.specs.Advisory.{AreVersions, IsAffectedAt, IsOfDocument}
+use Rattle.rustsec_advisory.specs.Advisory.{AreVersions, IsAffectedAt}
 use Rattle.rustsec_advisory.specs.Affected.{AreFunctionsAt, IsAffected}
 use Rattle.rustsec_advisory.specs.FieldGroups.{kinds_of, origin_of, subject_of, terms_of}
 use Rattle.rustsec_advisory.specs.KnownKeys.{AreSameBut, IsRead, IsUnread, ReadsAdvisory, ReadsMetadata}
 use Rattle.rustsec_advisory.specs.LintErrors.{is_one_of}
-use Rattle.rustsec_advisory.specs.Metadata.{AreKinds, AreTerms, IsMetadata, IsOrigin, IsSubject}
+use Rattle.rustsec_advisory.specs.Metadata.{AreKinds, AreTerms, IsOrigin, IsSubject}
 use Rattle.rustsec_advisory.specs.declared.advisory.Advisory.{Advisory}
 use Rattle.rustsec_advisory.specs.declared.affected.Affected.{Affected}
 use Rattle.rustsec_advisory.specs.declared.metadata.Kinds.{Kinds}
-use Rattle.rustsec_advisory.specs.declared.metadata.Metadata.{Metadata}
 use Rattle.rustsec_advisory.specs.declared.metadata.Origin.{Origin}
 use Rattle.rustsec_advisory.specs.declared.metadata.Subject.{Subject}
 use Rattle.rustsec_advisory.specs.declared.metadata.Terms.{Terms}

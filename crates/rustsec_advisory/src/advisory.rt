@@ -9,6 +9,7 @@ ghost use Rattle.rustsec_folders.specs.Allowed.{AllowSame, real_folders};
 ghost use Rattle.rustsec_advisory.specs.Advisory.{IsAdvisory, IsAdvisoryWith, IsOfDocument, document_text, header};
 ghost use Rattle.rustsec_advisory.specs.FileRefusals.{IsAdvisoryAt, IsAdvisoryRefusal, IsOfFile, IsTextRefusal, NamesFile};
 ghost use Rattle.rustsec_files.specs.Paths.{is_draft};
+ghost use Rattle.rustsec_texts.specs.Parts.{parts_of};
 ghost use Rattle.rustsec_advisory.specs.declared.advisory.Advisory as given;
 ghost use Rattle.rustsec_error.specs.Failure.{IsMemory, IsOfKind, IsRefusal, out_of_memory};
 
@@ -164,12 +165,40 @@ fn of_document(
     })
 }
 
+/// Returns the text from the place on at which a part of an advisory is missing: the Markdown after the front matter, or
+/// the whole text if the front matter has no end.
+fn missing_from(text: &str) -> &str {
+    match text
+        .strip_prefix("```toml")
+        .and_then(|body| body.split_once("\n```"))
+    {
+        Some((_, markdown)) => markdown.trim_start(),
+        None => text,
+    }
+}
+
+/// Returns the parts of a text. An error says where the missing part is expected.
+fn parts_in(alloc: Global, text: &str) -> Result<Parts<'_>>
+    ensures ok { IfOk result (λ p. parts_of text.now ≡ Some (record {
+      front_matter = p.front_matter.now;
+      markdown = p.markdown.now;
+      title = p.title.now;
+      description = p.description.now;
+    })) }
+    ensures err { IfErr result (IsRefusal ErrorKind.Parse (parts_of text.now ≡ None)) }
+{
+    match Parts::parse(alloc, text) {
+        Ok(parts) => Ok(parts),
+        Err(e) => Err(TablePlace::whole(text).refused_from(alloc, missing_from(text), e)),
+    }
+}
+
 /// Parses an advisory, and returns the document of its front matter too.
 pub(crate) fn read(alloc: Global, text: &str) -> Result<(Advisory, Table)>
     ensures ok { IfOk result (λ r. IsAdvisoryWith text.now (table_view r.1) r.0) }
     ensures err { IfErr result (IsRefusal ErrorKind.Parse ((a : given.Advisory) → ¬ IsAdvisory text.now a)) }
 {
-    let parts = Parts::parse(alloc, text)?;
+    let parts = parts_in(alloc, text)?;
     let line = first_line(text);
     let document = document_of(alloc, parts.front_matter, line)?;
     let whole = Section {

@@ -14,7 +14,7 @@ ghost use Rattle.rustsec_advisory.specs.declared.metadata.Subject as subject;
 ghost use Rattle.rustsec_advisory.specs.declared.metadata.Terms as terms;
 ghost use Rattle.rustsec_texts.specs.Paths.{path_of};
 ghost use Rattle.rustsec_toml.specs.Fields.{defaulted};
-ghost use Rattle.rustsec_error.specs.Failure.{IsOfKind, IsRefusal, out_of_memory};
+ghost use Rattle.rustsec_error.specs.Failure.{IsMemory, IsOfKind, IsRefusal, out_of_memory};
 ghost use Rattle.rustsec_versions.specs.Lists.{Lists};
 
 use crate::affected::Affected;
@@ -24,7 +24,7 @@ use rustsec_error::{Error, ErrorKind, Result};
 use rustsec_texts::{FunctionPath, License};
 use rustsec_toml::Section;
 use rustsec_values::{SortedMap, Text};
-use rustsec_versions::{Requirements, Versions};
+use rustsec_versions::{Requirements, UnaffectedRange, Versions};
 use std::alloc::{AllocError, Global};
 use toml::Table;
 
@@ -116,7 +116,38 @@ pub fn metadata(
     Ok(Metadata::of_groups(subject, kinds, origin, terms, title, description))
 }
 
-/// Turns an error about lists of requirements into the error of the table that holds them, at the key `patched`.
+/// Returns the position of the first requirement at a key that is not admissible.
+fn refused_position(alloc: Global, section: Section<'_>, key: &str) -> Option<usize> {
+    let reqs = optional_requirements_at(alloc, section, key).ok()?;
+    reqs.iter()
+        .position(|req| UnaffectedRange::from_req(alloc, req).is_err())
+}
+
+/// Returns the key of the list at fault, and the position of its first requirement that is not admissible. If all are
+/// admissible, an unaffected one overlaps another.
+fn list_at_fault(alloc: Global, section: Section<'_>) -> (&'static str, Option<usize>) {
+    match refused_position(alloc, section, "patched") {
+        Some(position) => ("patched", Some(position)),
+        None => ("unaffected", refused_position(alloc, section, "unaffected")),
+    }
+}
+
+/// Adds the place of the list at fault, or of its requirement, to an error about lists of requirements.
+fn placed_in_lists(alloc: Global, section: Section<'_>, error: Error) -> Error
+    ensures kind { IsOfKind error.kind result }
+    ensures memory { IsMemory error → IsMemory result }
+{
+    let (key, position) = list_at_fault(alloc, section);
+    match position {
+        Some(position) => section
+            .place
+            .at_element(position)
+            .refused_at(alloc, key, error),
+        None => section.place.refused_at(alloc, key, error),
+    }
+}
+
+/// Turns an error about lists of requirements into the error of the table that holds them.
 fn as_parse(alloc: Global, section: Section<'_>, error: Error) -> Error
     ensures memory { error ≡ out_of_memory → result ≡ out_of_memory }
     ensures kind { IsOfKind ErrorKind.Parse result }
@@ -129,7 +160,7 @@ fn as_parse(alloc: Global, section: Section<'_>, error: Error) -> Error
         Ok(message) => Error::with_cause(alloc, ErrorKind::Parse, &message, error.cause()),
         Err(refused) => Error::from(refused),
     };
-    section.place.refused_at(alloc, "patched", error)
+    placed_in_lists(alloc, section, error)
 }
 
 /// Reads the lists of the table `versions`.

@@ -16,6 +16,6 @@ mod requirements;
 pub use crate::address::Address;
 pub use crate::advisory::{Advisory, first_line};
 pub use crate::affected::Affected;
-pub use crate::lint_places::lint_error_line;
+pub use crate::lint_places::{lint_error_line, placed_errors};
 pub use crate::linter::Linter;
 pub use crate::metadata::Metadata;

@@ -5,6 +5,12 @@ use crate::linter::{Error, ErrorKind};
 use rustsec_texts::Parts;
 use std::alloc::{AllocError, Global};
 
+/// The most bytes that the look-ups of the lines of a text's lint errors read together.
+const MOST_READ: usize = 1_048_576;
+
+/// The number of lint errors whose lines are looked up however long the text is.
+const LEAST: usize = 10;
+
 /// Returns the key that a lint error is about.
 fn key_of(error: &Error) -> &str {
     match error.kind() {
@@ -62,4 +68,13 @@ pub fn lint_error_line(
     }
     let keys = section_keys(parts.front_matter, error.section());
     front.at(keys).line_of(alloc, key_of(error))
+}
+
+/// Returns how many of a text's lint errors a note names with their lines. Each look-up may read the whole text, and all
+/// of them together read at most a mebibyte; ten are looked up in any text.
+pub fn placed_errors(text: &str) -> usize {
+    MOST_READ
+        .checked_div(text.len())
+        .unwrap_or(MOST_READ)
+        .max(LEAST)
 }

@@ -6,7 +6,7 @@ ghost use Rattle.rustsec_commands.specs.Lint.{IsLintOutput, error_line, errors_o
 
 use crate::lint_notes::lint_note;
 use crate::output::Output;
-use crate::refusal::refusal_of_file;
+use crate::refusal::{refusal, refusal_of_file};
 use rustsec_advisory::linter::{self, Linter};
 use rustsec_files::path::is_draft;
 use rustsec_folders::Folders;
@@ -53,7 +53,7 @@ pub fn lint_output<F: Folders>(
 {
     let text = match Linter::file_text_with(alloc, folders, path) {
         Ok(text) => text,
-        Err(error) => return refusal_of_file(alloc, path, &error),
+        Err(error) => return refusal(alloc, &error),
     };
     match Linter::lint_string(alloc, text.as_str(), Some(is_draft(path))) {
         Ok(linter) => noted_output(alloc, text.as_str(), &linter),

@@ -2,14 +2,11 @@
 
 use crate::warnings::add_warnings;
 use rustsec_advisory::linter::{Error, ErrorKind};
-use rustsec_advisory::{Linter, Metadata, lint_error_line};
+use rustsec_advisory::{Linter, Metadata, lint_error_line, placed_errors};
 use rustsec_policy::nearest_word;
 use rustsec_shown::push_shown;
 use std::alloc::{AllocError, Global};
 use std::fmt::Write as _;
-
-/// The number of lint errors that a note names, since the text is searched for each of them.
-const SHOWN: usize = 10;
 
 /// The keys of the section `advisory`.
 const ADVISORY_KEYS: &[&str] = &[
@@ -154,14 +151,15 @@ fn add_line(
     note.push('\n')
 }
 
-/// Returns the note about the lint errors of an advisory's text: a line for each of the first ones, the number of the
-/// others, and the warnings about the advisory.
+/// Returns the note about the lint errors of an advisory's text: a line for each of them, or for the first ones of a very
+/// long text and the number of the others, and the warnings about the advisory.
 pub fn lint_note(alloc: Global, text: &str, linter: &Linter) -> Result<String, AllocError> {
     let mut note = String::new(alloc);
-    for error in linter.errors().iter().take(SHOWN) {
+    let shown = placed_errors(text);
+    for error in linter.errors().iter().take(shown) {
         add_line(alloc, &mut note, text, linter, error)?;
     }
-    let more = linter.errors().len().saturating_sub(SHOWN);
+    let more = linter.errors().len().saturating_sub(shown);
     if more > 0 {
         writeln!(note, "rustsec_audit: and {more} more lint errors")?;
     }

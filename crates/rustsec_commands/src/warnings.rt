@@ -5,10 +5,6 @@ use rustsec_advisory::Advisory;
 use rustsec_lint_database::{edition_note, reading_notes, upstream_notes};
 use rustsec_shown::push_shown;
 use std::alloc::{AllocError, Global};
-use std::fmt::Write as _;
-
-/// The number of requirements that a note names.
-const SHOWN: usize = 10;
 
 /// Appends a warning, on one line.
 fn add_warning(note: &mut String, words: &str) -> Result<(), AllocError> {
@@ -39,8 +35,7 @@ fn add_upstream(
     Ok(())
 }
 
-/// Appends a warning for each of the first requirements that Cargo's matching reads differently, and the number of the
-/// others.
+/// Appends a warning for each requirement that Cargo's matching reads differently.
 fn add_readings(
     alloc: Global,
     note: &mut String,
@@ -48,15 +43,8 @@ fn add_readings(
     advisory: &Advisory,
 ) -> Result<(), AllocError> {
     let readings = reading_notes(alloc, text, &advisory.versions)?;
-    for reading in readings.iter().take(SHOWN) {
+    for reading in readings.as_slice() {
         add_warning(note, reading.as_str())?;
-    }
-    let more = readings.len().saturating_sub(SHOWN);
-    if more > 0 {
-        writeln!(
-            note,
-            "rustsec_audit: and {more} more requirements that Cargo's matching reads differently"
-        )?;
     }
     Ok(())
 }

@@ -6,15 +6,12 @@ use crate::placement::{push_collection, push_folder, push_name};
 use crate::readings::reading_notes;
 use crate::remark::{Remark, RemarkKind};
 use crate::upstream::upstream_notes;
-use rustsec_advisory::lint_error_line;
 use rustsec_advisory::linter::{self, Linter};
+use rustsec_advisory::{lint_error_line, placed_errors};
 use rustsec_database::filing;
 use rustsec_edition::FoundForm;
 use rustsec_values::{Items, Text};
 use std::alloc::{AllocError, Global};
-
-/// The number of lint errors whose lines are named. Each takes a search of the whole front matter.
-const SHOWN: usize = 10;
 
 /// The file of an advisory: its path, its text, what the linter read of it, and the first form of TOML 1.1 in it.
 #[derive(Clone, Copy)]
@@ -39,19 +36,21 @@ fn placed(alloc: Global, text: &str, error: &linter::Error) -> Result<Option<Tex
     Ok(Some(placed))
 }
 
-/// Returns the first lint errors of an advisory's text after their lines, and how many more there are.
+/// Returns the lint errors of an advisory's text after their lines; of a very long text the first ones, and how many more
+/// there are.
 fn lint_words(
     alloc: Global,
     text: &str,
     errors: &[linter::Error],
 ) -> Result<Items<Text>, AllocError> {
     let mut words = Items::new(alloc);
-    for error in errors.iter().take(SHOWN) {
+    let shown = placed_errors(text);
+    for error in errors.iter().take(shown) {
         if let Some(line) = placed(alloc, text, error)? {
             words.push(line)?;
         }
     }
-    let more = errors.len().saturating_sub(SHOWN);
+    let more = errors.len().saturating_sub(shown);
     if more > 0 {
         let rest = format!(in alloc; "and {more} more lint errors")?;
         words.push(Text::from(rest))?;

@@ -1,7 +1,8 @@
 //! Lockfiles (`Cargo.lock`).
 
-ghost use Rattle.std.specs.Prelude.{◌≡◌, ◌++◌, ◌∷◌, ◌⊎◌, [], ℕ, IfErr, IfOk, List, None, OnOk, Some, option_map};
+ghost use Rattle.std.specs.Prelude.{◌≡◌, ◌≢◌, ◌++◌, ◌∷◌, ◌⊎◌, [], ℕ, IfErr, IfOk, List, None, OnErr, OnOk, Some, codes, option_map};
 ghost use Rattle.semver.specs.Identifiers.{parts_of};
+ghost use Rattle.toml.specs.Data.{get_member};
 ghost use Rattle.toml.specs.View.{array_view, table_view, view};
 ghost use Rattle.rustsec_values.specs.Reading.{read_all, read_optional};
 ghost use Rattle.rustsec_folders.specs.Allowed.{AllowSame, real_folders};
@@ -157,6 +158,7 @@ fn packages_at(alloc: Global, table: &Table, text: &str) -> Result<Items<Package
     ensures ok { IfOk result (λ ps. packages_of (table_view table.now) ≡ Some ps) }
     ensures valid { IfOk result AreValid }
     ensures err { IfErr result (IsRefusal ErrorKind.Parse (packages_of (table_view table.now) ≡ None)) }
+    ensures none { OnErr result (get_member (codes "package") (table_view table.now) ≢ None) }
 {
     let section = Section {
         table,
@@ -190,6 +192,9 @@ impl Lockfile {
         ensures ok { IfOk result (λ l. packages_of (table_view table.now) ≡ Some l.packages) }
         ensures valid { IfOk result (λ l. AreValid l.packages) }
         ensures err { IfErr result (IsRefusal ErrorKind.Parse (packages_of (table_view table.now) ≡ None)) }
+
+        // A lockfile without the key `package` takes no memory.
+        ensures none { OnErr result (get_member (codes "package") (table_view table.now) ≢ None) }
     {
         let packages = packages_at(alloc, table, "")?;
         Ok(Lockfile { packages })

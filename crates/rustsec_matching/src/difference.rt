@@ -1,12 +1,13 @@
 //! Finds a release that the interval of a requirement holds and Cargo's matching does not, or the other way round.
 
-ghost use Rattle.std.specs.Prelude.{◌≡◌, ◌∷◌, ℕ, [], IfErr, IfOk, IfSome, IsSomeAnd, List, None, Ok, Some, map, true};
+ghost use Rattle.std.specs.Prelude.{◌≡◌, ◌∷◌, ℕ, [], IfErr, IfOk, IfSome, IsSomeAnd, List, None, Ok, OnErr, Some, map, true};
 ghost use Rattle.std.specs.List.{All, Any};
 ghost use Rattle.semver.specs.EvalViews.{matches_views};
 ghost use Rattle.semver.specs.Identifiers.{comparator_view, parts_of};
 ghost use Rattle.semver.specs.Parse.{Held, Parts, req_of};
 ghost use Rattle.rustsec_error.specs.Failure.{IsRefusal};
 ghost use Rattle.rustsec_versions.specs.Interval.{Interval};
+ghost use Rattle.rustsec_versions.specs.Memory.{hold_no_text};
 ghost use Rattle.rustsec_versions.specs.Requirement.{interval_of};
 ghost use Rattle.rustsec_versions.specs.Views.{comparators_of};
 ghost use Rattle.rustsec_matching.specs.Matching.{Agree, IsDifference, IsReadAlike, IsReadAs, IsRelease, IsWhole, LeavesLast, first_patch, is_greater, is_read_differently, with_zeros};
@@ -117,6 +118,9 @@ pub fn find_difference(alloc: Global, requirement: &VersionReq) -> Result<Option
     // The comparators of a requirement that is read from a text leave out their last numbers alone.
     ensures read { (text : List ℕ) → req_of text ≡ Ok (comparators_of requirement.now) → All LeavesLast (comparators_of requirement.now) }
     ensures err { IfErr result (IsRefusal ErrorKind.BadParam (interval_of (comparators_of requirement.now) ≡ None)) }
+
+    // No memory is taken for `*`, nor for `>`, `>=`, `<` or `<=` with a release.
+    ensures refused { OnErr result (hold_no_text (comparators_of requirement.now) ≡ true → interval_of (comparators_of requirement.now) ≡ None) }
 {
     let interval = UnaffectedRange::from_req(alloc, requirement)?;
     let found = first_difference(requirement, &interval);

@@ -33,8 +33,6 @@ mod osv_refusals;
 #[cfg(test)]
 mod paths;
 #[cfg(test)]
-mod platforms;
-#[cfg(test)]
 mod readings;
 #[cfg(test)]
 mod refusal_messages;

@@ -1,15 +1,17 @@
 //! Where `lint` says that the faults of an advisory are: the lines of its file.
 
 mod rows;
+mod tables;
 
 use crate::notes::expect_notes;
-use rows::{AFFECTED, DOCUMENTS, KEYS, KINDS, LISTS, REQUIRED, VALUES, VERSIONS};
+use rows::{KEYS, KINDS, LISTS, REQUIRED, VALUES};
 use rustsec_fixtures::changed;
 use std::alloc::Global;
 use std::fs;
 use std::process::Abort;
 use std::rt::Files;
 use std::test::Fail;
+use tables::{AFFECTED, DOCUMENTS, PARTS, VERSIONS};
 
 /// The file of an advisory with one fault.
 const FILE: &str = "lint-places.md";
@@ -106,4 +108,9 @@ fn lint_places_of_affected(rt: HostRuntime) -> Result<(), Fail> {
 #[test]
 fn lint_places_of_documents(rt: HostRuntime) -> Result<(), Fail> {
     expect_rows(&rt, DOCUMENTS)
+}
+
+#[test]
+fn lint_places_of_parts(rt: HostRuntime) -> Result<(), Fail> {
+    expect_rows(&rt, PARTS)
 }

@@ -180,17 +180,6 @@ impl<'a> TablePlace<'a> {
         Ok(Some(place.from_line(self.line).line))
     }
 
-    /// Returns a message about a key of the table, with the key's place.
-    fn message_at(
-        self,
-        alloc: Global,
-        key: &str,
-        message: &str,
-    ) -> std::result::Result<String, AllocError> {
-        let place = Place::of_end(self.text, self.from_part(alloc, key)?);
-        placed(alloc, self, place, message)
-    }
-
     /// Adds the place of a key of the table, or of an element of the array at the key, to an error about it, if the text
     /// is known. Out of memory stays as it is.
     pub fn refused_at(self, alloc: Global, key: &str, error: Error) -> Error
@@ -200,7 +189,22 @@ impl<'a> TablePlace<'a> {
         if self.text.is_empty() || error.kind() == ErrorKind::OutOfMemory {
             return error;
         }
-        match self.message_at(alloc, key, error.message()) {
+        match self.from_part(alloc, key) {
+            Ok(part) => self.refused_from(alloc, part, error),
+            Err(refused) => Error::from(refused),
+        }
+    }
+
+    /// Adds the place from which on a part of the text is given to an error about it. Out of memory stays as it is.
+    pub fn refused_from(self, alloc: Global, part: &str, error: Error) -> Error
+        ensures kind { IsOfKind error.kind result }
+        ensures memory { IsMemory error → IsMemory result }
+    {
+        if error.kind() == ErrorKind::OutOfMemory {
+            return error;
+        }
+        let place = Place::of_end(self.text, part);
+        match placed(alloc, self, place, error.message()) {
             Ok(message) => Error::with_cause(alloc, error.kind(), &message, error.cause()),
             Err(refused) => Error::from(refused),
         }

@@ -30,6 +30,8 @@ mod merges;
 #[cfg(test)]
 mod packages;
 #[cfg(test)]
+mod platforms;
+#[cfg(test)]
 mod readme;
 #[cfg(test)]
 mod sources;

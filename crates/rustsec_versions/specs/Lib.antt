@@ -7,6 +7,7 @@ pub mod Gaps
 pub mod Interval
 pub mod IntervalText
 pub mod Lists
+pub mod Memory
 pub mod Merged
 pub mod Precedence
 pub mod Ranges

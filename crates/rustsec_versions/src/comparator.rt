@@ -1,10 +1,11 @@
 //! The bounds that the comparators of a requirement give.
 
-ghost use Rattle.std.specs.Prelude.{◌≡◌, ◌&&◌, ◌<◌, ◌^◌, ◌+◌, IfErr, IfOk, None, Some, [], ◌∷◌, true};
+ghost use Rattle.std.specs.Prelude.{◌≡◌, ◌==◌, ◌&&◌, ◌<◌, ◌^◌, ◌+◌, IfErr, IfOk, None, OnErr, Some, [], ◌∷◌, false, length, true};
 ghost use Rattle.semver.specs.Grammar.{is_pre_release};
 ghost use Rattle.semver.specs.Identifiers.{comparator_view, parts_of, pre_text};
 ghost use Rattle.rustsec_error.specs.Failure.{IsMemory, IsOfKind, IsRefusal};
 ghost use Rattle.rustsec_values.specs.Reading.{only_if};
+ghost use Rattle.rustsec_versions.specs.Memory.{gives_one_bound, hold_no_text};
 ghost use Rattle.rustsec_versions.specs.Requirement.{caret_end, fits, names_version, least_of, named, next_major, next_minor, next_patch, of_one, side_of, stated, tilde_end};
 ghost use Rattle.rustsec_versions.specs.Views.{comparators_of, endpoint_of, interval_between, side_view};
 
@@ -19,6 +20,7 @@ fn checked_pre(alloc: Global, pre: &Prerelease) -> Result<Prerelease>
     ensures ok { IfOk result (λ p. only_if (is_pre_release (pre_text pre.now)) (Some (pre_text pre.now))
         ≡ Some (pre_text p)) }
     ensures err { IfErr result (IsRefusal ErrorKind.BadParam (only_if (is_pre_release (pre_text pre.now)) (Some (pre_text pre.now)) ≡ None)) }
+    ensures none { OnErr result ((length (pre_text pre.now) == 0) ≡ false) }
 {
     match Prerelease::new(alloc, pre.as_str()) {
         Ok(pre) => Ok(pre),
@@ -135,6 +137,7 @@ fn named(alloc: Global, c: &Comparator) -> Result<Version>
     ensures ok { IfOk result (λ v. only_if (names_version (comparator_view c.now)) (Some (named (comparator_view c.now)))
         ≡ Some (parts_of v)) }
     ensures err { IfErr result (IsRefusal ErrorKind.BadParam (only_if (names_version (comparator_view c.now)) (Some (named (comparator_view c.now))) ≡ None)) }
+    ensures none { OnErr result ((length (pre_text c.now.pre) == 0) ≡ false) }
 {
     let major = c.major;
     let minor = c.minor.unwrap_or(0);
@@ -148,6 +151,7 @@ fn bounds_by_op(alloc: Global, c: &Comparator, version: Version) -> Result<(Boun
     requires { parts_of version ≡ named (comparator_view c.now) }
     ensures ok { IfOk result (λ b. of_one c.now.op (comparator_view c.now) ≡ Some (interval_between b.0 b.1)) }
     ensures err { IfErr result (IsRefusal ErrorKind.BadParam (of_one c.now.op (comparator_view c.now) ≡ None)) }
+    ensures none { OnErr result (gives_one_bound c.now.op ≡ false) }
 {
     match c.op {
         Op::Greater => Ok((Bound::Exclusive(version), Bound::Unbounded)),
@@ -177,6 +181,7 @@ fn bounds_by_op(alloc: Global, c: &Comparator, version: Version) -> Result<(Boun
 fn bounds_of_one(alloc: Global, c: &Comparator) -> Result<(Bound, Bound)>
     ensures ok { IfOk result (λ b. stated (comparator_view c.now ∷ []) ≡ Some (interval_between b.0 b.1)) }
     ensures err { IfErr result (IsRefusal ErrorKind.BadParam (stated (comparator_view c.now ∷ []) ≡ None)) }
+    ensures none { OnErr result (hold_no_text (comparator_view c.now ∷ []) ≡ false) }
 {
     let version = named(alloc, c)?;
     bounds_by_op(alloc, c, version)
@@ -244,6 +249,7 @@ fn bounds_of_two(alloc: Global, c: &Comparator, d: &Comparator) -> Result<(Bound
 pub(crate) fn bounds_of(alloc: Global, req: &VersionReq) -> Result<(Bound, Bound)>
     ensures ok { IfOk result (λ b. stated (comparators_of req.now) ≡ Some (interval_between b.0 b.1)) }
     ensures err { IfErr result (IsRefusal ErrorKind.BadParam (stated (comparators_of req.now) ≡ None)) }
+    ensures none { OnErr result (hold_no_text (comparators_of req.now) ≡ false) }
 {
     match req.comparators.as_slice() {
         [] => Ok((Bound::Unbounded, Bound::Unbounded)),

@@ -8,6 +8,7 @@ ghost use Rattle.rustsec_versions.specs.Equality.{endpoint_eq, endpoint_equiv, i
 ghost use Rattle.rustsec_error.specs.Failure.{IsMemory, IsOfKind, IsRefusal};
 ghost use Rattle.rustsec_versions.specs.Interval.{holds, is_after, is_before, overlap, reaches};
 ghost use Rattle.rustsec_versions.specs.IntervalText.{end_text, interval_text, start_text};
+ghost use Rattle.rustsec_versions.specs.Memory.{hold_no_text};
 ghost use Rattle.rustsec_versions.specs.Merged.{ends_by};
 ghost use Rattle.rustsec_versions.specs.Precedence.{version_order};
 ghost use Rattle.rustsec_versions.specs.Ranges.{has_bound};
@@ -200,6 +201,7 @@ fn admissible_interval(alloc: Global, req: &VersionReq) -> Result<UnaffectedRang
     ensures ok { IfOk result (λ r. interval_of (comparators_of req.now) ≡ Some r) }
     ensures err { IfErr result
         (IsRefusal ErrorKind.BadParam (interval_of (comparators_of req.now) ≡ None)) }
+    ensures none { OnErr result (hold_no_text (comparators_of req.now) ≡ true → interval_of (comparators_of req.now) ≡ None) }
 {
     let (start, end) = bounds_of(alloc, req)?;
     if !is_start(&start) || !is_end(&end) {
@@ -247,6 +249,9 @@ impl UnaffectedRange {
         ensures ok { IfOk result (λ r. interval_of (comparators_of req.now) ≡ Some r) }
         ensures err { IfErr result
             (IsRefusal ErrorKind.BadParam (interval_of (comparators_of req.now) ≡ None)) }
+
+        // The interval of `*`, and of `>`, `>=`, `<` or `<=` with a release, takes no memory.
+        ensures none { OnErr result (hold_no_text (comparators_of req.now) ≡ true → interval_of (comparators_of req.now) ≡ None) }
     {
         match admissible_interval(alloc, req) {
             Ok(interval) => Ok(interval),

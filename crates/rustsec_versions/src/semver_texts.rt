@@ -1,10 +1,11 @@
 //! Parses versions and requirements. An error shows the text, and its cause is the reason of `semver`.
 
-ghost use Rattle.std.specs.Prelude.{◌≡◌, IfErr, IfOk, None, Some, true};
+ghost use Rattle.std.specs.Prelude.{◌≡◌, ◌≢◌, [], IfErr, IfOk, None, OnErr, Some, false, true};
 ghost use Rattle.semver.specs.Identifiers.{parts_of};
 ghost use Rattle.semver.specs.Parse.{memory_error, req_of, version_parts};
 ghost use Rattle.rustsec_values.specs.Reading.{value_of};
 ghost use Rattle.rustsec_error.specs.Failure.{IsOfKind, IsRefusal};
+ghost use Rattle.rustsec_versions.specs.Memory.{is_plain};
 ghost use Rattle.rustsec_versions.specs.Views.{comparators_of};
 
 use rustsec_error::{Error, ErrorKind, Result, refused_for};
@@ -43,6 +44,9 @@ fn refused_by(
 pub fn read_version(alloc: Global, text: &str, written: &str) -> Result<Version>
     ensures ok { IfOk result (λ v. value_of (version_parts text.now) ≡ Some (parts_of v)) }
     ensures err { IfErr result (IsRefusal ErrorKind.Parse (value_of (version_parts text.now) ≡ None)) }
+
+    // A version without a pre-release and without build metadata takes no memory.
+    ensures none { OnErr result (is_plain (value_of (version_parts text.now)) ≡ false) }
 {
     match Version::parse(alloc, text) {
         Ok(version) => Ok(version),
@@ -65,6 +69,9 @@ pub fn read_version(alloc: Global, text: &str, written: &str) -> Result<Version>
 pub fn read_requirement(alloc: Global, text: &str) -> Result<VersionReq>
     ensures ok { IfOk result (λ r. value_of (req_of text.now) ≡ Some (comparators_of r)) }
     ensures err { IfErr result (IsRefusal ErrorKind.Parse (value_of (req_of text.now) ≡ None)) }
+
+    // `*` takes no memory.
+    ensures none { OnErr result (value_of (req_of text.now) ≢ Some []) }
 {
     match VersionReq::parse(alloc, text) {
         Ok(req) => Ok(req),

@@ -6,8 +6,8 @@ use Rattle.rustsec_commands.proofs.lint.lint_output.Goals as goal
 pub returns-in-Err-clause-ok : goal.returns-in-Err-clause-ok
 returns-in-Err-clause-ok g c =
     let allowed = g.F.Folders.allowed c.args.folders.now in
-    IfOk-weaker c.refusal_of_file.result _ _
-    (λ o h. refused c.in-Err.error (no_text allowed c.args.path.now c.in-Err.error c.in-Err.ensures.err) h.0 h.1) c.refusal_of_file.ensures
+    IfOk-weaker c.refusal.result _ _
+    (λ o h. refused c.in-Err.error (no_text allowed c.args.path.now c.in-Err.error c.in-Err.ensures.err) h.0 h.1) c.refusal.ensures
 
 pub returns-in-Ok-lint_string-clause-ok : goal.returns-in-Ok-lint_string-clause-ok
 returns-in-Ok-lint_string-clause-ok g c =
@@ -17,9 +17,9 @@ returns-in-Ok-lint_string-clause-ok g c =
 pub returns-clause-ok : goal.returns-clause-ok
 returns-clause-ok g c =
     let allowed = g.F.Folders.allowed c.args.folders.now in
-    IfOk-weaker c.refusal_of_file-in-Err-lint_string.result _ _
+    IfOk-weaker c.refusal_of_file.result _ _
     (λ o h. refused c.in-Err-lint_string.error
     (no_advisory allowed c.args.path.now c.in-Ok.text c.in-Err-lint_string.error c.in-Ok.ensures.ok.0 c.in-Ok.ensures.ok.1
     (rw c.as_str.ensures at c.in-Err-lint_string.ensures.err))
     h.0 h.1)
-    c.refusal_of_file-in-Err-lint_string.ensures
+    c.refusal_of_file.ensures

@@ -1,5 +1,5 @@
 use Rattle.std.proofs.Common.{◌≡◌, Bool, Ok, Err, Some, None, true, false, refl, sym}
-use Rattle.std.specs.Prelude.{IfErr, IfOk, OnOk, Result}
+use Rattle.std.specs.Prelude.{IfErr, IfOk, OnErr, OnOk, Result}
 use Rattle.rustsec_values.specs.Reading.{only_if}
 use Rattle.rustsec_error.specs.Failure.{Failure, IsRefusal}
 use Rattle.rustsec_versions.specs.Interval.{Interval}
@@ -19,6 +19,10 @@ refused_under : (k : ErrorKind) (r : Result Interval Failure) (b : Bool) (i : In
 refused_under k (Ok x) b i h = tt
 refused_under k (Err e) b i h = refused_by k e (λ (f : b ≡ false). rw f refl) h
 
+none_under : (P : Type 0) (r : Result Interval Failure) (b : Bool) (i : Interval) → OnErr r (b ≡ false) → OnErr r (P → only_if b (Some i) ≡ None)
+none_under P (Ok x) b i h = tt
+none_under P (Err e) b i h = λ p. rw h refl
+
 pub returns-clause-ok : goal.returns-clause-ok
 returns-clause-ok c =
     let made = interval_of-stated (comparators_of c.args.req.now) _ c.in_ok-start.ensures.ok (sym (c.if-not-is_start.ensures)) (sym (c.if-not-is_end.ensures)) in
@@ -28,3 +32,8 @@ pub returns-clause-err : goal.returns-clause-err
 returns-clause-err c =
     let made = interval_of-stated (comparators_of c.args.req.now) _ c.in_ok-start.ensures.ok (sym (c.if-not-is_start.ensures)) (sym (c.if-not-is_end.ensures)) in
     rw made (refused_under _ _ _ _ c.new.ensures.err)
+
+pub returns-clause-none : goal.returns-clause-none
+returns-clause-none c =
+    let made = interval_of-stated (comparators_of c.args.req.now) _ c.in_ok-start.ensures.ok (sym (c.if-not-is_start.ensures)) (sym (c.if-not-is_end.ensures)) in
+    rw made (none_under _ _ _ _ c.new.ensures.refused)
