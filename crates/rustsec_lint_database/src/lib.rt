@@ -16,6 +16,6 @@ pub use crate::counts::{Counts, counts_of};
 pub use crate::database::{Entry, Step, Watcher, lint_database};
 pub use crate::edition::edition_note;
 pub use crate::file::{FileLint, FileNotes, Linted, lint_file, lint_source};
-pub use crate::readings::{reading_notes, reading_of, readings_of};
+pub use crate::readings::{reading_notes, readings_of};
 pub use crate::remark::{Remark, RemarkKind};
 pub use crate::upstream::{upstream_notes, upstream_remarks};

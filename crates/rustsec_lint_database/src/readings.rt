@@ -53,13 +53,9 @@ fn words(
     )
 }
 
-/// Returns a note on a requirement, if Cargo's matching reads it differently: how it is read here, and a release that
-/// shows the difference.
-///
-/// # Errors
-///
-/// Out of memory, also if the requirement is not admissible.
-pub fn reading_of(alloc: Global, requirement: &VersionReq) -> Result<Option<String>, AllocError> {
+/// Returns a note on a requirement of accepted versions, which is admissible, if Cargo's matching reads it differently: how
+/// it is read here, and a release that shows the difference.
+fn reading_of(alloc: Global, requirement: &VersionReq) -> Result<Option<String>, AllocError> {
     match find_difference(alloc, requirement) {
         Ok(Some(found)) => Ok(Some(words(alloc, requirement, &found)?)),
         Ok(None) => Ok(None),

@@ -25,13 +25,13 @@ fn description(alloc: Global) -> Result<String, Fail> {
 }
 
 /// Returns the text of an advisory with the long description.
-fn described(alloc: Global) -> Result<String, Fail> {
+pub(crate) fn described(alloc: Global) -> Result<String, Fail> {
     let description = description(alloc)?;
     changed(alloc, VALID, DESCRIPTION, &description)
 }
 
 /// Returns the text of an advisory with thousands of functions.
-fn with_functions(alloc: Global) -> Result<String, Fail> {
+pub(crate) fn with_functions(alloc: Global) -> Result<String, Fail> {
     let lines = numbered(alloc, FUNCTIONS, "\"base::f@\" = [\"< 1.2.3\"]\n")?;
     let table = format!(in alloc; "[affected.functions]\n{lines}")?;
     changed(alloc, VALID, FUNCTION_LINE, &table)

@@ -23,3 +23,5 @@ mod pairs;
 mod requirements;
 #[cfg(test)]
 mod texts;
+#[cfg(test)]
+mod values;

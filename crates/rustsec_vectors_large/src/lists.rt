@@ -105,7 +105,7 @@ fn thousands_of_packages_to_update(rt: HostRuntime) -> Result<(), Fail> {
 }
 
 /// Returns an OSV document of the crate `base` with hundreds of ranges of affected versions, the greatest first.
-fn document(alloc: Global) -> Result<OsvAdvisory, Fail> {
+pub(crate) fn document(alloc: Global) -> Result<OsvAdvisory, Fail> {
     let events = numbered(
         alloc,
         RANGES,
