@@ -1,9 +1,8 @@
 -- Entries of a list, one after another.
-use Rattle.std.proofs.Common.{◌≡◌, ◌∙◌, ◌+◌, ◌-◌, ◌<◌, ◌++◌, inl, inr, ℕ, suc, Bool, true, false, List, [], ◌∷◌, Option, Some, None, arith, get_or, length, map, take, refl, sym, ap}
+use Rattle.std.proofs.Common.{◌≡◌, ◌∙◌, ◌+◌, ◌-◌, ◌<◌, ◌++◌, ℕ, suc, List, [], ◌∷◌, Option, Some, None, get_or, length, map, take, refl, sym, ap}
 use Rattle.std.specs.Prelude.{codes, filter_map, option_map}
 use Rattle.std.specs.Borrow.{Bor}
-use Rattle.std.specs.List.{cons_option, filter, fold, list_any}
-use Rattle.std.proofs.lemmas.Bool.{cases_Bool}
+use Rattle.std.specs.List.{cons_option, fold}
 use Rattle.std.proofs.lemmas.List.{take_more}
 use Rattle.std.proofs.lemmas.List.Elements.{filter_map-append}
 use Rattle.toml.specs.Data.{Data, Members, as_array, get_member}
@@ -78,21 +77,3 @@ module _ (cs : List Candidate) (dependencies : Option (Bor Value)) (value : Bor 
   unresolved-are n l m less all found =
       less ∙ ap (λ k. k - m) (all ∙ ap length same ∙ sym (length-view vs)) ∙ ap (λ k. length (list_of (items_view vs)) - k) (found ∙ ap length targets-all)
       ∙ ap (unresolved_of_array cs) array ∙ ap (λ o. unresolved_of cs (option_map (λ d. view d.now) o)) (sym is)
-
--- ---- elements that are kept
-
--- where one of the elements passes, one is kept
-pub any_kept : {A : Type 0} (p : A → Bool) (xs : List A) → list_any p xs ≡ true → 0 < length (filter p xs)
-any_kept p [] h = cc h
-any_kept p (x ∷ xs) h = elim (cases_Bool (p x)) [
-  | inl e ↦ grind (arith, e)
-  | inr e ↦ grind (arith, any_kept p xs (grind (arith, e, h)), e)
-]
-
--- where none passes, none is kept
-pub none_kept : {A : Type 0} (p : A → Bool) (xs : List A) → list_any p xs ≡ false → filter p xs ≡ []
-none_kept p [] h = refl
-none_kept p (x ∷ xs) h = elim (cases_Bool (p x)) [
-  | inl e ↦ grind (arith, e, h)
-  | inr e ↦ grind (arith, none_kept p xs (grind (arith, e, h)), e)
-]

@@ -106,15 +106,7 @@ fn is_marked(marks: &[bool], place: usize) -> bool
     }
 }
 
-/// Returns whether there is an edge to a place.
-fn has_dependents(edges: &[Items<usize>], place: usize) -> bool
-    ensures { result ≡ list_any (is_successor edges.now place) (places (length edges.now)) }
-{
-    (0..edges.len()).any(|from| is_successor(edges, place, from))
-}
-
 /// Returns the places with an edge to a place, in order.
-#[tactic(auto, using(crate::proofs::Lists::any_kept, crate::proofs::Lists::none_kept))]
 pub(crate) fn dependents(
     alloc: Global,
     edges: &[Items<usize>],
@@ -125,12 +117,13 @@ pub(crate) fn dependents(
     // The answer that there is no place takes no memory.
     ensures none { OnErr result (0 < length (dependents edges.now place)) }
 {
-    if !has_dependents(edges, place) {
-        return Ok(Vec::new(alloc));
+    let mut dependents = Vec::new(alloc);
+    for from in 0..edges.len() {
+        if is_successor(edges, place, from) {
+            dependents.push(from)?;
+        }
     }
-    (0..edges.len())
-        .filter(|from| is_successor(edges, place, *from))
-        .collect(alloc)
+    Ok(dependents)
 }
 
 /// Returns whether there is a package at a place, and it has no source.
