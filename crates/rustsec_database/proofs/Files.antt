@@ -21,7 +21,7 @@ filed-more [] (b ∷ all) f a h k = absurd h
 filed-more (g ∷ files) [] f a h k = absurd h
 filed-more (g ∷ files) (b ∷ all) f a h k = (h.0, filed-more files all f a h.1 k)
 
-one-more : (b : Bool) (l : List Advisory) (a : Advisory) → cond b (l ++ a ∷ []) l ≡ l ++ cond b (a ∷ []) []
+pub one-more : (b : Bool) (l : List Advisory) (a : Advisory) → cond b (l ++ a ∷ []) l ≡ l ++ cond b (a ∷ []) []
 one-more true l a = refl
 one-more false l a = sym (append-nil l)
 

@@ -1,6 +1,7 @@
 pub mod Files
 pub mod FurtherFile
 pub mod Indexes
+pub mod Keeping
 pub mod Once
 pub mod OnlyWithId
 pub mod Opening
@@ -8,3 +9,4 @@ pub mod Pairs
 pub mod Places
 pub mod Slots
 pub mod Tables
+pub mod Touching

@@ -77,13 +77,14 @@ file-read : (a b : Allowed) (item path copy text whole : List ℕ) → AllowSame
 file-read a b item path copy text whole same is also all h =
     (also, subst (λ (p : List ℕ). a.reads p (Some text)) is (subst (λ (t : List ℕ). a.reads path (Some t)) (sym all) ((same.reads path (Some whole)).1 h)))
 
--- one more file was read and loaded
-pub load-step : (a b : Allowed) (paths : List (List ℕ)) (i : ℕ) (item path copy text whole : List ℕ) (before answer : Result (List Advisory) Failure)
-    → AllowSame a b → i < length paths → item ≡ get_or paths i item → path ≡ item → copy ≡ item → text ≡ whole
-    → (files : List SourceFile) × (Pairwise (IsFile a) (take i paths) files × IsLoadOf files before) → b.reads path (Some whole)
-    → ((files : List SourceFile) → IsLoadOf files before → IsLoadOf (files ++ record { path = copy; text = text } ∷ []) answer)
-    → (files : List SourceFile) × (Pairwise (IsFile a) (take (i + 1) paths) files × IsLoadOf files answer)
-load-step a b paths i item path copy text whole before answer same l at is also all (files, (read, load)) h next = (
+-- one more file was read and loaded, with a property of the files and of the result of loading them
+pub load-step : {A : Type 0} (P : List SourceFile → Result A Failure → Type 0) (a b : Allowed) (paths : List (List ℕ)) (i : ℕ)
+    (item path copy text whole : List ℕ) (before answer : Result A Failure) → AllowSame a b → i < length paths → item ≡ get_or paths i item
+    → path ≡ item → copy ≡ item → text ≡ whole → (files : List SourceFile) × (Pairwise (IsFile a) (take i paths) files × P files before)
+    → b.reads path (Some whole)
+    → ((files : List SourceFile) → P files before → P (files ++ record { path = copy; text = text } ∷ []) answer)
+    → (files : List SourceFile) × (Pairwise (IsFile a) (take (i + 1) paths) files × P files answer)
+load-step P a b paths i item path copy text whole before answer same l at is also all (files, (read, load)) h next = (
   files ++ record { path = copy; text = text } ∷ [],
   (
     pairwise-step (IsFile a) paths files i item (record { path = copy; text = text }) l at read (file-read a b item path copy text whole same is also all h),

@@ -26,7 +26,7 @@ use Rattle.rustsec_database.proofs.Slots.{with_slot-last}
 id-back : (a b : IdValue) → id_eq a b ≡ false → id_eq b a ≡ false
 id-back a b h = is-false (id_eq b a) (λ t. cc (sym h ∙ (id_decides a b).1 (sym ((id_decides b a).0 t))))
 
-plus-zero : (n : ℕ) → n ≡ 0 + n
+pub plus-zero : (n : ℕ) → n ≡ 0 + n
 plus-zero n = omega arith
 
 table-step : (old : List Advisory) (a : Advisory) (id : IdValue) (o : Option ℕ) (b : Bool) → id_eq a.metadata.id id ≡ b
@@ -61,7 +61,7 @@ second-fails false b h = refl
 first-fails : (a b : Bool) → a ≡ false → (a && b) ≡ false
 first-fails a b h = rw h refl
 
-name-back : (a b : List ℕ) → pointwise nat_eq a b ≡ false → pointwise nat_eq b a ≡ false
+pub name-back : (a b : List ℕ) → pointwise nat_eq a b ≡ false → pointwise nat_eq b a ≡ false
 name-back a b h = is-false (pointwise nat_eq b a) (λ t. cc (sym h ∙ (bytes_decides a b).1 (sym ((bytes_decides b a).0 t))))
 
 index-step : (c : Collection) (before : List Advisory) (a : Advisory) (slot : ℕ) (old : List (List ℕ × List ℕ)) (name : List ℕ) (b : Bool)

@@ -3,4 +3,5 @@ pub mod Indexes
 pub mod Filing
 pub mod Loaded
 pub mod Opened
+pub mod Kept
 pub mod Places

@@ -1,11 +1,13 @@
 -- Places in a list of advisories, which the tables of a database hold. No public contract depends on these definitions.
-use Rattle.std.specs.Prelude.{◌≡◌, ◌&&◌, ◌+◌, ℕ, Bool, List, [], ◌∷◌, Some, if◌then◌else◌, nat_eq, slice_get}
+use Rattle.std.specs.Prelude.{◌≡◌, ◌&&◌, ◌+◌, ℕ, Bool, false, List, [], ◌∷◌, None, Option, Some, if◌then◌else◌, nat_eq, slice_get}
 use Rattle.std.specs.BTreeMap as tree
 use Rattle.std.specs.BTreeMap.{BTreeMap}
 use Rattle.std.specs.Cmp.Lexicographic.{pointwise}
 use Rattle.std.specs.List.{filter_map, position_from}
 use Rattle.std.specs.Option.{option_eq}
 use denote.Enum.Bare.{sameb}
+use Rattle.rustsec_versions.specs.Lists.{Lists, affected}
+use Rattle.rustsec_lock.specs.Package.{PackageValue}
 use Rattle.rustsec_texts.specs.IdOrder.{id_order}
 use Rattle.rustsec_texts.specs.Ids.{IdValue}
 use Rattle.rustsec_texts.specs.contracts.collection.Collection.{the_type as collection}
@@ -34,3 +36,20 @@ IsIndexOf c advisories index = (name : List ℕ) → slots_at name index ≡ pla
 -- the table of IDs: it maps each ID to the place of its advisory
 abbrev pub IsTableOf : List Advisory → BTreeMap IdValue ℕ → Type 0
 IsTableOf advisories table = (id : IdValue) → tree.get id_order table id ≡ position_from (has_id id) 0 advisories
+
+-- whether a package has this name
+abbrev pub is_named : List ℕ → PackageValue → Bool
+is_named name p = pointwise nat_eq name p.name
+
+-- the index of some packages: it maps each name to the places of its packages
+abbrev pub IsIndexByName : List PackageValue → List (List ℕ × List ℕ) → Type 0
+IsIndexByName packages index = (name : List ℕ) → slots_at name index ≡ places_from (is_named name) 0 packages
+
+-- whether there is an element, and it passes a test
+abbrev pub holds_at : {A : Type 0} → (A → Bool) → Option A → Bool
+holds_at test None = false
+holds_at test (Some x) = test x
+
+-- whether there is a package at a place, and its version is affected
+abbrev pub affects_at : Lists → List PackageValue → ℕ → Bool
+affects_at versions packages place = holds_at (λ (p : PackageValue). affected versions p.version) (slice_get packages place)

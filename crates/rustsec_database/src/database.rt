@@ -1,6 +1,6 @@
 //! The database: advisories loaded from files, with indexes by ID and by package.
 
-ghost use Rattle.std.specs.Prelude.{◌≡◌, ◌++◌, ◌∷◌, ◌⊎◌, ◌<◌, ◌^◌, [], ℕ, Bool, IfErr, IfOk, IfSome, List, OnErr, OnOk, Option, Some, length, map, true};
+ghost use Rattle.std.specs.Prelude.{◌≡◌, ◌++◌, ◌∷◌, ◌⊎◌, ◌<◌, ◌^◌, [], false, ℕ, Bool, IfErr, IfOk, IfSome, List, OnErr, OnOk, Option, Some, length, map, true};
 ghost use Rattle.std.specs.Iterator.Adapters.{IterYieldsInOrder};
 ghost use Rattle.std.specs.List.{filter, find};
 ghost use Rattle.std.specs.Option.{option_copied};
@@ -10,7 +10,7 @@ ghost use Rattle.rustsec_advisory.specs.declared.advisory.Advisory as given;
 ghost use Rattle.rustsec_query.specs.Pairs.{as_vulnerability, is_audited, pairs, pairs_of};
 ghost use Rattle.rustsec_query.specs.Query.{crate_scope, of_package};
 ghost use Rattle.rustsec_query.specs.Selects.{selects};
-ghost use Rattle.rustsec_database.specs.Loaded.{AreLoaded, IsAdded, IsFault, IsFirstFault, IsOnlyWithId, has_id};
+ghost use Rattle.rustsec_database.specs.Loaded.{AreLoaded, IsAdded, IsFault, IsFirstFault, IsOnlyWithId, has_id, is_known};
 ghost use Rattle.rustsec_database.specs.Places.{IsIndexOf, at_places, is_under, places_from};
 
 use crate::entries::Entries;
@@ -191,6 +191,26 @@ impl Database {
             mut rust,
         } = self;
         load_one(alloc, path, text, &mut entries, &mut crates, &mut rust)?;
+        Ok(Database {
+            entries,
+            crates,
+            rust,
+        })
+    }
+
+    /// Stores one more advisory, whose ID no other one has, and returns the database.
+    pub(crate) fn with_advisory(self, alloc: Global, advisory: Advisory) -> Result<Database>
+        requires { is_known self advisory ≡ false }
+        ensures ok { IfOk result (λ d. d ≡ self ++ advisory ∷ []) }
+        ensures err { IfErr result IsMemory }
+    {
+        let Database {
+            mut entries,
+            mut crates,
+            mut rust,
+        } = self;
+        let slot = entries.store(advisory)?;
+        index_both(alloc, &entries, slot, &mut crates, &mut rust)?;
         Ok(Database {
             entries,
             crates,

@@ -45,7 +45,7 @@ impl Model for Entries {
 }
 
 /// Makes the error for a file whose ID is that of a stored advisory.
-fn duplicate(alloc: Global, id: &Id) -> Error
+pub(crate) fn duplicate(alloc: Global, id: &Id) -> Error
     ensures { IsOfKind ErrorKind.Parse result }
 {
     match format!(in alloc; "the ID `{id}` stands in an earlier file, expected a new one") {
@@ -67,7 +67,7 @@ impl Entries {
 
     /// Appends an advisory whose ID is not stored yet, and returns its slot. On an error nothing is
     /// changed: all memory is taken before the first change.
-    fn store(&mut self, advisory: Advisory) -> std::result::Result<Slot, AllocError>
+    pub(crate) fn store(&mut self, advisory: Advisory) -> std::result::Result<Slot, AllocError>
         requires { is_known self.old advisory ≡ false }
         ensures ok { OnOk result (self.new ≡ self.old ++ advisory ∷ []) }
         ensures slot { IfOk result (λ slot. slot ≡ length self.old) }

@@ -2,6 +2,7 @@ use Rattle.std.proofs.Common.{inl}
 use Rattle.std.proofs.lemmas.Result.{err_from_is_err_and}
 use Rattle.rustsec_folders.proofs.Same.{same-refl, same-trans}
 use Rattle.rustsec_error.proofs.Refusals.{refused_by}
+use Rattle.rustsec_database.specs.Opened.{IsLoadOf}
 use Rattle.rustsec_database.proofs.Files.{loaded-none}
 use Rattle.rustsec_database.proofs.Opening.{file-fails, load-none, load-step}
 use Rattle.rustsec_database.proofs.open.load_paths.Goals as goal
@@ -15,7 +16,7 @@ loop-path-init g c = record {
 pub loop-path-preserved : goal.loop-path-preserved
 loop-path-preserved g c = record {
   same = same-trans _ _ _ c.loop-path.invariant.same c.read.ensures.same;
-  load = load-step _ (g.F.Folders.allowed c.loop-path.folders) c.args.paths.now c.loop-path.path-index c.path-item.result c.as_str.result.now
+  load = load-step IsLoadOf _ (g.F.Folders.allowed c.loop-path.folders) c.args.paths.now c.loop-path.path-index c.path-item.result c.as_str.result.now
       c.as_str-in-loop-path.result.now c.as_str-in-loop-path-2.result.now c.in_ok-text.text c.loop-path.loaded c.load_next-loaded.result
       c.loop-path.invariant.same c.loop-path-test.true c.path-item.is c.as_str.ensures c.as_str-in-loop-path.ensures c.as_str-in-loop-path-2.ensures
       c.loop-path.invariant.load c.in_ok-text.ensures.ok c.load_next-loaded.ensures;

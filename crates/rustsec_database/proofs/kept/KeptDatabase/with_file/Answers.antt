@@ -1,0 +1,7 @@
+use Rattle.rustsec_database.proofs.Files.{fault-of-file}
+use Rattle.rustsec_database.proofs.kept.KeptDatabase.with_file.Goals as goal
+
+pub returns-in-Err-clause-err : goal.returns-in-Err-clause-err
+returns-in-Err-clause-err g c = λ all h.
+    fault-of-file all c.args.path.now c.args.text.now c.in-Err.e c.refused_file.result (c.in-Err.ensures.err all h)
+    c.refused_file.ensures.memory c.refused_file.ensures.message

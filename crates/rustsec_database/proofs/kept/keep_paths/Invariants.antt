@@ -1,0 +1,14 @@
+use Rattle.std.proofs.Common.{List, take}
+use Rattle.rustsec_folders.specs.Allowed.{AllowSame}
+use Rattle.rustsec_folders.specs.Listed.{IsFile, Pairwise}
+use Rattle.rustsec_folders.specs.declared.source_file.SourceFile.{SourceFile}
+use Rattle.rustsec_database.specs.Kept.{IsKeptLoadOf}
+use Rattle.rustsec_database.proofs.kept.keep_paths.Given as goal
+
+-- the files at the paths so far were read, and `loaded` is the result of loading them
+abbrev pub invariant-loop-path : goal.invariant-loop-path
+invariant-loop-path g l = record {
+  same : AllowSame (g.F.Folders.allowed l.fn.folders) (g.F.Folders.allowed l.folders);
+  load : (files : List SourceFile) × (Pairwise (IsFile (g.F.Folders.allowed l.fn.folders)) (take l.path-index l.paths) files
+      × IsKeptLoadOf (g.T.Test.passes l.test) files l.loaded);
+}

@@ -1,0 +1,205 @@
+//! The advisories under a root that pass a test, beside the IDs of all advisories there.
+
+ghost use Rattle.std.specs.Prelude.{◌≡◌, ◌++◌, ◌∷◌, ◌+◌, ◌||◌, ◌⊎◌, [], false, if◌then◌else◌, not, IfErr, IfOk, List, OnOk, length};
+ghost use Rattle.std.specs.List.{list_any};
+ghost use Rattle.rustsec_error.specs.Failure.{IsMemory};
+ghost use Rattle.rustsec_folders.specs.Allowed.{AllowSame};
+ghost use Rattle.rustsec_folders.specs.declared.source_file.SourceFile.{SourceFile};
+ghost use Rattle.rustsec_texts.specs.IdOrder.{id_eq};
+ghost use Rattle.rustsec_texts.specs.Ids.{IdValue};
+ghost use Rattle.rustsec_advisory.specs.declared.advisory.Advisory as given;
+ghost use Rattle.rustsec_database.specs.Kept.{AreOpenedFor, IsKept, IsKeptLoadOf, IsKeptWith};
+ghost use Rattle.rustsec_database.specs.Loaded.{IsAtFault, IsFault, is_known};
+ghost use Rattle.rustsec_database.specs.Opened.{AreRead, IsOpenRefusal, IsReadRefusal};
+
+use crate::database::Database;
+use crate::entries::duplicate;
+use crate::filing::filed;
+use rustsec_advisory::Advisory;
+use rustsec_error::{Result, refused_file};
+use rustsec_folders::{Folders, source_paths};
+use rustsec_texts::Id;
+use rustsec_values::{Test, Text};
+use std::alloc::{AllocError, Global};
+use std::collections::BTreeSet;
+use std::marker::Model;
+
+/// A database of the advisories under a root that pass a test, beside the IDs of all advisories there.
+#[derive(Debug, Drop)]
+pub struct KeptDatabase {
+    database: Database,
+    ids: BTreeSet<Id>,
+}
+
+impl Model for KeptDatabase {
+    ghost use Rattle.rustsec_database.specs.Kept.{HaveIdsAmong, KeptValue};
+
+    ghost Value = { KeptValue };
+
+    ghost view = { λ k. record { advisories = k.database; ids = k.ids.keys } };
+
+    ghost invariant = { λ k. HaveIdsAmong k.ids.keys k.database };
+}
+
+/// Puts an ID among some. Returns whether it is new.
+fn add_id(ids: &mut BTreeSet<Id>, id: &Id) -> std::result::Result<bool, AllocError>
+    ensures fresh { IfOk result (λ fresh. fresh ≡ not (list_any (id_eq id.now) ids.old.keys)) }
+    ensures among { OnOk result ((q : IdValue) → list_any (id_eq q) ids.new.keys ≡ (list_any (id_eq q) ids.old.keys || id_eq q id.now)) }
+    ensures number { IfOk result (λ fresh. length ids.new.keys ≡ length ids.old.keys + (if fresh then 1 else 0)) }
+{
+    let id = Clone::clone(id)?;
+    let fresh = ids.insert(id)?;
+    Ok(fresh)
+}
+
+/// Stores an advisory if it passes a test. No stored one has its ID.
+fn store_if<T: Test<Advisory>>(
+    alloc: Global,
+    database: Database,
+    advisory: Advisory,
+    test: &T,
+) -> Result<Database>
+    requires { is_known database advisory ≡ false }
+    ensures ok { IfOk result (λ d. d ≡ (if T.passes test.now advisory then database ++ advisory ∷ [] else database)) }
+    ensures err { IfErr result IsMemory }
+{
+    if test.passes(&advisory) {
+        database.with_advisory(alloc, advisory)
+    } else {
+        Ok(database)
+    }
+}
+
+impl KeptDatabase {
+    /// Returns a database without advisories and without IDs.
+    fn empty(alloc: Global) -> KeptDatabase
+        ensures { result ≡ record { advisories = []; ids = [] } }
+    {
+        KeptDatabase {
+            database: Database::empty(alloc),
+            ids: BTreeSet::new(alloc),
+        }
+    }
+
+    /// Adds the advisory of a file, unless its ID is the placeholder: its ID, and the advisory itself if it passes a
+    /// test.
+    fn added<T: Test<Advisory>>(
+        self,
+        alloc: Global,
+        path: &str,
+        text: &str,
+        test: &T,
+    ) -> Result<KeptDatabase>
+        ensures ok { IfOk result (λ k. (all : List given.Advisory) → IsKept (T.passes test.now) all self
+            → IsKeptWith (T.passes test.now) all path.now text.now k) }
+        ensures err { IfErr result (λ e. (all : List given.Advisory) → IsKept (T.passes test.now) all self
+            → IsAtFault all path.now text.now e.kind ⊎ IsMemory e) }
+    {
+        let advisory = filed(alloc, path, text)?;
+        if advisory.metadata.id.is_placeholder() {
+            return Ok(self);
+        }
+        let KeptDatabase { database, mut ids } = self;
+        let fresh = add_id(&mut ids, &advisory.metadata.id)?;
+        if !fresh {
+            return Err(duplicate(alloc, &advisory.metadata.id));
+        }
+        let database = store_if(alloc, database, advisory, test)?;
+        Ok(KeptDatabase { database, ids })
+    }
+
+    /// Loads one more file, with this path and this text, and returns the database.
+    fn with_file<T: Test<Advisory>>(
+        self,
+        alloc: Global,
+        path: &str,
+        text: &str,
+        test: &T,
+    ) -> Result<KeptDatabase>
+        ensures ok { IfOk result (λ k. (all : List given.Advisory) → IsKept (T.passes test.now) all self
+            → IsKeptWith (T.passes test.now) all path.now text.now k) }
+        ensures err { IfErr result (λ e. (all : List given.Advisory) → IsKept (T.passes test.now) all self
+            → IsFault all path.now text.now e) }
+    {
+        match self.added(alloc, path, text, test) {
+            Ok(kept) => Ok(kept),
+            Err(e) => Err(refused_file(alloc, path, &e)),
+        }
+    }
+
+    /// Returns the advisories that were kept.
+    pub fn database(&self) -> &Database
+        ensures { result.now ≡ self.now.advisories }
+    {
+        &self.database
+    }
+
+    /// Returns whether an advisory under the root has an ID, also one that was not kept.
+    pub fn has_id(&self, id: &Id) -> bool
+        ensures { result ≡ list_any (id_eq id.now) self.now.ids }
+    {
+        self.ids.contains(id)
+    }
+
+    /// Returns the number of all advisories under the root.
+    pub fn number(&self) -> usize
+        ensures { result ≡ length self.now.ids }
+    {
+        self.ids.len()
+    }
+
+    /// Opens the files under a root, read through `folders`, as `Database::open_with` does. An advisory that does not
+    /// pass a test is dropped as soon as its file was checked, and its ID is kept.
+    ///
+    /// # Errors
+    ///
+    /// As `Database::open_with`.
+    pub fn open_with<F: Folders, T: Test<Advisory>>(
+        alloc: Global,
+        folders: &mut F,
+        root: &str,
+        test: &T,
+    ) -> Result<KeptDatabase>
+        ensures ok { IfOk result (AreOpenedFor (F.allowed folders.old) root.now (T.passes test.now)) }
+        ensures err { IfErr result (IsOpenRefusal (F.allowed folders.old) root.now) }
+        ensures same { AllowSame (F.allowed folders.old) (F.allowed folders.new) }
+    {
+        let paths = source_paths(alloc, folders, root)?;
+        keep_paths(alloc, folders, paths.as_slice(), test)
+    }
+}
+
+/// Loads one more file into the database of the files before it. If `before` is an error, that error is returned and
+/// the file is not loaded.
+fn keep_next<T: Test<Advisory>>(
+    alloc: Global,
+    before: Result<KeptDatabase>,
+    path: &str,
+    text: &str,
+    test: &T,
+) -> Result<KeptDatabase>
+    ensures { (files : List SourceFile) → IsKeptLoadOf (T.passes test.now) files before
+        → IsKeptLoadOf (T.passes test.now) (files ++ record { path = path.now; text = text.now } ∷ []) result }
+{
+    let kept = before?;
+    kept.with_file(alloc, path, text, test)
+}
+
+/// Loads the files at some paths. Files after one at fault are read too. One text is held at a time.
+fn keep_paths<F: Folders, T: Test<Advisory>>(
+    alloc: Global,
+    folders: &mut F,
+    paths: &[Text],
+    test: &T,
+) -> Result<KeptDatabase>
+    ensures ok { IfOk result (λ k. (all : List given.Advisory) × (AreRead (F.allowed folders.old) paths.now all × IsKept (T.passes test.now) all k)) }
+    ensures err { IfErr result (IsReadRefusal (F.allowed folders.old) paths.now) }
+    ensures same { AllowSame (F.allowed folders.old) (F.allowed folders.new) }
+{
+    let mut loaded = Ok(KeptDatabase::empty(alloc));
+    for path in paths {
+        let text = folders.read(alloc, path.as_str())?;
+        loaded = keep_next(alloc, loaded, path.as_str(), text.as_str(), test);
+    }
+    loaded
+}
