@@ -320,6 +320,6 @@ None.
 "#,
         status: 2,
         written: "refused: parse error\n",
-        notes: &["line 8, column "],
+        notes: &["line 9, column "],
     },
 ];

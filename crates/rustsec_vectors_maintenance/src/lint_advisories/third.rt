@@ -325,6 +325,7 @@ Each key is wrong.
             "line 9: invalid value `\"http://example.com\"` for key `url` in [advisory]: URL must start with https://",
             "line 17: invalid value `other::a` for key `functions` in [affected]: function path must start with crate name",
             "line 24: invalid key `notes` in toplevel",
+            "line 22: invalid key `fixed` in [versions]",
         ],
     },
 ];
