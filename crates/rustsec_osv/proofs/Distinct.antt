@@ -1,10 +1,11 @@
 -- Sorting values and comparing neighbours gives the distinct values, in order.
-use Rattle.std.proofs.Common.{◌≡◌, ◌∙◌, Bool, true, List, [], ◌∷◌, Ordering, map, refl, ap, IsPermutation}
+use Rattle.std.proofs.Common.{◌≡◌, ◌∙◌, Bool, true, List, [], Ordering, map, ap, IsPermutation}
 use Rattle.std.specs.Cmp.{IsEquivalence, IsTotalOrder, on_total}
 use Rattle.std.specs.List.{dedup}
 use Rattle.std.specs.List.Retain.{DiffersFromLast, IsFiltered}
 use Rattle.std.specs.List.Sorted.{IsSorted}
 use Rattle.std.specs.Ordering.{eq_by_cmp}
+use Rattle.std.proofs.lemmas.List.{map-id}
 use Rattle.std.proofs.lemmas.List.Filters.{dedup_is}
 use Rattle.std.proofs.lemmas.List.Kept.{Contains-dedup, Contains-from_dedup, IsStrictlySortedBy-dedup}
 use Rattle.std.proofs.lemmas.List.Sorted.{Contains-permutation, IsPermutation-map, IsPermutation-sym}
@@ -29,13 +30,9 @@ module _ {A B : Type 0} (f : A → B) where
           );
         }
 
-map-same : {A : Type 0} (xs : List A) → map (λ x. x) xs ≡ xs
-map-same [] = refl
-map-same (x ∷ xs) = ap (λ ys. x ∷ ys) (map-same xs)
-
 -- likewise for values that are seen as they are
 pub are-distinct-values : {A : Type 0} (R : A → A → Ordering) (total : IsTotalOrder R) (E : A → A → Bool) (ties : (x y : A) → E x y ≡ eq_by_cmp R x y)
     (equiv : IsEquivalence E) (same : (x y : A) → E x y ≡ true → x ≡ y) (values sorted left : List A) → IsPermutation values sorted
     → IsSorted R sorted → IsFiltered (DiffersFromLast E) [] sorted left → AreDistinct R values left
 are-distinct-values R total E ties equiv same values sorted left perm up kept =
-    rw (map-same values, map-same left) at (are-distinct (λ x. x) R total E ties equiv same values sorted left perm up kept)
+    rw (map-id values, map-id left) at (are-distinct (λ x. x) R total E ties equiv same values sorted left perm up kept)

@@ -1,11 +1,18 @@
 -- Reading the tree of a document gives an equal document: the codec of each of its parts is lawful.
-use Rattle.std.proofs.Common.{◌≡◌, inl, inr, ℕ, List, Option, Some, None, refl, ap}
+use Rattle.std.proofs.Common.{◌≡◌, inl, inr, ℕ, List, Option, Some, None, refl}
 use Rattle.semver.specs.Parse.{Parts}
 use Rattle.std.specs.Prelude.{⊤}
 use Rattle.serde_json.specs.Find.{as_null}
-use Rattle.rustsec_json.specs.Codecs.{any_text, list_codec, object_codec}
-use Rattle.rustsec_json.specs.TextCodecs.{address_codec, arch_codec, category_codec, id_codec, informational_codec, os_codec, path_codec, vector_codec}
-use Rattle.rustsec_json.proofs.CodecsAgain.{IsLawful, any-text-again, left_out-again, list-again, object-again, optional-again}
+use Rattle.rustsec_json.specs.Codecs.{list_codec, object_codec}
+use Rattle.rustsec_json.specs.TextCodecs.{id_codec, path_codec}
+use Rattle.rustsec_json.proofs.CodecsAgain.{IsLawful, any-text-again, left_out-again, list-again, object-again, optional-again, text-again, word-again}
+use Rattle.rustsec_advisory.specs.Addresses.{address_of}
+use Rattle.rustsec_lock.specs.Cvss.{cvss_of, cvss_text}
+use Rattle.rustsec_lock.specs.Platforms.{arch_of, arch_text, os_of, os_text}
+use Rattle.rustsec_texts.specs.Categories.{category_name, category_of}
+use Rattle.rustsec_texts.specs.Ids.{IdValue, id_of}
+use Rattle.rustsec_texts.specs.Informational.{informational_name, informational_of}
+use Rattle.rustsec_texts.specs.Paths.{path_of, path_text}
 use Rattle.rustsec_osv.specs.DocumentCodec.{IsDocumentAgain, IsSeverityAgain, affected_codec, affected_object, affects_codec, affects_object, database_codec, database_object, document_codec, document_object, document_tree, ecosystem_codec, ecosystem_object, kind_codec, license_codec, license_object, package_codec, package_object, read_document, read_severity, reference_codec, reference_object, severity_codec, severity_tree}
 use Rattle.rustsec_osv.specs.Documents.{Document}
 use Rattle.rustsec_osv.specs.EventCodec.{event_codec, range_codec, range_object, version_codec}
@@ -22,67 +29,52 @@ a & b = (a, b)
 
 -- ---- a member of `affected`
 
-events-again : IsLawful (list_codec event_codec)
-events-again = list-again {c = event_codec} (record { again = event-again; there = event-there })
-
 range-object-again : IsLawful (object_codec range_object)
-range-object-again = object-again range_object (record { keys = (any-text-again.again, (events-again.again, tt)); differ = refl; made = λ r. refl })
+range-object-again = object-again range_object (record {
+  keys = any-text-again.again & (list-again {c = event_codec} (record { again = event-again; there = event-there })).again & tt;
+  differ = refl;
+  made = λ r. refl;
+})
 
 pub ranges-again : IsLawful (list_codec range_codec)
 ranges-again = list-again {c = range_codec} (record { again = λ r h. range-object-again.again r (tt, (h, tt)); there = λ r. refl })
 
 package-again : IsLawful package_codec
 package-again = object-again package_object (record {
-  keys = (any-text-again.again, (any-text-again.again, (optional-again any-text-again, tt)));
+  keys = any-text-again.again & any-text-again.again & optional-again any-text-again & tt;
   differ = refl;
   made = λ p. refl;
 })
 
 paths-again : IsLawful (list_codec path_codec)
-paths-again = list-again {c = path_codec} (record { again = λ path h. h; there = λ path. refl })
-
-arches-again : IsLawful (list_codec arch_codec)
-arches-again = list-again {c = arch_codec} (record { again = λ x h. h; there = λ x. refl })
-
-systems-again : IsLawful (list_codec os_codec)
-systems-again = list-again {c = os_codec} (record { again = λ x h. h; there = λ x. refl })
+paths-again = list-again (text-again path_text path_of)
 
 affects-again : IsLawful affects_codec
 affects-again = object-again affects_object (record {
-  keys = (arches-again.again, (systems-again.again, (paths-again.again, tt)));
+  keys = (list-again (text-again arch_text arch_of)).again & (list-again (text-again os_text os_of)).again & paths-again.again & tt;
   differ = refl;
   made = λ a. refl;
 })
 
 ecosystem-again : IsLawful ecosystem_codec
 ecosystem-again = object-again ecosystem_object (record {
-  keys = (optional-again affects-again, (optional-again paths-again, tt));
+  keys = optional-again affects-again & optional-again paths-again & tt;
   differ = refl;
   made = λ e. refl;
 })
 
-categories-again : IsLawful (list_codec category_codec)
-categories-again = list-again {c = category_codec} (record { again = λ x h. ap Some h; there = λ x. refl })
-
-vector-again : IsLawful vector_codec
-vector-again = record { again = λ x h. h; there = λ x. refl }
-
-informational-again : IsLawful informational_codec
-informational-again = record { again = λ x h. ap Some h; there = λ x. refl }
-
 database-again : IsLawful database_codec
 database-again = object-again database_object (record {
-  keys = (categories-again.again, (optional-again vector-again, (optional-again informational-again, tt)));
+  keys = (list-again (word-again category_name category_of)).again & optional-again (text-again cvss_text cvss_of)
+      & optional-again (word-again informational_name informational_of) & tt;
   differ = refl;
   made = λ d. refl;
 })
 
-versions-again : IsLawful (list_codec any_text)
-versions-again = list-again any-text-again
-
 affected-again : IsLawful affected_codec
 affected-again = object-again affected_object (record {
-  keys = package-again.again & optional-again ecosystem-again & database-again.again & optional-again ranges-again & optional-again versions-again & tt;
+  keys = package-again.again & optional-again ecosystem-again & database-again.again & optional-again ranges-again
+      & optional-again (list-again any-text-again) & tt;
   differ = refl;
   made = λ a. refl;
 })
@@ -109,37 +101,32 @@ kind-again = record { again = parsed; there = λ k. refl }
     parsed kind.PACKAGE h = refl
     parsed kind.WEB h = refl
 
-address-again : IsLawful address_codec
-address-again = record { again = λ x h. h; there = λ x. refl }
-
 reference-object-again : IsLawful (object_codec reference_object)
-reference-object-again = object-again reference_object (record { keys = (kind-again.again, (address-again.again, tt)); differ = refl; made = λ r. refl })
+reference-object-again = object-again reference_object (record {
+  keys = kind-again.again & (text-again {A = List ℕ} (λ address. address) address_of).again & tt;
+  differ = refl;
+  made = λ r. refl;
+})
 
 license-again : IsLawful license_codec
-license-again = object-again license_object (record { keys = (optional-again any-text-again, tt); differ = refl; made = λ m. refl })
-
-ids-again : IsLawful (list_codec id_codec)
-ids-again = list-again {c = id_codec} (record { again = λ id h. h; there = λ id. refl })
+license-again = object-again license_object (record { keys = optional-again any-text-again & tt; differ = refl; made = λ m. refl })
 
 severities-again : IsLawful (list_codec severity_codec)
 severities-again = list-again {c = severity_codec} (record { again = severity-again; there = severity-there })
-
-members-again : IsLawful (list_codec affected_codec)
-members-again = list-again affected-again
 
 references-again : IsLawful (list_codec reference_codec)
 references-again = list-again {c = reference_codec} (record { again = λ r h. reference-object-again.again r (tt, (h, tt)); there = λ r. refl })
 
 -- ---- a document
 
-text-again : (t : List ℕ) → ⊤ → Some t ≡ Some t
-text-again t h = refl
+ids-again : IsLawful (list_codec id_codec)
+ids-again = list-again (text-again (λ (id : IdValue). id.text) id_of)
 
 pub document-lawful : IsLawful document_codec
 document-lawful = object-again document_object (record {
-  keys = left_out-again {c = version_codec} (record { again = version-again; there = λ v. refl }) & (λ id h. h) & text-again & text-again
-      & left_out-again any-text-again & text-again & text-again & severities-again.again & license-again.again & ids-again.again & ids-again.again
-      & members-again.again & references-again.again & tt;
+  keys = left_out-again {c = version_codec} (record { again = version-again; there = λ v. refl }) & (λ id h. h) & any-text-again.again & any-text-again.again
+      & left_out-again any-text-again & any-text-again.again & any-text-again.again & severities-again.again & license-again.again & ids-again.again
+      & ids-again.again & (list-again affected-again).again & references-again.again & tt;
   differ = refl;
   made = λ d. refl;
 })

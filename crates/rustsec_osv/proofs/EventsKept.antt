@@ -2,6 +2,7 @@
 use Rattle.std.proofs.Common.{◌≡◌, ◌∙◌, List, [], ◌∷◌, ◌++◌, All, map, Option, Some, None, option_to_list, refl, ap, sym}
 use Rattle.std.specs.List.{flat_map}
 use Rattle.std.proofs.lemmas.List.Elements.{All-head, All-tail}
+use Rattle.std.proofs.lemmas.Option.{same_Some}
 use Rattle.rustsec_json.specs.Codecs.{IfThere, members_of}
 use Rattle.rustsec_json.specs.Fields.{every, value_or}
 use Rattle.rustsec_json.proofs.CodecsAgain.{list_of-items, object-held, optional-again, parts-read}
@@ -14,21 +15,18 @@ use Rattle.rustsec_osv.specs.Export.{document_events, events_of_member}
 use Rattle.rustsec_osv.specs.declared.affected.OsvAffected.{OsvAffected}
 use Rattle.rustsec_osv.proofs.DocumentsAgain.{ranges-again}
 
-some-same : {A : Type 0} (a b : A) → Some a ≡ Some b → a ≡ b
-some-same a b h = cc h
-
 -- the ranges of a member that was read
 ranges-kept : (a b : OsvAffected) → IfThere (All IsRangeAgain) a.ranges → affected_codec.read (affected_codec.tree a) ≡ Some b → b.ranges ≡ a.ranges
 ranges-kept a b h e =
     let part = (parts-read affected_object.fields affected_object.make (members_of affected_object a) b e).2.2.2 in
-    sym (ap (λ (x : OsvAffected). x.ranges) part.2.2) ∙ some-same part.0 a.ranges (sym part.1 ∙ optional-again ranges-again a.ranges h)
+    sym (ap (λ (x : OsvAffected). x.ranges) part.2.2) ∙ same_Some part.0 a.ranges (sym part.1 ∙ optional-again ranges-again a.ranges h)
 
 -- the results for a list's first value and for the others
 split : {A : Type 0} (o : Option A) (rest : Option (List A)) (ys : List A) → before o rest ≡ Some ys
     → (y : A) × (zs : List A) × (o ≡ Some y) × (rest ≡ Some zs) × (ys ≡ y ∷ zs)
 split None rest ys e = cc e
 split (Some y) None ys e = cc e
-split (Some y) (Some zs) ys e = (y, zs, refl, refl, sym (some-same _ _ e))
+split (Some y) (Some zs) ys e = (y, zs, refl, refl, sym (same_Some _ _ e))
 
 -- a member whose events have valid versions
 abbrev IsValidMember : OsvAffected → Type 0
@@ -38,7 +36,7 @@ IsValidMember a = IfThere (All IsRangeAgain) a.ranges
 all-kept : (xs ys : List OsvAffected) → All IsValidMember xs → read_all affected_codec.read (map affected_codec.tree xs) ≡ Some ys
     → map (λ (a : OsvAffected). a.ranges) ys ≡ map (λ (a : OsvAffected). a.ranges) xs
 unfolding read_all
-all-kept [] ys h e = rw (sym (some-same _ _ e)) refl
+all-kept [] ys h e = rw (sym (same_Some _ _ e)) refl
 all-kept (x ∷ xs) ys h e =
     let p = split _ _ ys e in
     rw p.4 (rw (ranges-kept x p.0 (All-head IsValidMember x xs h) p.2, all-kept xs p.1 (All-tail IsValidMember x xs h) p.3) refl)

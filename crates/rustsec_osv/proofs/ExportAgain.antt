@@ -2,6 +2,7 @@
 use Rattle.std.proofs.Common.{◌≡◌, inl, inr, ℕ, List, [], All, map, Option, Some, None, option_map, codes, option_to_list, sym, subst}
 use Rattle.std.specs.Prelude.{Err, IfOk, Ok, Result, ⊤}
 use Rattle.std.proofs.lemmas.List.Elements.{All-cons, All-head, All-nil}
+use Rattle.std.proofs.lemmas.Option.{same_Some}
 use Rattle.toml.specs.Data.{Data, Members, get_member}
 use Rattle.rustsec_toml.specs.Fields.{text}
 use Rattle.rustsec_lock.specs.Cvss.{cvss_of, cvss_text}
@@ -30,9 +31,6 @@ use Rattle.rustsec_osv.specs.declared.affected.OsvAffected.{OsvAffected}
 use Rattle.rustsec_osv.specs.declared.reference.OsvReference.{OsvReference}
 use Rattle.rustsec_osv.proofs.DocumentsAgain.{◌&◌, document-again}
 use Rattle.rustsec_osv.proofs.TablesAgain.{functions-read, list-read, optional-read, text-read, through}
-
-some-same : {A : Type 0} (a b : A) → Some a ≡ Some b → a ≡ b
-some-same a b h = cc h
 
 -- the vector
 severity-of : (o : Option Cvss) → IfThere (λ (v : Cvss). cvss_of (cvss_text v) ≡ Some v) o → All IsSeverityAgain (map severity_of (option_to_list o))
@@ -63,10 +61,10 @@ made title description modified table m o a references range h w r refs =
     optional-read (text cvss_of) (λ (v : Cvss). cvss_of (cvss_text v) ≡ Some v) (text-read cvss_of (λ (v : Cvss). cvss_of (cvss_text v) ≡ Some v) cvss-again) (get_member (codes "cvss") table) m.cvss h.kinds.cvss in
     let ids = text-read id_of id_codec.IsAgain id-again in
     let categories = list-read (text (λ t. Some (category_of t))) (λ x. category_of (category_name x) ≡ x)
-    (text-read (λ t. Some (category_of t)) (λ x. category_of (category_name x) ≡ x) (λ t x e. subst (λ y. category_of (category_name y) ≡ y) (some-same (category_of t) x e) (category-again t)))
+    (text-read (λ t. Some (category_of t)) (λ x. category_of (category_name x) ≡ x) (λ t x e. subst (λ y. category_of (category_name y) ≡ y) (same_Some (category_of t) x e) (category-again t)))
     (get_member (codes "categories") table) m.categories h.kinds.categories in
     let concern = optional-read (text (λ t. Some (informational_of t))) (λ x. informational_of (informational_name x) ≡ x)
-    (text-read (λ t. Some (informational_of t)) (λ x. informational_of (informational_name x) ≡ x) (λ t x e. subst (λ y. informational_of (informational_name y) ≡ y) (some-same (informational_of t) x e) (informational-again t)))
+    (text-read (λ t. Some (informational_of t)) (λ x. informational_of (informational_name x) ≡ x) (λ t x e. subst (λ y. informational_of (informational_name y) ≡ y) (same_Some (informational_of t) x e) (informational-again t)))
     (get_member (codes "informational") table) m.informational h.kinds.informational in
     let member : affected_codec.IsAgain (member_of (package_of m.«package») (database_of (kinds_of m)) a range) =
     (tt & tt & tt & tt) & (affects-of o a w & tt & tt) & (categories & vectors & concern & tt) & All-cons IsRangeAgain range [] r (All-nil IsRangeAgain)

@@ -1,6 +1,5 @@
 pub mod Distinct
 pub mod DocumentsAgain
-pub mod EventLists
 pub mod EventsAgain
 pub mod EventsKept
 pub mod ExportAgain
@@ -8,7 +7,6 @@ pub mod Exported
 pub mod LeastVersion
 pub mod Links
 pub mod Parts
-pub mod ReferencesAgain
 pub mod RisingEvents
 pub mod TablesAgain
 pub mod ValidEvents

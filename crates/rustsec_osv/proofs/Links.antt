@@ -1,7 +1,10 @@
 -- The names and the IDs in a document, reference by reference.
-use Rattle.std.proofs.Common.{◌≡◌, ℕ, zero, suc, ◌+◌, ◌<◌, true, false, List, [], ◌∷◌, ◌++◌, length, get_or, take, Option, Some, None, refl, sym, ap, arith, inl, inr}
+use Rattle.std.proofs.Common.{◌≡◌, ◌∙◌, ℕ, zero, suc, ◌+◌, ◌<◌, true, false, List, [], ◌∷◌, ◌++◌, length, get_or, map, take, Option, Some, None, refl, sym, ap, arith, inl, inr}
+use Rattle.std.specs.Prelude.{filter}
 use Rattle.std.proofs.lemmas.Bool.{cases_Bool}
-use Rattle.std.proofs.lemmas.List.{take_more}
+use Rattle.std.proofs.lemmas.List.{map-append, take_more}
+use Rattle.std.proofs.lemmas.List.Elements.{filter-append}
+use Rattle.std.proofs.lemmas.Option.{same_Some}
 use Rattle.rustsec_values.specs.Reading.{before, read_all}
 use Rattle.rustsec_texts.specs.Ids.{IdValue}
 use Rattle.rustsec_osv.specs.Imports.{crate_names, is_crate, is_page, linked_id, linked_ids}
@@ -11,11 +14,7 @@ use Rattle.rustsec_osv.specs.declared.reference.OsvReference.{OsvReference}
 -- ---- names
 
 names-append : (xs ys : List OsvAffected) → crate_names (xs ++ ys) ≡ crate_names xs ++ crate_names ys
-names-append [] ys = refl
-names-append (x ∷ xs) ys = elim (cases_Bool (is_crate x)) [
-  | inl own ↦ rw own (ap (λ (ns : List (List ℕ)). x.«package».name ∷ ns) (names-append xs ys))
-  | inr other ↦ rw other (names-append xs ys)
-]
+names-append xs ys = ap (map (λ (a : OsvAffected). a.«package».name)) (filter-append is_crate xs ys) ∙ map-append _ (filter is_crate xs) (filter is_crate ys)
 
 pub names-more : (xs : List OsvAffected) (i : ℕ) (x : OsvAffected) → i < length xs → x ≡ get_or xs i x
     → crate_names (take (i + 1) xs) ≡ crate_names (take i xs) ++ crate_names (x ∷ [])
@@ -39,14 +38,11 @@ pub linked-other : (r : OsvReference) → is_page r.url ≡ false → linked_ids
 unfolding read_all
 linked-other r other = rw other refl
 
-some-inj : {B : Type 0} (a b : B) → Some a ≡ Some b → a ≡ b
-some-inj a b h = cc h
-
 before-join : {B : Type 0} (h : Option B) (r s : Option (List B)) (ys zs : List B) → before h r ≡ Some ys
     → ((xs : List B) → r ≡ Some xs → s ≡ Some (xs ++ zs)) → before h s ≡ Some (ys ++ zs)
 before-join None r s ys zs e f = cc e
 before-join (Some a) None s ys zs e f = cc e
-before-join (Some a) (Some xs) s ys zs e f = rw (f xs refl, sym (some-inj (a ∷ xs) ys e)) refl
+before-join (Some a) (Some xs) s ys zs e f = rw (f xs refl, sym (same_Some (a ∷ xs) ys e)) refl
 
 before-none : {B : Type 0} (h : Option B) (r : Option (List B)) → r ≡ None → before h r ≡ None
 before-none None r e = refl
@@ -59,7 +55,7 @@ first-none (Some a) r e = cc e
 linked-join : (xs ys : List OsvReference) (is js : List IdValue) → linked_ids xs ≡ Some is → linked_ids ys ≡ Some js
     → linked_ids (xs ++ ys) ≡ Some (is ++ js)
 unfolding read_all
-linked-join [] ys is js h k = rw (sym (some-inj [] is h)) k
+linked-join [] ys is js h k = rw (sym (same_Some [] is h)) k
 linked-join (x ∷ xs) ys is js h k = elim (cases_Bool (is_page x.url)) [
   | inl page ↦ rw page (before-join (linked_id x.url) (linked_ids xs) (linked_ids (xs ++ ys)) is js (rw page at h)
       (λ ks e. linked-join xs ys ks js e k))

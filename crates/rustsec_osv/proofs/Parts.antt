@@ -1,10 +1,9 @@
 -- A text contains a part exactly if the part's bytes are in it.
-use Rattle.std.proofs.Common.{◌≡◌, ◌++◌, ◌&&◌, ◌||◌, ℕ, Bool, true, false, List, [], ◌∷◌, ap, arith, refl, sym, inl, inr}
+use Rattle.std.proofs.Common.{◌≡◌, ◌++◌, ℕ, Bool, true, false, List, [], ◌∷◌, ap, refl, sym, inl, inr}
 use Rattle.std.specs.Prelude.{◌↔◌, nat_eq}
 use Rattle.std.specs.List.{starts_with}
 use Rattle.std.specs.Str.Iter.{HasSubslice}
-use Rattle.std.proofs.lemmas.Bool.{cases_Bool, eqb-true}
-use Rattle.std.proofs.lemmas.Bool.Decides.{nat_tests}
+use Rattle.std.proofs.lemmas.Bool.{and_parts, cases_Bool, eq-eqb, eqb-true, or_left, or_right}
 use Rattle.rustsec_osv.specs.References.{has}
 
 same-tests : (a b : Bool) → (a ≡ true → b ≡ true) → (b ≡ true → a ≡ true) → a ≡ b
@@ -12,35 +11,17 @@ same-tests true b f g = sym (f refl)
 same-tests false true f g = g refl
 same-tests false false f g = refl
 
-both-first : (a b : Bool) → (a && b) ≡ true → a ≡ true
-both-first true b h = refl
-both-first false b h = cc h
-
-both-second : (a b : Bool) → (a && b) ≡ true → b ≡ true
-both-second true b h = h
-both-second false b h = cc h
-
-nat_eq-self : (n : ℕ) → nat_eq n n ≡ true
-nat_eq-self n = grind (arith, nat_tests)
-
-either-first : (a b : Bool) → a ≡ true → (a || b) ≡ true
-either-first a b h = rw h refl
-
-either-second : (a b : Bool) → b ≡ true → (a || b) ≡ true
-either-second true b h = refl
-either-second false b h = h
-
 -- a part at the beginning
 begins : (part rest : List ℕ) → starts_with nat_eq (part ++ rest) part ≡ true
 begins [] rest = refl
-begins (b ∷ part) rest = rw (nat_eq-self b, begins part rest) refl
+begins (b ∷ part) rest = rw (eq-eqb b b refl, begins part rest) refl
 
 begins-rest : (text part : List ℕ) → starts_with nat_eq text part ≡ true → (rest : List ℕ) × (text ≡ part ++ rest)
 begins-rest text [] h = (text, refl)
 begins-rest [] (p ∷ part) h = cc h
 begins-rest (b ∷ text) (p ∷ part) h =
-    let there = begins-rest text part (both-second (nat_eq p b) _ h) in
-    let first : p ≡ b = eqb-true p b (both-first (nat_eq p b) _ h) in
+    let there = begins-rest text part (and_parts (nat_eq p b) _ h).1 in
+    let first : p ≡ b = eqb-true p b (and_parts (nat_eq p b) _ h).0 in
     let e : text ≡ part ++ there.0 = there.1 in
     (there.0, cc)
 
@@ -52,8 +33,8 @@ has-none (x ∷ b) = refl
 stands : (a b part : List ℕ) → has part (a ++ (part ++ b)) ≡ true
 unfolding has
 stands [] b [] = has-none b
-stands [] b (p ∷ part) = either-first (starts_with nat_eq ((p ∷ part) ++ b) (p ∷ part)) _ (begins (p ∷ part) b)
-stands (x ∷ a) b part = either-second (starts_with nat_eq (x ∷ (a ++ (part ++ b))) part) _ (stands a b part)
+stands [] b (p ∷ part) = or_left (starts_with nat_eq ((p ∷ part) ++ b) (p ∷ part)) _ (begins (p ∷ part) b)
+stands (x ∷ a) b part = or_right (starts_with nat_eq (x ∷ (a ++ (part ++ b))) part) _ (stands a b part)
 
 found : (part text : List ℕ) → has part text ≡ true → HasSubslice text part
 unfolding has

@@ -1,8 +1,8 @@
 -- The events of rising ranges mean the same as the ranges.
-use Rattle.std.proofs.Common.{◌≡◌, ◌&&◌, ◌++◌, Bool, true, false, cond, List, [], ◌∷◌, Option, Some, None, length, refl, sym, ◌∙◌, inl, inr}
+use Rattle.std.proofs.Common.{◌≡◌, ◌++◌, Bool, true, false, cond, List, [], ◌∷◌, Option, Some, None, length, refl, sym, ◌∙◌, inl, inr}
 use Rattle.std.specs.Prelude.{filter}
 use Rattle.std.specs.List.{AllAdjacentBelow, list_all}
-use Rattle.std.proofs.lemmas.Bool.{cases_Bool}
+use Rattle.std.proofs.lemmas.Bool.{and_parts, cases_Bool, true_from_ne_false}
 use Rattle.semver.specs.Parse.{Parts}
 use Rattle.rustsec_versions.specs.Precedence.{IsVersion, is_at_most, is_below}
 use Rattle.rustsec_versions.specs.Ranges.{Range, in_ranges, is_followed, is_from, is_in_order}
@@ -53,17 +53,9 @@ abbrev AllInOrder : List Range → Type 0
 AllInOrder [] = Unit {0}
 AllInOrder (r ∷ rs) = (is_in_order r.introduced r.fixed ≡ true) × AllInOrder rs
 
-both-first : (a b : Bool) → (a && b) ≡ true → a ≡ true
-both-first true b h = refl
-both-first false b h = cc h
-
-both-second : (a b : Bool) → (a && b) ≡ true → b ≡ true
-both-second true b h = h
-both-second false b h = cc h
-
 in_order-to : (rs : List Range) → list_all (λ r. is_in_order r.introduced r.fixed) rs ≡ true → AllInOrder rs
 in_order-to [] h = tt
-in_order-to (r ∷ rs) h = (both-first _ _ h, in_order-to rs (both-second _ _ h))
+in_order-to (r ∷ rs) h = let both = and_parts _ _ h in (both.0, in_order-to rs both.1)
 
 -- whether the first range, if any, begins at or above a version
 abbrev Begins : Parts → List Range → Type 0
@@ -114,10 +106,7 @@ above (r ∷ rs) b v low s o f = begun r.introduced r.fixed s o.0
 -- ---- all versions
 
 begins-self : (v : Parts) → is_at_most v v ≡ true
-begins-self v = elim (cases_Bool (is_at_most v v)) [
-  | inl fine ↦ fine
-  | inr other ↦ below-weak v v (not_at_most v v other)
-]
+begins-self v = true_from_ne_false (is_at_most v v) (λ other. cc (other, below-weak v v (not_at_most v v other)))
 
 begun-from : (lo : Option Parts) (v : Parts) → is_at_most (beginning lo) v ≡ true → is_from lo v ≡ true
 begun-from None v h = refl

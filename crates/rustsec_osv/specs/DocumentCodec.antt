@@ -14,7 +14,6 @@ use Rattle.rustsec_json.specs.TextCodecs.{address_codec, arch_codec, category_co
 use Rattle.rustsec_advisory.specs.Addresses.{address_of}
 use Rattle.rustsec_lock.specs.Cvss.{base_text, cvss_of}
 use Rattle.rustsec_lock.specs.declared.cvss.Cvss.TheVariants as cvss
-use Rattle.rustsec_texts.specs.Ids.{IdValue}
 use Rattle.rustsec_osv.specs.DocumentKinds.{reference_kind_name, reference_kind_of}
 use Rattle.rustsec_osv.specs.Documents.{Document}
 use Rattle.rustsec_osv.specs.EventCodec.{IsRangeAgain, range_codec, version_codec}

@@ -1,5 +1,6 @@
 //! The affected packages of an OSV document (OSV schema, `affected[]`).
 
+ghost use Rattle.std.proofs.Common.{rules};
 ghost use Rattle.std.specs.Prelude.{◌≡◌, IfErr, IfOk};
 ghost use Rattle.rustsec_error.specs.Failure.{IsMemory};
 
@@ -12,7 +13,7 @@ use rustsec_values::{ExactClone, Items, Text};
 use std::alloc::{AllocError, Global};
 
 /// A package (OSV schema, `affected[].package`).
-#[derive(Debug)]
+#[derive(Clone, Debug)]
 pub struct OsvPackage {
     /// The ecosystem of the package, such as `crates.io`.
     pub ecosystem: Text,
@@ -43,32 +44,16 @@ impl OsvPackage {
         ensures ok { IfOk result (λ x. x ≡ self.now) }
         ensures err { IfErr result IsMemory }
     {
-        let copy = Clone::clone(self)?;
-        Ok(copy)
-    }
-}
-
-impl Clone for OsvPackage {
-    ghost is_clone = { λ a b. b ≡ a };
-
-    fn clone(&self) -> std::result::Result<OsvPackage, AllocError> {
-        let ecosystem = Clone::clone(&self.ecosystem)?;
-        let name = Clone::clone(&self.name)?;
-        let purl = Clone::clone(&self.purl)?;
-        Ok(OsvPackage {
-            ecosystem,
-            name,
-            purl,
-        })
+        Ok(Clone::clone(self)?)
     }
 }
 
 impl ExactClone for OsvPackage {
-    ghost exact = { λ x y e. e };
+    ghost exact = { λ x y e. Prim.search rules };
 }
 
 /// The platforms and functions that are affected.
-#[derive(Debug)]
+#[derive(Clone, Debug)]
 pub struct OsvEcosystemSpecificAffected {
     /// The architectures; an empty list means all.
     pub arch: Items<Arch>,
@@ -99,28 +84,12 @@ impl OsvEcosystemSpecificAffected {
         ensures ok { IfOk result (λ x. x ≡ self.now) }
         ensures err { IfErr result IsMemory }
     {
-        let copy = Clone::clone(self)?;
-        Ok(copy)
-    }
-}
-
-impl Clone for OsvEcosystemSpecificAffected {
-    ghost is_clone = { λ a b. b ≡ a };
-
-    fn clone(&self) -> std::result::Result<OsvEcosystemSpecificAffected, AllocError> {
-        let arch = Clone::clone(&self.arch)?;
-        let os = Clone::clone(&self.os)?;
-        let functions = Clone::clone(&self.functions)?;
-        Ok(OsvEcosystemSpecificAffected {
-            arch,
-            os,
-            functions,
-        })
+        Ok(Clone::clone(self)?)
     }
 }
 
 impl ExactClone for OsvEcosystemSpecificAffected {
-    ghost exact = { λ x y e. e };
+    ghost exact = { λ x y e. Prim.search rules };
 }
 
 /// What Rust's ecosystem adds about an affected package (OSV schema, `ecosystem_specific`).
@@ -152,8 +121,7 @@ impl OsvEcosystemSpecific {
         ensures ok { IfOk result (λ x. x ≡ self.now) }
         ensures err { IfErr result IsMemory }
     {
-        let copy = Clone::clone(self)?;
-        Ok(copy)
+        Ok(Clone::clone(self)?)
     }
 }
 
@@ -175,7 +143,7 @@ impl ExactClone for OsvEcosystemSpecific {
 }
 
 /// What the advisory database adds about an affected package (OSV schema, `database_specific`).
-#[derive(Debug)]
+#[derive(Clone, Debug)]
 pub struct OsvDatabaseSpecific {
     /// The categories of the advisory.
     pub categories: Items<Category>,
@@ -206,32 +174,23 @@ impl OsvDatabaseSpecific {
         ensures ok { IfOk result (λ x. x ≡ self.now) }
         ensures err { IfErr result IsMemory }
     {
-        let copy = Clone::clone(self)?;
-        Ok(copy)
-    }
-}
-
-impl Clone for OsvDatabaseSpecific {
-    ghost is_clone = { λ a b. b ≡ a };
-
-    fn clone(&self) -> std::result::Result<OsvDatabaseSpecific, AllocError> {
-        let categories = Clone::clone(&self.categories)?;
-        let cvss = Clone::clone(&self.cvss)?;
-        let informational = Clone::clone(&self.informational)?;
-        Ok(OsvDatabaseSpecific {
-            categories,
-            cvss,
-            informational,
-        })
+        Ok(Clone::clone(self)?)
     }
 }
 
 impl ExactClone for OsvDatabaseSpecific {
-    ghost exact = { λ x y e. e };
+    ghost exact = { λ x y e. Prim.search rules };
+}
+
+/// Returns an equal value.
+fn copy_of<T: ExactClone>(value: &T) -> std::result::Result<T, AllocError>
+    ensures { IfOk result (λ x. x ≡ value.now) }
+{
+    value.clone()
 }
 
 /// A package and its affected versions (OSV schema, `affected[]`).
-#[derive(Debug)]
+#[derive(Clone, Debug)]
 pub struct OsvAffected {
     /// The package.
     pub package: OsvPackage,
@@ -268,30 +227,10 @@ impl OsvAffected {
         ensures ok { IfOk result (λ x. x ≡ self.now) }
         ensures err { IfErr result IsMemory }
     {
-        let copy = Clone::clone(self)?;
-        Ok(copy)
-    }
-}
-
-impl Clone for OsvAffected {
-    ghost is_clone = { λ a b. b ≡ a };
-
-    fn clone(&self) -> std::result::Result<OsvAffected, AllocError> {
-        let package = Clone::clone(&self.package)?;
-        let ecosystem_specific = Clone::clone(&self.ecosystem_specific)?;
-        let database_specific = Clone::clone(&self.database_specific)?;
-        let ranges = Clone::clone(&self.ranges)?;
-        let versions = Clone::clone(&self.versions)?;
-        Ok(OsvAffected {
-            package,
-            ecosystem_specific,
-            database_specific,
-            ranges,
-            versions,
-        })
+        Ok(copy_of(self)?)
     }
 }
 
 impl ExactClone for OsvAffected {
-    ghost exact = { λ x y e. e };
+    ghost exact = { λ x y e. Prim.search rules };
 }

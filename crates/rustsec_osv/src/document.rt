@@ -1,5 +1,6 @@
 //! OSV documents (OSV schema, top level).
 
+ghost use Rattle.std.proofs.Common.{rules};
 ghost use Rattle.std.specs.Prelude.{◌≡◌, IfErr, IfOk, None, is_some};
 ghost use Rattle.rustsec_error.specs.Failure.{IsMemory};
 
@@ -10,11 +11,11 @@ use rustsec_error::Result;
 use rustsec_texts::Id;
 use rustsec_values::{ExactClone, Items, Text};
 use semver::Version;
-use std::alloc::{AllocError, Global};
+use std::alloc::Global;
 use std::marker::Model;
 
 /// What the advisory database adds to a document.
-#[derive(Debug)]
+#[derive(Clone, Debug)]
 pub struct MainOsvDatabaseSpecific {
     /// The license of the advisory, by its SPDX identifier.
     pub license: Option<Text>,
@@ -37,25 +38,9 @@ impl MainOsvDatabaseSpecific {
         ensures ok { IfOk result (λ x. x ≡ self.now) }
         ensures err { IfErr result IsMemory }
     {
-        let copy = Clone::clone(self)?;
-        Ok(copy)
+        Ok(Clone::clone(self)?)
     }
-}
 
-impl Clone for MainOsvDatabaseSpecific {
-    ghost is_clone = { λ a b. b ≡ a };
-
-    fn clone(&self) -> std::result::Result<MainOsvDatabaseSpecific, AllocError> {
-        let license = Clone::clone(&self.license)?;
-        Ok(MainOsvDatabaseSpecific { license })
-    }
-}
-
-impl ExactClone for MainOsvDatabaseSpecific {
-    ghost exact = { λ x y e. e };
-}
-
-impl MainOsvDatabaseSpecific {
     /// Returns the value without a license.
     pub fn default() -> MainOsvDatabaseSpecific
         ensures { result.license ≡ None }
@@ -64,8 +49,12 @@ impl MainOsvDatabaseSpecific {
     }
 }
 
+impl ExactClone for MainOsvDatabaseSpecific {
+    ghost exact = { λ x y e. Prim.search rules };
+}
+
 /// An OSV document.
-#[derive(Debug)]
+#[derive(Clone, Debug)]
 pub struct OsvAdvisory {
     /// The version of the schema, if the document gives one.
     pub schema_version: Option<Version>,
@@ -150,51 +139,9 @@ impl OsvAdvisory {
         ensures ok { IfOk result (λ x. x ≡ self.now) }
         ensures err { IfErr result IsMemory }
     {
-        let copy = Clone::clone(self)?;
-        Ok(copy)
+        Ok(Clone::clone(self)?)
     }
-}
 
-impl Clone for OsvAdvisory {
-    ghost is_clone = { λ a b. b ≡ a };
-
-    fn clone(&self) -> std::result::Result<OsvAdvisory, AllocError> {
-        let schema_version = self.schema_version.clone()?;
-        let id = Clone::clone(&self.id)?;
-        let modified = Clone::clone(&self.modified)?;
-        let published = Clone::clone(&self.published)?;
-        let withdrawn = Clone::clone(&self.withdrawn)?;
-        let aliases = Clone::clone(&self.aliases)?;
-        let related = Clone::clone(&self.related)?;
-        let summary = Clone::clone(&self.summary)?;
-        let details = Clone::clone(&self.details)?;
-        let severity = Clone::clone(&self.severity)?;
-        let affected = Clone::clone(&self.affected)?;
-        let references = Clone::clone(&self.references)?;
-        let database_specific = Clone::clone(&self.database_specific)?;
-        Ok(OsvAdvisory {
-            schema_version,
-            id,
-            modified,
-            published,
-            withdrawn,
-            aliases,
-            related,
-            summary,
-            details,
-            severity,
-            affected,
-            references,
-            database_specific,
-        })
-    }
-}
-
-impl ExactClone for OsvAdvisory {
-    ghost exact = { λ x y e. e };
-}
-
-impl OsvAdvisory {
     /// Returns the ID of the advisory.
     pub fn id(&self) -> &Id
         ensures { result.now ≡ self.now.id }
@@ -222,4 +169,8 @@ impl OsvAdvisory {
     {
         self.aliases.as_slice()
     }
+}
+
+impl ExactClone for OsvAdvisory {
+    ghost exact = { λ x y e. Prim.search rules };
 }

@@ -2,14 +2,13 @@
 #![tactic(auto)]
 
 mod affected;
+mod codec;
 mod document;
 mod export;
 mod ranges;
-mod reader;
 mod reference;
 mod severity;
 mod timeline;
-mod trees;
 
 pub use crate::affected::{
     OsvAffected, OsvDatabaseSpecific, OsvEcosystemSpecific, OsvEcosystemSpecificAffected,

@@ -44,8 +44,7 @@ impl OsvJsonRange {
         ensures ok { IfOk result (λ x. x ≡ self.now) }
         ensures err { IfErr result IsMemory }
     {
-        let copy = Clone::clone(self)?;
-        Ok(copy)
+        Ok(Clone::clone(self)?)
     }
 }
 

@@ -1,5 +1,6 @@
 //! References of a document (OSV schema, `references`).
 
+ghost use Rattle.std.proofs.Common.{rules};
 ghost use Rattle.std.specs.Prelude.{◌≡◌, IfErr, IfOk, None, Some};
 ghost use Rattle.rustsec_osv.specs.DocumentKinds.{reference_kind_name, reference_kind_of};
 ghost use Rattle.rustsec_error.specs.Failure.{IsMemory, IsRefusal};
@@ -7,7 +8,7 @@ ghost use Rattle.rustsec_error.specs.Failure.{IsMemory, IsRefusal};
 use rustsec_advisory::Address;
 use rustsec_error::{ErrorKind, Result, refused_text};
 use rustsec_values::{ExactClone, ExactEq, Named, value_named};
-use std::alloc::{AllocError, Global};
+use std::alloc::Global;
 
 /// The kind of the page that a reference leads to.
 #[derive(Clone, Copy, PartialEq, Eq, Debug)]
@@ -100,7 +101,7 @@ impl ExactEq for OsvReferenceKind {
 }
 
 /// A reference.
-#[derive(Debug)]
+#[derive(Clone, Debug)]
 pub struct OsvReference {
     /// The kind of its page; the key is `type`.
     pub kind: OsvReferenceKind,
@@ -125,21 +126,10 @@ impl OsvReference {
         ensures ok { IfOk result (λ x. x ≡ self.now) }
         ensures err { IfErr result IsMemory }
     {
-        let copy = Clone::clone(self)?;
-        Ok(copy)
-    }
-}
-
-impl Clone for OsvReference {
-    ghost is_clone = { λ a b. b ≡ a };
-
-    fn clone(&self) -> std::result::Result<OsvReference, AllocError> {
-        let kind = self.kind;
-        let url = Clone::clone(&self.url)?;
-        Ok(OsvReference { kind, url })
+        Ok(Clone::clone(self)?)
     }
 }
 
 impl ExactClone for OsvReference {
-    ghost exact = { λ x y e. e };
+    ghost exact = { λ x y e. Prim.search rules };
 }

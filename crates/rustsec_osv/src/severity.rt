@@ -1,5 +1,6 @@
 //! The severity of a vulnerability (OSV schema, `severity`).
 
+ghost use Rattle.std.proofs.Common.{rules};
 ghost use Rattle.std.specs.Prelude.{◌≡◌, IfErr, IfOk};
 ghost use Rattle.rustsec_osv.specs.DocumentCodec.{type_of};
 ghost use Rattle.rustsec_error.specs.Failure.{IsMemory};
@@ -7,10 +8,10 @@ ghost use Rattle.rustsec_error.specs.Failure.{IsMemory};
 use rustsec_error::Result;
 use rustsec_lock::Base;
 use rustsec_values::{ExactClone, Text};
-use std::alloc::{AllocError, Global};
+use std::alloc::Global;
 
 /// A CVSS vector, by its version.
-#[derive(Debug, Drop)]
+#[derive(Clone, Debug, Drop)]
 pub enum OsvSeverity {
     /// A vector of version 3.0 or 3.1.
     CVSS_V3(Base),
@@ -28,12 +29,9 @@ impl OsvSeverity {
         ensures ok { IfOk result (λ x. x ≡ self.now) }
         ensures err { IfErr result IsMemory }
     {
-        let copy = Clone::clone(self)?;
-        Ok(copy)
+        Ok(Clone::clone(self)?)
     }
-}
 
-impl OsvSeverity {
     /// Returns the type of the vector.
     pub(crate) fn kind(&self) -> &'static str
         ensures { result.now ≡ type_of self.now }
@@ -45,20 +43,6 @@ impl OsvSeverity {
     }
 }
 
-impl Clone for OsvSeverity {
-    ghost is_clone = { λ a b. b ≡ a };
-
-    fn clone(&self) -> std::result::Result<OsvSeverity, AllocError> {
-        match self {
-            OsvSeverity::CVSS_V3(base) => Ok(OsvSeverity::CVSS_V3(*base)),
-            OsvSeverity::CVSS_V4(text) => {
-                let text = text.clone()?;
-                Ok(OsvSeverity::CVSS_V4(text))
-            }
-        }
-    }
-}
-
 impl ExactClone for OsvSeverity {
-    ghost exact = { λ x y e. e };
+    ghost exact = { λ x y e. Prim.search rules };
 }

@@ -29,8 +29,7 @@ impl OsvTimelineEvent {
         ensures ok { IfOk result (λ e. event_of e ≡ event_of self.now) }
         ensures err { IfErr result IsMemory }
     {
-        let copy = Clone::clone(self)?;
-        Ok(copy)
+        Ok(Clone::clone(self)?)
     }
 }
 

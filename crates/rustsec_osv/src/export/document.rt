@@ -22,140 +22,52 @@ use crate::export::references::{own_pages, with_addresses};
 use crate::ranges::OsvJsonRange;
 use crate::reference::OsvReference;
 use crate::severity::OsvSeverity;
-use rustsec_advisory::metadata::{MetadataParts, Subject};
+use rustsec_advisory::metadata::MetadataParts;
 use rustsec_advisory::{Advisory, Affected, Metadata};
 use rustsec_error::{ErrorKind, Result};
 use rustsec_values::{Items, Text};
 use std::alloc::{AllocError, Global};
 
-/// The strings of a document that are newly allocated, not moved from the advisory.
+/// The members of a document that are newly allocated, not moved from the advisory.
 #[derive(Drop)]
-struct Texts {
+struct Made {
     modified: Text,
     published: Text,
     withdrawn: Option<Text>,
     license: Text,
-}
-
-/// The members of a document that are newly allocated, not moved from the advisory.
-#[derive(Drop)]
-struct Made {
-    texts: Texts,
     severity: Items<OsvSeverity>,
     package: OsvPackage,
     pages: Items<OsvReference>,
 }
 
-/// Builds the strings of an advisory's document.
-fn texts_of(
-    alloc: Global,
-    metadata: &Metadata,
-    modified: &str,
-) -> std::result::Result<Texts, AllocError>
-    ensures { IfOk result (λ t. t ≡ record {
-      modified = modified.now;
-      published = noon metadata.now.date;
-      withdrawn = option_map noon metadata.now.withdrawn;
-      license = license_name metadata.now.license;
-    }) }
-{
-    let modified = Text::from_str(alloc, modified)?;
-    let published = noon(alloc, &metadata.date)?;
-    let withdrawn = noon_of(alloc, &metadata.withdrawn)?;
-    let license = Text::from_str(alloc, metadata.license.spdx())?;
-    Ok(Texts {
-        modified,
-        published,
-        withdrawn,
-        license,
-    })
-}
-
 /// Builds the newly allocated members of an advisory's document.
 fn made_of(alloc: Global, metadata: &Metadata, modified: &str) -> Result<Made>
-    ensures texts { IfOk result (λ m. m.texts ≡ record {
+    ensures made { IfOk result (λ m. m ≡ record {
       modified = modified.now;
       published = noon metadata.now.date;
       withdrawn = option_map noon metadata.now.withdrawn;
       license = license_name metadata.now.license;
+      severity = map severity_of (option_to_list metadata.now.cvss);
+      «package» = package_of metadata.now.«package»;
+      pages = m.pages;
     }) }
-    ensures severity { IfOk result (λ m. m.severity ≡ map severity_of (option_to_list metadata.now.cvss)) }
-    ensures of_crate { IfOk result (λ m. m.«package» ≡ package_of metadata.now.«package») }
     ensures pages { IfOk result (λ m. own_pages metadata.now.«package» metadata.now.id.text ≡ Some m.pages) }
     ensures again { IfOk result (λ m. All IsReferenceAgain m.pages) }
     ensures err { IfErr result (IsRefusal ErrorKind.Parse (own_pages metadata.now.«package» metadata.now.id.text ≡ None)) }
 {
     let pages = own_pages(alloc, &metadata.package, &metadata.id)?;
-    let texts = texts_of(alloc, metadata, modified)?;
-    let severity = severities_of(alloc, &metadata.cvss)?;
-    let package = package_of(alloc, &metadata.package)?;
     Ok(Made {
-        texts,
-        severity,
-        package,
+        modified: Text::from_str(alloc, modified)?,
+        published: noon(alloc, &metadata.date)?,
+        withdrawn: noon_of(alloc, &metadata.withdrawn)?,
+        license: Text::from_str(alloc, metadata.license.spdx())?,
+        severity: severities_of(alloc, &metadata.cvss)?,
+        package: package_of(alloc, &metadata.package)?,
         pages,
     })
 }
 
-/// Assembles a document; `schema_version` stays unset.
-fn document_of(
-    texts: Texts,
-    severity: Items<OsvSeverity>,
-    subject: Subject,
-    named: (Text, Text),
-    references: Items<OsvReference>,
-    affected: Items<OsvAffected>,
-) -> OsvAdvisory
-    ensures { result ≡ record {
-      schema_version = None;
-      id = subject.id;
-      modified = texts.modified;
-      published = texts.published;
-      withdrawn = texts.withdrawn;
-      aliases = subject.aliases;
-      related = subject.related;
-      summary = named.0;
-      details = named.1;
-      severity = severity;
-      affected = affected;
-      references = references;
-      database_specific = record { license = Some texts.license };
-    } }
-{
-    let Texts {
-        modified,
-        published,
-        withdrawn,
-        license,
-    } = texts;
-    let Subject {
-        id,
-        name: _,
-        date: _,
-        aliases,
-        related,
-    } = subject;
-    let (summary, details) = named;
-    OsvAdvisory {
-        schema_version: None,
-        id,
-        modified,
-        published,
-        withdrawn,
-        aliases,
-        related,
-        summary,
-        details,
-        severity,
-        affected,
-        references,
-        database_specific: MainOsvDatabaseSpecific {
-            license: Some(license),
-        },
-    }
-}
-
-/// Assembles the document of an advisory's parts and the newly allocated members.
+/// Assembles the document of an advisory's parts and the newly allocated members; `schema_version` stays unset.
 fn with_parts(
     alloc: Global,
     made: Made,
@@ -167,9 +79,9 @@ fn with_parts(
     ensures value { IfOk result (λ d. d ≡ record {
       schema_version = None;
       id = parts.subject.id;
-      modified = made.texts.modified;
-      published = made.texts.published;
-      withdrawn = made.texts.withdrawn;
+      modified = made.modified;
+      published = made.published;
+      withdrawn = made.withdrawn;
       aliases = parts.subject.aliases;
       related = parts.subject.related;
       summary = parts.title;
@@ -177,34 +89,31 @@ fn with_parts(
       severity = made.severity;
       affected = member_of made.«package» (database_of parts.kinds) affected range ∷ [];
       references = made.pages ++ map reference_of (option_to_list parts.origin.url ++ parts.origin.references);
-      database_specific = record { license = Some made.texts.license };
+      database_specific = record { license = Some made.license };
     }) }
     ensures again { IfOk result (λ d. All IsReferenceAgain d.references) }
 {
-    let Made {
-        texts,
-        severity,
-        package,
-        pages,
-    } = made;
-    let MetadataParts {
-        title,
-        description,
-        subject,
-        kinds,
-        origin,
-        terms: _,
-    } = parts;
-    let references = with_addresses(pages, origin)?;
-    let affected = affected_of(alloc, package, database_of(kinds), affected, range)?;
-    Ok(document_of(
-        texts,
-        severity,
-        subject,
-        (title, description),
-        references,
+    let references = with_addresses(made.pages, parts.origin)?;
+    let database = database_of(parts.kinds);
+    let affected = affected_of(alloc, made.package, database, affected, range)?;
+    let subject = parts.subject;
+    Ok(OsvAdvisory {
+        schema_version: None,
+        id: subject.id,
+        modified: made.modified,
+        published: made.published,
+        withdrawn: made.withdrawn,
+        aliases: subject.aliases,
+        related: subject.related,
+        summary: parts.title,
+        details: parts.description,
+        severity: made.severity,
         affected,
-    ))
+        references,
+        database_specific: MainOsvDatabaseSpecific {
+            license: Some(made.license),
+        },
+    })
 }
 
 /// Builds the document of an advisory's metadata, with this range.

@@ -1,5 +1,5 @@
 use Rattle.std.proofs.Common.{◌≡◌, ◌≤◌, ◌==◌, count_by, take}
-use Rattle.rustsec_osv.proofs.reader.event.dots.Given as goal
+use Rattle.rustsec_osv.proofs.codec.event.dots.Given as goal
 
 abbrev pub invariant-loop-byte : goal.invariant-loop-byte
 invariant-loop-byte l = record {

@@ -1,6 +1,0 @@
-//! The reader of documents from JSON trees.
-
-mod affected;
-mod document;
-mod event;
-mod release;

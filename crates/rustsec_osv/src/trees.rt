@@ -1,4 +1,0 @@
-//! The JSON trees of documents and of their parts.
-
-mod affected;
-mod document;
