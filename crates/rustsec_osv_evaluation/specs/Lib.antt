@@ -1,4 +1,5 @@
 pub mod Document
 pub mod Event
+pub mod Order
 pub mod Pairs
 pub mod Range

@@ -56,7 +56,7 @@ fn ranges_say(alloc: Global, ranges: &[OsvJsonRange], version: &Version) -> Resu
 }
 
 /// Returns the ranges of a member.
-fn ranges_of(member: &OsvAffected) -> &[OsvJsonRange]
+pub(crate) fn ranges_of(member: &OsvAffected) -> &[OsvJsonRange]
     ensures { result.now ≡ ranges_of member.now }
 {
     match &member.ranges {

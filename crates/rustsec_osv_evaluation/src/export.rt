@@ -1,10 +1,11 @@
 //! Exports an advisory as a document that OSV's evaluation reads as the advisory.
 
-ghost use Rattle.std.specs.Prelude.{◌≡◌, ◌⊎◌, Bool, IfErr, IfOk, None, codes};
+ghost use Rattle.std.specs.Prelude.{◌≡◌, ◌⊎◌, Bool, IfErr, IfOk, None, codes, true};
 ghost use Rattle.semver.specs.Parse.{Parts};
 ghost use Rattle.rustsec_osv.specs.Export.{IsDocument, document_events};
 ghost use Rattle.rustsec_osv.specs.References.{references_of};
 ghost use Rattle.rustsec_osv_evaluation.specs.Document.{IsAnswer};
+ghost use Rattle.rustsec_osv_evaluation.specs.Order.{has_ordered_events};
 ghost use Rattle.rustsec_osv_evaluation.specs.Pairs.{HaveOwnVersions, normalized_document};
 ghost use Rattle.rustsec_versions.specs.AcceptedRanges.{HasUnboundedInterval};
 ghost use Rattle.rustsec_error.specs.Failure.{IsRefusal};
@@ -32,6 +33,9 @@ pub fn document_of(alloc: Global, advisory: Advisory, modified: &str) -> Result<
     // Without the pairs of neighbouring events at one version it always does.
     ensures normalized { IfOk result (λ d. (v : Parts) (answer : Bool) → IsVersion v
         → IsAnswer (codes "crates.io") advisory.metadata.«package» v (normalized_document d) answer → answer ≡ affected advisory.versions v) }
+
+    // The versions of its events rise, an order that the schema does not require.
+    ensures ordered { IfOk result (λ d. has_ordered_events d ≡ true) }
     ensures err { IfErr result (λ e. IsRefusal ErrorKind.BadParam (HasUnboundedInterval advisory.versions) e
         ⊎ IsRefusal ErrorKind.Parse ((¬ HasUnboundedInterval advisory.versions) × (references_of advisory.metadata ≡ None)) e) }
 {

@@ -4,11 +4,13 @@
 mod document;
 mod event;
 mod export;
+mod order;
 mod pairs;
 mod range;
 
 pub use crate::document::{Question, is_affected};
 pub use crate::event::Event;
 pub use crate::export::document_of;
+pub use crate::order::has_ordered_events;
 pub use crate::pairs::normalized;
 pub use crate::range::says_affected;

@@ -14,7 +14,7 @@ use std::alloc::{AllocError, Global};
 use std::mem;
 
 /// Returns the version of an event.
-fn at(event: &OsvTimelineEvent) -> &Version
+pub(crate) fn at(event: &OsvTimelineEvent) -> &Version
     ensures { parts_of result.now ≡ at (event_of event.now) }
 {
     match event {

@@ -1,6 +1,6 @@
 //! Exports an advisory as a JSON document that keeps the OSV schema.
 
-ghost use Rattle.std.specs.Prelude.{◌≡◌, ◌⊎◌, ℕ, IfErr, IfOk, List, None};
+ghost use Rattle.std.specs.Prelude.{◌≡◌, ◌⊎◌, ℕ, IfErr, IfOk, List, None, true};
 ghost use Rattle.serde_json.specs.View.{view};
 ghost use Rattle.rustsec_advisory.specs.Advisory.{IsAdvisory};
 ghost use Rattle.rustsec_error.specs.Failure.{IsRefusal};
@@ -9,6 +9,7 @@ ghost use Rattle.rustsec_osv.specs.Documents.{Document};
 ghost use Rattle.rustsec_osv.specs.Export.{IsDocument};
 ghost use Rattle.rustsec_osv.specs.References.{references_of};
 ghost use Rattle.rustsec_osv.specs.DocumentCodec.{document_tree};
+ghost use Rattle.rustsec_osv_evaluation.specs.Order.{has_ordered_events};
 ghost use Rattle.rustsec_osv_schema.specs.Exports.{HasDays, IsForSchema};
 ghost use Rattle.rustsec_osv_schema.specs.Schema.{IsOsvSchema};
 
@@ -32,6 +33,9 @@ pub fn exported_value(alloc: Global, advisory: Advisory, modified: &str) -> Resu
 
     // The days of an advisory that was read from a text are as the schema asks.
     ensures parsed { IfOk result (λ v. (t : List ℕ) → IsAdvisory t advisory → IsForSchema advisory.metadata modified.now → IsOsvSchema (view v)) }
+
+    // The versions of its events rise, an order that the schema does not require.
+    ensures ordered { IfOk result (λ v. (d : Document) × (has_ordered_events d ≡ true) × (view v ≡ document_tree d)) }
     ensures err { IfErr result (λ e. IsRefusal ErrorKind.BadParam (HasUnboundedInterval advisory.versions) e
         ⊎ IsRefusal ErrorKind.Parse ((¬ HasUnboundedInterval advisory.versions) × (references_of advisory.metadata ≡ None)) e) }
 {
