@@ -1,7 +1,9 @@
 //! OSV's evaluation of documents, by the page of its schema ("Evaluation"), worked by hand.
 
 use rustsec_osv::OsvAdvisory;
-use rustsec_osv_evaluation::{Event, Question, is_affected, normalized, says_affected};
+use rustsec_osv_evaluation::{
+    Event, Question, has_ordered_events, is_affected, normalized, says_affected,
+};
 use semver::Version;
 use serde_json::Value;
 use std::alloc::Global;
@@ -226,4 +228,38 @@ fn expect_normalized<T: AllocGlobal + Abort>(rt: &T, rows: &[(&str, &str)]) -> R
 #[test]
 fn osv_normalized(rt: HostRuntime) -> Result<(), Fail> {
     expect_normalized(&rt, PAIRS)
+}
+
+/// The events of a range, and whether they rise in precedence.
+const ORDERS: &[(&str, bool)] = &[
+    ("", true),
+    (r#"{"fixed":"1.0.0"}"#, true),
+    (r#"{"introduced":"1.0.0"},{"fixed":"1.0.0+b"}"#, true),
+    (r#"{"introduced":"1.0.0"},{"fixed":"1.0.0-a"}"#, false),
+    (
+        r#"{"introduced":"0"},{"fixed":"3.0.0"},{"introduced":"2.0.0"}"#,
+        false,
+    ),
+    (
+        r#"{"introduced":"0.9.0"},{"last_affected":"0.10.0"},{"introduced":"2"}"#,
+        true,
+    ),
+];
+
+/// Returns whether the document with some events is called ordered.
+fn is_ordered(alloc: Global, events: &str) -> Result<bool, Fail> {
+    Ok(has_ordered_events(&with_events(alloc, events)?))
+}
+
+/// Checks the rows of orders.
+fn expect_orders<T: AllocGlobal + Abort>(rt: &T, rows: &[(&str, bool)]) -> Result<(), Fail> {
+    for row in rows {
+        assert!(rt; is_ordered(rt.alloc(), row.0)? == row.1, "{row:?}");
+    }
+    Ok(())
+}
+
+#[test]
+fn osv_order(rt: HostRuntime) -> Result<(), Fail> {
+    expect_orders(&rt, ORDERS)
 }
