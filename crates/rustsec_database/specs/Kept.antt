@@ -51,7 +51,7 @@ pub record IsKeptWith (test : Advisory → Bool) (all : List Advisory) (path tex
   pub is_added : IsAdded all path text place more
   pub is_kept : IsKept test more k
 
--- the result of loading these files, of which only some advisories are kept; the refusal of the first file at fault; or out of memory
+-- the result of loading these files: what is kept of their advisories; the refusal of the first file at fault; or out of memory
 abbrev pub IsKeptLoadOf : (Advisory → Bool) → List SourceFile → Result KeptValue Failure → Type 0
 IsKeptLoadOf test files answer =
     IfOk answer (λ k. (all : List Advisory) × (AreLoaded files all × IsKept test all k)) × IfErr answer (λ e. IsFirstFault files e ⊎ IsMemory e)

@@ -9,6 +9,7 @@ mod end_to_end;
 mod filter;
 mod generate;
 mod info;
+mod kept;
 mod object;
 mod report;
 mod report_tree;
