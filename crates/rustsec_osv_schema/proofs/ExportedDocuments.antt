@@ -1,16 +1,12 @@
 -- An exported document keeps the schema where its advisory is as the schema asks.
-use Rattle.std.proofs.Common.{◌≡◌, ◌&&◌, ℕ, true, false, List, [], ◌∷◌, Option, Some, None, Ok, Err, codes, refl, subst, sym}
-use Rattle.std.specs.Prelude.{IfOk, Result, map, option_map, option_to_list}
+use Rattle.std.proofs.Common.{◌≡◌, ℕ, true, List, [], Option, Some, None, codes, refl, subst, sym}
+use Rattle.std.specs.Prelude.{option_map}
 use Rattle.std.proofs.lemmas.Bool.{and_from}
-use Rattle.serde_json.specs.Data.{Data}
-use Rattle.serde_json.specs.View.{items_of, view}
+use Rattle.serde_json.specs.View.{view}
 use Rattle.serde_json.specs.declared.value.Value.{Value}
-use Rattle.semver.specs.Parse.{Parts}
-use Rattle.rustsec_error.specs.Failure.{Failure}
 use Rattle.rustsec_json.specs.Trees.{list_tree}
-use Rattle.rustsec_versions.specs.AcceptedRanges.{AreMergedRanges, HasUnboundedInterval}
 use Rattle.rustsec_versions.specs.Lists.{Lists}
-use Rattle.rustsec_versions.specs.Ranges.{Range, whole}
+use Rattle.rustsec_versions.specs.Ranges.{whole}
 use Rattle.rustsec_versions.proofs.Contained.{contains-here}
 use Rattle.rustsec_advisory.specs.FieldGroups.{kinds_of}
 use Rattle.rustsec_advisory.specs.declared.advisory.Advisory.{Advisory}
@@ -19,8 +15,8 @@ use Rattle.rustsec_advisory.specs.declared.metadata.Metadata.{Metadata}
 use Rattle.rustsec_json.specs.Codecs.{IfThere}
 use Rattle.rustsec_osv.specs.DocumentEvents.{JsonRange}
 use Rattle.rustsec_osv.specs.Documents.{Document}
-use Rattle.rustsec_osv.specs.Export.{IsDocument, IsRangeOf, database_of, document_with, member_of, noon, package_of, severity_of}
-use Rattle.rustsec_osv.specs.DocumentCodec.{affected_codec, document_tree, reference_codec, severity_tree}
+use Rattle.rustsec_osv.specs.Export.{IsDocument, IsRangeOf, database_of, document_with, member_of, noon, package_of}
+use Rattle.rustsec_osv.specs.DocumentCodec.{affected_codec, document_tree, severity_tree}
 use Rattle.rustsec_osv.specs.EventCodec.{range_tree}
 use Rattle.rustsec_osv.specs.declared.affected.OsvDatabaseSpecific.{OsvDatabaseSpecific}
 use Rattle.rustsec_osv.specs.declared.reference.OsvReference.{OsvReference}

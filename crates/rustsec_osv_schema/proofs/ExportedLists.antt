@@ -1,6 +1,6 @@
 -- The lists of an exported document keep the schema.
-use Rattle.std.proofs.Common.{◌≡◌, ◌&&◌, ◌||◌, ◌++◌, ◌⊎◌, ℕ, Bool, true, false, List, [], ◌∷◌, Option, Some, None, codes, map, not, refl, inl, inr, ap, sym, subst}
-use Rattle.std.specs.Prelude.{flat_map, option_to_list}
+use Rattle.std.proofs.Common.{◌≡◌, ◌&&◌, ◌++◌, ℕ, Bool, true, false, List, [], ◌∷◌, Option, Some, None, codes, map, not, refl, sym, subst}
+use Rattle.std.specs.Prelude.{option_to_list}
 use Rattle.std.proofs.lemmas.Bool.{and_from, or_left}
 use Rattle.serde_json.specs.Data.{Data}
 use Rattle.serde_json.specs.View.{items_of}
@@ -11,7 +11,7 @@ use Rattle.rustsec_lock.specs.declared.cvss.Cvss.{Cvss}
 use Rattle.rustsec_lock.specs.declared.cvss.Cvss.TheVariants as cvss
 use Rattle.rustsec_json.specs.Codecs.{IfThere}
 use Rattle.rustsec_osv.specs.DocumentEvents.{Event, JsonRange, fixed, introduced, last_affected}
-use Rattle.rustsec_osv.specs.Events.{beginning, events_of, events_of_range, fix}
+use Rattle.rustsec_osv.specs.Events.{beginning, events_of, fix}
 use Rattle.rustsec_osv.specs.Export.{severity_of}
 use Rattle.rustsec_osv.specs.EventCodec.{event_tree, range_tree}
 use Rattle.rustsec_osv.specs.DocumentCodec.{reference_codec, severity_tree}

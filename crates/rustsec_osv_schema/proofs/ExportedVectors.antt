@@ -1,8 +1,7 @@
 -- The vector that base metrics print has the form of a vector of CVSS 3.
-use Rattle.std.proofs.Common.{◌≡◌, ◌∙◌, ◌++◌, ◌||◌, ◌⊎◌, ℕ, Bool, false, true, List, [], ◌∷◌, codes, inl, inr, refl, subst, sym}
-use Rattle.std.proofs.lemmas.Bool.{or_left, or_right}
+use Rattle.std.proofs.Common.{◌≡◌, ◌∙◌, ◌++◌, ◌⊎◌, ℕ, false, true, List, ◌∷◌, codes, inl, inr, refl}
+use Rattle.std.proofs.lemmas.Bool.{or_left}
 use Rattle.std.specs.Fmt.{decimal, digits}
-use Rattle.std.specs.List.{list_all}
 use Rattle.rustsec_lock.specs.Cvss.{base_text}
 use Rattle.rustsec_lock.specs.Metrics.{attack_complexity_letter, attack_vector_letter, availability_letter, confidentiality_letter, integrity_letter, privileges_required_letter, scope_letter, user_interaction_letter}
 use Rattle.rustsec_lock.specs.declared.metrics.Base.{Base}

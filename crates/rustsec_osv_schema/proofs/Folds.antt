@@ -1,10 +1,10 @@
 -- Loops that ask each element of a list, or go on after each.
-use Rattle.std.proofs.Common.{◌≡◌, ℕ, ◌+◌, ◌<◌, ◌≤◌, ◌&&◌, ◌||◌, zero, suc, Bool, true, false, List, [], ◌∷◌, Option, Some, None, add-one, ap, arith, drop, drop-cons, get_or, length, map, refl, subst, sym, take}
-use Rattle.std.proofs.lemmas.Bool.{and_from, and_left, and_parts, and_right, or_right}
-use Rattle.std.proofs.lemmas.List.{drop_all, take_all}
-use Rattle.std.proofs.lemmas.List.Folds.{list_all_more, list_any_more}
+use Rattle.std.proofs.Common.{◌≡◌, ℕ, ◌+◌, ◌<◌, ◌≤◌, ◌||◌, zero, suc, Bool, true, false, List, [], ◌∷◌, add-one, ap, arith, get_or, length, map, refl, subst, take}
+use Rattle.std.proofs.lemmas.Bool.{and_from, and_parts, and_right, or_right}
+use Rattle.std.proofs.lemmas.List.{take_all}
+use Rattle.std.proofs.lemmas.List.Folds.{list_any_more}
 use Rattle.std.specs.Cmp.Lexicographic.{pointwise}
-use Rattle.std.specs.List.{list_all, list_any}
+use Rattle.std.specs.List.{list_any}
 
 -- ---- one element that passes
 

@@ -1,5 +1,5 @@
 -- Loops that go on after each row of metrics.
-use Rattle.std.proofs.Common.{◌≡◌, ◌∙◌, ℕ, ◌+◌, ◌<◌, ◌≤◌, List, [], ◌∷◌, Option, Some, None, add-one, ap, drop, drop-cons, get_or, length, map, nat_eq, option_map, refl, subst, sym, true, false}
+use Rattle.std.proofs.Common.{◌≡◌, ◌∙◌, ℕ, ◌+◌, ◌<◌, ◌≤◌, List, Option, Some, None, add-one, ap, drop, drop-cons, get_or, length, map, nat_eq, option_map, refl, subst, sym, true, false}
 use Rattle.std.proofs.lemmas.List.{drop_all}
 use Rattle.std.proofs.lemmas.Str.Pattern.{starts_text}
 use Rattle.std.specs.List.{starts_with}

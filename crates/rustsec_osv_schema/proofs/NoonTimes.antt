@@ -1,5 +1,5 @@
 -- Noon of a parsed day is a time of the schema.
-use Rattle.std.proofs.Common.{◌≡◌, ◌∙◌, ◌&&◌, ◌++◌, ◌+◌, ◌*◌, ◌-◌, ◌<◌, ◌≤◌, ◌^◌, ℕ, ◌==◌, Bool, true, false, List, [], ◌∷◌, Option, Some, None, ap, arith, codes, length, nat_lt, refl, subst, sym, take}
+use Rattle.std.proofs.Common.{◌≡◌, ◌∙◌, ◌&&◌, ◌++◌, ◌+◌, ◌*◌, ◌-◌, ◌≤◌, ◌^◌, ℕ, ◌==◌, Bool, true, false, List, [], ◌∷◌, Option, Some, None, ap, arith, codes, length, nat_lt, refl, subst, sym, take}
 use Rattle.std.proofs.lemmas.Bool.{and_from, and_parts, eqb-true, le-ltb, leb-true, lt-ltb}
 use Rattle.std.proofs.lemmas.List.Splits.{join_with_byte-slice_split}
 use Rattle.std.specs.Char.{digit_value, is_ascii_digit}

@@ -1,5 +1,5 @@
 -- Loops that ask each part of a text between slashes.
-use Rattle.std.proofs.Common.{◌≡◌, ◌∙◌, ◌&&◌, ◌++◌, List, [], ◌∷◌, Bool, true, false, ap, map, refl, sym}
+use Rattle.std.proofs.Common.{◌≡◌, ◌&&◌, ◌++◌, List, [], ◌∷◌, Bool, true, false, ap, map, refl}
 use Rattle.std.proofs.lemmas.Bool.{and_left, and_right}
 use Rattle.std.specs.List.{list_all}
 

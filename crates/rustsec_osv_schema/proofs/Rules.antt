@@ -1,5 +1,5 @@
 -- The two groups of rules are the definition.
-use Rattle.std.proofs.Common.{◌≡◌, ◌&&◌, ◌↔◌, Bool, true, refl, codes}
+use Rattle.std.proofs.Common.{◌≡◌, ◌↔◌, Bool, true}
 use Rattle.std.proofs.lemmas.Bool.{and_from, and_parts}
 use Rattle.serde_json.specs.Data.{Data}
 use Rattle.rustsec_osv_schema.specs.Groups.{keeps_all, keeps_lists, keeps_texts}

@@ -4,7 +4,7 @@ use Rattle.std.specs.Prelude.{◌≡◌, ◌==◌, ℕ, Bool, false, true, ◌&&
 use Rattle.std.specs.List.{count_by}
 use Rattle.std.specs.Str.{bytes_eq}
 use Rattle.serde_json.specs.Data.{Data}
-use Rattle.serde_json.specs.Find.{as_null, as_str, get}
+use Rattle.serde_json.specs.Find.{as_str, get}
 use Rattle.rustsec_osv_schema.specs.Names.{credit_types, document_keys, event_keys, range_types, reference_types}
 use Rattle.rustsec_osv_schema.specs.Texts.{is_ecosystem, is_id, is_one_line, is_one_of, is_time}
 use Rattle.rustsec_osv_schema.specs.Values.{has, is_null, is_object, is_text, list_of, list_with, object_of, optional, or_null, required, text_of}

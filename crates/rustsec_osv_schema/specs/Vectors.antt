@@ -1,6 +1,6 @@
 -- The forms of scores by the type of a severity (OSV schema, `$defs.severity`): vectors of CVSS 2, 3 and 4, and the
 -- priorities of Ubuntu. A row is a metric with the letters of its values. It carries meaning: public contracts cite it.
-use Rattle.std.specs.Prelude.{ℕ, ◌==◌, ◌&&◌, ◌||◌, Bool, false, true, List, [], ◌∷◌, ◌++◌, Option, Some, None, codes, drop, if◌then◌else◌, length, nat_eq, option_and_then, option_map, unwrap_or}
+use Rattle.std.specs.Prelude.{ℕ, ◌==◌, ◌&&◌, ◌||◌, Bool, false, List, [], ◌∷◌, Option, Some, None, codes, drop, if◌then◌else◌, length, nat_eq, option_and_then, option_map, unwrap_or}
 use Rattle.std.specs.List.{list_all, list_any, slice_split, starts_with}
 use Rattle.std.specs.Str.{bytes_eq}
 use Rattle.rustsec_osv_schema.specs.Names.{priorities}
