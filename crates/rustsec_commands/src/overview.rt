@@ -2,7 +2,7 @@
 
 ghost use Rattle.rustsec_folders.specs.Allowed.{AllowSame};
 
-use rustsec_database::Database;
+use rustsec_database::KeptDatabase;
 use rustsec_error::Result;
 use rustsec_folders::Folders;
 use rustsec_lock::package::Package;
@@ -29,8 +29,8 @@ pub struct Paths<'a> {
 pub struct LookedAt<'a> {
     /// Where the database and the lockfile are.
     pub paths: Paths<'a>,
-    /// The database.
-    pub database: &'a Database,
+    /// What was kept of the database.
+    pub kept: &'a KeptDatabase,
     /// The lockfile.
     pub lockfile: &'a Lockfile,
     /// The IDs that are ignored.
@@ -125,9 +125,9 @@ fn add_unmatched(note: &mut String, packages: &[Package], why: Unmatched) -> Res
 }
 
 /// Appends a warning for each ignored ID that no advisory has.
-fn add_ignored(note: &mut String, database: &Database, ignored: &[Id]) -> Result<()> {
+fn add_ignored(note: &mut String, kept: &KeptDatabase, ignored: &[Id]) -> Result<()> {
     for id in ignored {
-        if database.get(id).is_none() {
+        if !kept.has_id(id) {
             add_warning(note, "no advisory has the ignored ID ", id.as_str())?;
         }
     }
@@ -202,8 +202,8 @@ pub fn overview<F: Folders>(
     add_unmatched(&mut note, packages, Unmatched::WithoutSource)?;
     add_unmatched(&mut note, packages, Unmatched::FromElsewhere)?;
     add_unmatched(&mut note, packages, Unmatched::FromSparseIndex)?;
-    add_ignored(&mut note, looked_at.database, looked_at.ignored)?;
-    let advisories = looked_at.database.iter().count();
+    add_ignored(&mut note, looked_at.kept, looked_at.ignored)?;
+    let advisories = looked_at.kept.number();
     add_numbers(&mut note, looked_at.paths, advisories, packages.len())?;
     Ok(note)
 }

@@ -1,10 +1,13 @@
 //! The commands `report` and `audit`, over a database and a lockfile.
 
-ghost use Rattle.std.specs.Prelude.{◌≡◌, ◌⊎◌, [], IfErr, IfOk, None, Some, map, string_bytes};
+ghost use Rattle.std.specs.Prelude.{◌≡◌, ◌⊎◌, [], IfErr, IfOk, List, None, Some, map, string_bytes};
 ghost use Rattle.rustsec_values.specs.Reading.{read_all};
 ghost use Rattle.rustsec_error.specs.Failure.{IsRefusal};
 ghost use Rattle.rustsec_folders.specs.Allowed.{AllowSame};
+ghost use Rattle.rustsec_lock.specs.Package.{PackageValue};
 ghost use Rattle.rustsec_texts.specs.Ids.{id_of};
+ghost use Rattle.rustsec_database.specs.Kept.{AreOpenedFor, touches_any};
+ghost use Rattle.rustsec_database.specs.Opened.{IsOpenRefusal};
 ghost use Rattle.rustsec_report.specs.Trees.{report_tree};
 ghost use Rattle.rustsec_commands.specs.Audit.{audit_output};
 ghost use Rattle.rustsec_commands.specs.Reports.{IsAuditOutput, IsOutputOver, IsReportOfPaths, IsReportOutput, IsReportRefusal, report_output, settings_with};
@@ -16,10 +19,11 @@ use crate::output::{self, Output, tree_line};
 use crate::overview::{LookedAt, Paths, overview};
 use crate::refusal::refusal;
 use crate::{misuse, options};
-use rustsec_database::Database;
+use rustsec_database::{KeptDatabase, Locked};
 use rustsec_error::ErrorKind;
 use rustsec_folders::Folders;
 use rustsec_lock::Lockfile;
+use rustsec_lock::package::Package;
 use rustsec_report::{Report, Settings};
 use rustsec_texts::{Id, Informational};
 use rustsec_values::Items;
@@ -78,8 +82,35 @@ impl Model for NotedReport {
     ghost view = { λ n. n.report };
 }
 
+/// Returns the packages of a lockfile that was read, or none if it was refused.
+fn packages_read(read: &rustsec_error::Result<Lockfile>) -> &[Package]
+    ensures { IfOk read.now (λ l. result.now ≡ l.packages) }
+{
+    match read {
+        Ok(lockfile) => lockfile.packages.as_slice(),
+        Err(_) => &[],
+    }
+}
+
+/// Opens the database under a root, and keeps of its advisories those that affect a package of a lockfile that was read.
+fn kept_for<F: Folders>(
+    alloc: Global,
+    folders: &mut F,
+    root: &str,
+    read: &rustsec_error::Result<Lockfile>,
+) -> rustsec_error::Result<KeptDatabase>
+    ensures ok { IfOk result (λ k. (packages : List PackageValue) × (AreOpenedFor (F.allowed folders.old) root.now (touches_any packages) k
+        × IfOk read.now (λ l. packages ≡ l.packages))) }
+    ensures err { IfErr result (IsOpenRefusal (F.allowed folders.old) root.now) }
+    ensures same { AllowSame (F.allowed folders.old) (F.allowed folders.new) }
+{
+    let locked = Locked::new(alloc, packages_read(read))?;
+    KeptDatabase::open_with(alloc, folders, root, &locked)
+}
+
 /// Generates the report on the lockfile at a path, by the database under a root, both read through `folders`. The
-/// database is read first.
+/// lockfile is read first, so that of the advisories only those are kept that affect one of its packages. A refusal of
+/// the database is the answer also if the lockfile was refused.
 ///
 /// # Errors
 ///
@@ -94,12 +125,13 @@ pub fn report_of<F: Folders>(
     ensures err { IfErr result (IsReportRefusal (F.allowed folders.old) paths.entry.root.now paths.entry.lock.now) }
     ensures same { AllowSame (F.allowed folders.old) (F.allowed folders.new) }
 {
-    let database = Database::open_with(alloc, folders, paths.root)?;
-    let lockfile = Lockfile::load_with(alloc, folders, paths.lock)?;
-    let report = Report::generate(alloc, &database, &lockfile, settings)?;
+    let read = Lockfile::load_with(alloc, folders, paths.lock);
+    let kept = kept_for(alloc, folders, paths.root, &read)?;
+    let lockfile = read?;
+    let report = Report::generate_kept(alloc, &kept, &lockfile, settings)?;
     let looked_at = LookedAt {
         paths,
-        database: &database,
+        kept: &kept,
         lockfile: &lockfile,
         ignored: settings.ignore.as_slice(),
     };

@@ -107,7 +107,7 @@ fn gives(
 }
 
 /// Checks what words write over files in memory.
-fn expect_in_memory<T: AllocGlobal + Abort>(
+pub fn expect_in_memory<T: AllocGlobal + Abort>(
     rt: &T,
     files: Paths<'_>,
     rows: &[CommandRow<'_>],
@@ -336,15 +336,15 @@ fn expect_failures<T: AllocGlobal + Abort>(
     Ok(())
 }
 
-// An audit lists `crates`, `base` and `rust`, and reads three advisories and the lockfile. The listing of `rust` may
+// An audit reads the lockfile, lists `crates`, `base` and `rust`, and reads three advisories. The listing of `rust` may
 // fail. An error at any other asking is a refusal, and never another output.
 #[test]
 fn an_error_at_each_asking(rt: HostRuntime) -> Result<(), Fail> {
     let refusal = (Ok(2), NOT_READ);
     let document = lines_of(rt.alloc(), &[SHORT_DOCUMENT])?;
     let io = ErrorKind::Io;
-    expect_failures(&rt, io, refusal, &(AUDIT, 7, &[3], (Ok(1), BOTH)))?;
-    expect_failures(&rt, io, refusal, &(REPORT, 7, &[3], (Ok(1), FOUR)))?;
+    expect_failures(&rt, io, refusal, &(AUDIT, 7, &[4], (Ok(1), BOTH)))?;
+    expect_failures(&rt, io, refusal, &(REPORT, 7, &[4], (Ok(1), FOUR)))?;
     expect_failures(&rt, io, refusal, &(LINT, 1, &[], (Ok(0), "")))?;
     expect_failures(&rt, io, refusal, &(OSV, 1, &[], (Ok(0), &document)))
 }
@@ -393,29 +393,28 @@ const LATER: Paths<'_> = &[
     ),
 ];
 
-/// What `audit` writes of the earlier advisories and the later lockfile.
-const TWICE: &str =
-    "vulnerability RUSTSEC-2001-0001 base 1.0.0\nvulnerability RUSTSEC-2001-0001 base 1.5.0\nwarning unmaintained RUSTSEC-2001-0003 base 1.0.0\nwarning unmaintained RUSTSEC-2001-0003 base 1.5.0\n2 vulnerabilities, 2 warnings\n";
-
-/// What `audit` writes where the last advisory is the later one.
+/// What `audit` writes of the earlier lockfile where the last advisory is the later one.
 const UNSOUND: &str =
-    "vulnerability RUSTSEC-2001-0001 base 1.0.0\nvulnerability RUSTSEC-2001-0001 base 1.5.0\nwarning unsound RUSTSEC-2001-0003 base 1.0.0\nwarning unsound RUSTSEC-2001-0003 base 1.5.0\n2 vulnerabilities, 2 warnings\n";
+    "vulnerability RUSTSEC-2001-0001 base 1.0.0\nwarning unsound RUSTSEC-2001-0003 base 1.0.0\n1 vulnerabilities, 1 warnings\n";
 
-/// What `audit` writes of the later advisories.
-const WARNED: &str =
+/// What `audit` writes of the earlier lockfile and the later advisories.
+const ONCE: &str = "warning unsound RUSTSEC-2001-0003 base 1.0.0\n0 vulnerabilities, 1 warnings\n";
+
+/// What `audit` writes of the later lockfile and the later advisories.
+const TWICE: &str =
     "warning unsound RUSTSEC-2001-0003 base 1.0.0\nwarning unsound RUSTSEC-2001-0003 base 1.5.0\n0 vulnerabilities, 2 warnings\n";
 
-// Each path is asked once, and the output is that of the answers that were given.
+// Each path is asked once, the lockfile's first, and the output is that of the answers that were given.
 #[test]
 fn folders_that_change(rt: HostRuntime) -> Result<(), Fail> {
     for (turns_at, status, text) in [
-        (1, 0, WARNED),
-        (2, 0, WARNED),
-        (3, 0, WARNED),
-        (4, 0, WARNED),
-        (5, 1, UNSOUND),
+        (1, 0, TWICE),
+        (2, 0, ONCE),
+        (3, 0, ONCE),
+        (4, 0, ONCE),
+        (5, 0, ONCE),
         (6, 1, UNSOUND),
-        (7, 1, TWICE),
+        (7, 1, UNSOUND),
         (8, 1, BOTH),
     ] {
         let folders = MemoryFolders::turning(FILES, LATER, turns_at);

@@ -13,6 +13,8 @@ mod commands_over_folders;
 #[cfg(test)]
 mod disk;
 #[cfg(test)]
+mod kept_advisories;
+#[cfg(test)]
 mod lint;
 #[cfg(test)]
 mod lint_keys;

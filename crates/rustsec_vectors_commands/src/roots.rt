@@ -50,7 +50,7 @@ fn whole_reports(rt: HostRuntime) -> Result<(), Fail> {
 /// A file that is not an advisory.
 const NO_ADVISORY: &[(&str, &str)] = &[("crates/base/RUSTSEC-2001-0001.md", "no advisory")];
 
-// The two arguments after `audit` are always paths. The database is read before the lockfile.
+// The two arguments after `audit` are always paths. A refusal of the database comes before one of the lockfile.
 #[test]
 fn audit_reads_the_database_first(rt: HostRuntime) -> Result<(), Fail> {
     let (io, parse) = ("refused: I/O operation failed\n", "refused: parse error\n");
