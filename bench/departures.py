@@ -84,7 +84,7 @@ def read_values(text):
             return b"invalid value " + repr(tomllib.loads("a = " + match[1].decode())["a"]).encode() + match[2]
         except (tomllib.TOMLDecodeError, UnicodeDecodeError):
             return match[0]
-    return re.sub(rb"invalid value `(.*?)`( for key `(?:id|url|date)`)", read, text, flags=re.S)
+    return re.sub(rb"invalid value `((?:(?!invalid value `).)*?)`( for key `(?:id|url|date)`)", read, text, flags=re.S)
 
 
 def quoting_of_a_value(command, data, ours, theirs):
@@ -96,6 +96,17 @@ def quoting_of_a_value(command, data, ours, theirs):
 def fault_of_a_source(command, data, ours, theirs):
     """The Rust crate's linter calls `source` an invalid key, though its reader knows it; ours doesn't."""
     return b"source" in data and ours[0] == theirs[0].replace(b"invalid key `source` in [advisory]\n", b"")
+
+
+def starts_before_a_refusal(command, data, ours, theirs):
+    """The two starts, in a file that ours refuses for what comes after them."""
+    return ours == (b"refused: parse error\n", 2) and starts_of_an_advisory(command, data, (ours[0], 0), theirs)
+
+
+def quoting_beside_a_source(command, data, ours, theirs):
+    """Both of these in one file: other quotes, and a `source` that the Rust crate's linter calls invalid."""
+    others = theirs[0].replace(b"invalid key `source` in [advisory]\n", b"")
+    return b"source" in data and ours[1] == theirs[1] == 1 and read_values(ours[0]) == read_values(others)
 
 
 def source_that_is_no_address(command, data, ours, theirs):
@@ -175,12 +186,13 @@ def edition_of_toml(command, data, ours, theirs):
 
 
 def key_that_stands_twice(command, data, ours, theirs):
-    """A key stands twice in a table, which TOML refuses. The faster of the readers that theirs is built with passes over it
-    where nothing asks for the key."""
+    """A key is in a table twice, which TOML refuses. The faster of the readers that theirs is built with passes over it
+    where nothing asks for the key, and its linter then stops."""
     try:
         tomllib.loads(data.decode().partition("```toml")[2].partition("\n```")[0])
     except tomllib.TOMLDecodeError as error:
-        return ours == (b"refused: parse error\n", 2) and theirs[1] < 2 and "overwrite" in str(error)
+        is_passed = theirs[1] < 2 or theirs == PANIC
+        return ours == (b"refused: parse error\n", 2) and is_passed and "overwrite" in str(error)
     except UnicodeDecodeError:
         pass
     return False
@@ -189,7 +201,7 @@ def key_that_stands_twice(command, data, ours, theirs):
 OF_LINT = [
     number_of_an_advisory, starts_of_an_advisory, fault_of_a_source, source_that_is_no_address,
     message_cut_inside_a_character, empty_name, edition_of_toml, nesting, merged_patched_of_an_advisory,
-    quoting_of_a_value,
+    quoting_of_a_value, quoting_beside_a_source, key_that_stands_twice, starts_before_a_refusal,
 ]
 OF_OSV = [
     number_of_an_advisory, starts_of_an_advisory, source_that_is_no_address, message_cut_inside_a_character, empty_name,
