@@ -4,7 +4,7 @@ ghost use Rattle.std.specs.Prelude.{◌≡◌, IfOk, option_map};
 ghost use Rattle.rustsec_edition.specs.Forms.{first_form};
 
 use crate::form::NewForm;
-use crate::token::{form_at, last, track};
+use crate::token::{form_at, last, may_have_form, track};
 use rustsec_places::{Place, after_token, skip_mark, up_to};
 use std::alloc::{AllocError, Global};
 use toml_parser::text::{first, skip_blank};
@@ -22,6 +22,10 @@ pub struct FoundForm {
 fn first_found(alloc: Global, document: &str) -> Result<Option<(&str, NewForm)>, AllocError>
     ensures { IfOk result (λ o. option_map (λ f. f.1) o ≡ first_form document.now) }
 {
+    // Most documents have no sign of a form, and their tokens are not read.
+    if !may_have_form(document) {
+        return Ok(None);
+    }
     let mut brackets = Vec::new(alloc);
     let mut before = b'\n';
     let mut rest = skip_blank(skip_mark(document), true);

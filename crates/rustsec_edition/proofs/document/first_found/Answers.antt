@@ -1,8 +1,14 @@
 use Rattle.std.proofs.Common.{◌≡◌, ◌∙◌, ◌==◌, ◌+◌, ◌-◌, ap, arith, false, length, rules, suc, sym, true}
 use Rattle.std.proofs.lemmas.Grind.{common_steps}
 use Rattle.rustsec_edition.proofs.Forms.{no_more, no_room, none_first, one_more, some_first}
-use Rattle.rustsec_edition.specs.Forms.{form_at}
+use Rattle.rustsec_edition.specs.Forms.{form_at, has_sign}
+use Rattle.rustsec_edition.proofs.Signs.{none_without_sign}
 use Rattle.rustsec_edition.proofs.document.first_found.Goals as goal
+
+pub returns-then-not-may_have_form : goal.returns-then-not-may_have_form
+returns-then-not-may_have_form c =
+    let clean : has_sign 0 c.args.document.now ≡ false = cc in
+    sym (none_without_sign c.args.document.now clean)
 
 pub returns-then-is_empty : goal.returns-then-is_empty
 returns-then-is_empty c =
