@@ -2,7 +2,7 @@
 use Rattle.std.specs.Prelude.{ℕ, List, [], ◌∷◌, ◌++◌, map, codes}
 use Rattle.semver.specs.Identifiers.{parts_text}
 use Rattle.semver.specs.Parse.{Held}
-use Rattle.serde_json.specs.Data.{Data, Members, boolean, no_members, number, object, put, string, unsigned}
+use Rattle.serde_json.specs.Data.{Data, Members, boolean, no_members, number, object, string, unsigned}
 use Rattle.rustsec_versions.specs.Lists.{Lists}
 use Rattle.rustsec_versions.specs.RequirementText.{requirement_text}
 use Rattle.rustsec_lock.specs.Cvss.{cvss_text}
@@ -22,6 +22,7 @@ use Rattle.rustsec_texts.specs.declared.warning_kind.WarningKind.{WarningKind}
 use Rattle.rustsec_advisory.specs.Affected.{Function}
 use Rattle.rustsec_advisory.specs.declared.affected.Affected.{Affected}
 use Rattle.rustsec_advisory.specs.declared.metadata.Metadata.{Metadata}
+use Rattle.rustsec_json.specs.Codecs.{Row, with_rows}
 use Rattle.rustsec_json.specs.Trees.{list_tree, optional_tree}
 use Rattle.rustsec_query.specs.declared.vulnerability.Vulnerability.{Vulnerability}
 use Rattle.rustsec_report.specs.declared.info.LockfileInfo.{LockfileInfo}
@@ -30,14 +31,13 @@ use Rattle.rustsec_report.specs.declared.report.Report.{Report}
 use Rattle.rustsec_report.specs.declared.settings.Settings.{Settings}
 use Rattle.rustsec_report.specs.declared.warning.Warning.{Warning}
 
--- a key and its tree
+-- a key and its tree: a row, as in the codecs of objects
 abbrev pub Entry : Type 0
-Entry = List ℕ × Data
+Entry = Row
 
--- members with more keys set, one after another
+-- members with more rows, one after another
 unfoldable pub with_members : Members → List Entry → Members
-with_members ms [] = ms
-with_members ms (e ∷ es) = with_members (put e.0 e.1 ms) es
+with_members ms es = with_rows ms es
 
 -- the object of these keys
 abbrev pub object_of : List Entry → Data
