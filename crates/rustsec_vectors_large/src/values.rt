@@ -50,7 +50,7 @@ fn address_is_whole(alloc: Global) -> Result<bool, Fail> {
     let text = format!(in alloc; "RUSTSEC-2001-{zeros}1")?;
     let id = Id::from_str(alloc, &text)?;
     let url = id.url(alloc)?.ok_or("no address")?;
-    let wanted = format!(in alloc; "https://rustsec.org/advisories/{text}.html")?;
+    let wanted = format!(in alloc; "https://rustsec.org/advisories/{text}")?;
     Ok(url == wanted)
 }
 
