@@ -1,6 +1,6 @@
 -- The lint errors that a linter finds in an advisory: for each key of its document, in the order of the keys' bytes,
 -- the rows for the key, its value and the advisory.
-use Rattle.std.specs.Prelude.{ℕ, ◌++◌, Bool, true, false, not, ◌&&◌, List, [], ◌∷◌, Option, Some, None, codes, flat_map, is_some, map, nat_eq, if◌then◌else◌, ◌==◌}
+use Rattle.std.specs.Prelude.{ℕ, ◌++◌, Bool, true, false, not, ◌&&◌, ◌||◌, List, [], ◌∷◌, Option, Some, None, codes, flat_map, is_some, map, nat_eq, if◌then◌else◌, ◌==◌}
 use Rattle.std.specs.Cmp.Lexicographic.{pointwise}
 use Rattle.std.specs.List.{list_any, starts_with}
 use Rattle.std.specs.Map.{keys_of}
@@ -97,6 +97,11 @@ year_row m printed =
 
 abbrev pub id_rows : Option Bool → Metadata → List ℕ → List LintError
 id_rows draft m printed = draft_row draft m printed ++ (kind_row m printed ++ year_row m printed)
+
+-- whether the ID has a row
+abbrev pub has_bad_id : Option Bool → Metadata → Bool
+has_bad_id draft m =
+    differs draft (is_placeholder m.id.text) || (is_other_id m.id.kind || (shares_year m.id.kind && years_differ m.id.year (day_of m.date)))
 
 -- whether a category is not one of the table
 abbrev pub is_other_category : Category → Bool

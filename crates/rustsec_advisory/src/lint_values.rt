@@ -5,7 +5,7 @@ ghost use Rattle.std.specs.Map.{keys_of};
 ghost use Rattle.toml.specs.Text.{IsValueText};
 ghost use Rattle.toml.specs.View.{view};
 ghost use Rattle.toml_writer.specs.Text.{string_text};
-ghost use Rattle.rustsec_advisory.specs.LintErrors.{begins_with, category_row, crate_name_of, differs, draft_row, function_row, id_rows, informational_row, is_other_category, is_other_license, kind_row, license_row, of_string, paths_in, shares_year, url_row, year_row, years_differ};
+ghost use Rattle.rustsec_advisory.specs.LintErrors.{begins_with, category_row, crate_name_of, differs, draft_row, function_row, has_bad_id, id_rows, informational_row, is_other_category, is_other_license, kind_row, license_row, of_string, paths_in, shares_year, url_row, year_row, years_differ};
 ghost use Rattle.rustsec_texts.specs.Dates.{day_of};
 ghost use Rattle.rustsec_error.specs.Failure.{IsMemory};
 
@@ -41,6 +41,15 @@ fn names_another_year(metadata: &Metadata) -> bool
             != metadata.date.year(),
         _ => false,
     }
+}
+
+/// Returns whether the ID has a lint error.
+fn has_bad_id(draft: Option<bool>, metadata: &Metadata) -> bool
+    ensures { result ≡ has_bad_id draft metadata.now }
+{
+    differs(draft, metadata.id.is_placeholder())
+        || metadata.id.is_other()
+        || names_another_year(metadata)
 }
 
 /// Appends the lint error for an ID that disagrees with the draft flag, if so.
@@ -197,7 +206,9 @@ pub(crate) fn lint_url(alloc: Global, errors: &mut Items<Error>, value: &Value) 
     let Some(text) = value.as_str() else {
         return Ok(());
     };
-    let test = !text.starts_with("https://");
+    if text.starts_with("https://") {
+        return Ok(());
+    }
     let printed = printed(alloc, value)?;
     let bad = BadValue {
         section: "advisory",
@@ -205,7 +216,7 @@ pub(crate) fn lint_url(alloc: Global, errors: &mut Items<Error>, value: &Value) 
         value: &printed,
         message: "URL must start with https://",
     };
-    bad.add_if(alloc, errors, test)
+    bad.add_if(alloc, errors, true)
 }
 
 /// Returns whether a license is not one of the table.
@@ -248,6 +259,10 @@ pub(crate) fn lint_id_value(
     if value.as_str().is_none() {
         return Ok(());
     }
+    // Most IDs have no lint error, and are not printed.
+    if !has_bad_id(draft, metadata) {
+        return Ok(());
+    }
     let printed = printed(alloc, value)?;
     lint_id(alloc, errors, draft, metadata, &printed)
 }
@@ -280,7 +295,9 @@ fn lint_function(
     ensures ok { OnOk result (errors.new ≡ errors.old ++ function_row name.now path.now) }
     ensures err { IfErr result IsMemory }
 {
-    let test = !begins_with(name, path);
+    if begins_with(name, path) {
+        return Ok(());
+    }
     let printed = path.to_string(alloc)?;
     let bad = BadValue {
         section: "affected",
@@ -288,7 +305,7 @@ fn lint_function(
         value: &printed,
         message: "function path must start with crate name",
     };
-    bad.add_if(alloc, errors, test)
+    bad.add_if(alloc, errors, true)
 }
 
 /// Appends the lint errors for some functions of a crate.

@@ -1,3 +1,4 @@
 pub mod Forms
-pub mod Signs
+pub mod Clean
+pub mod Closing
 pub mod Suffixes

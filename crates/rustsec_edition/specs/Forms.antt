@@ -95,17 +95,6 @@ first_from (suc n) brackets before text =
 abbrev pub first_form : List ℕ → Option NewForm
 first_form document = first_from (length document) [] line_feed (skip_blank (skip_mark document))
 
--- ---- documents without a form
-
--- whether a byte after another one is a sign of a form: a left brace, a backslash, or a colon after a digit
-abbrev pub is_sign : ℕ → ℕ → Bool
-is_sign before b = (b == left_brace || b == backslash) || (b == colon && is_digit before 10)
-
--- whether a text that comes after this byte has such a sign. Each form has one
-unfoldable pub has_sign : ℕ → List ℕ → Bool
-has_sign before [] = false
-has_sign before (b ∷ bs) = if is_sign before b then true else has_sign b bs
-
 -- ---- words
 
 -- the words for a form

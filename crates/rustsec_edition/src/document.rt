@@ -4,10 +4,11 @@ ghost use Rattle.std.specs.Prelude.{◌≡◌, IfOk, option_map};
 ghost use Rattle.rustsec_edition.specs.Forms.{first_form};
 
 use crate::form::NewForm;
-use crate::token::{form_at, last, may_have_form, track};
-use rustsec_places::{Place, after_token, skip_mark, up_to};
+use crate::signs::may_have_form;
+use crate::tokens::Tokens;
+use rustsec_places::{Place, skip_mark};
 use std::alloc::{AllocError, Global};
-use toml_parser::text::{first, skip_blank};
+use toml_parser::text::skip_blank;
 
 /// A form of TOML 1.1 in a document.
 #[derive(Clone, Copy, Debug)]
@@ -22,25 +23,23 @@ pub struct FoundForm {
 fn first_found(alloc: Global, document: &str) -> Result<Option<(&str, NewForm)>, AllocError>
     ensures { IfOk result (λ o. option_map (λ f. f.1) o ≡ first_form document.now) }
 {
-    // Most documents have no sign of a form, and their tokens are not read.
-    if !may_have_form(document) {
+    // Most documents have no sign of a form, and few of their tokens are read.
+    if !may_have_form(alloc, document)? {
         return Ok(None);
     }
-    let mut brackets = Vec::new(alloc);
-    let mut before = b'\n';
-    let mut rest = skip_blank(skip_mark(document), true);
+    let mut tokens = Tokens {
+        brackets: Vec::new(alloc),
+        before: b'\n',
+        rest: skip_blank(skip_mark(document), true),
+    };
     'tokens: for _at in 0..document.len() {
+        let rest = tokens.rest;
         if rest.is_empty() {
             return Ok(None);
         }
-        let after = after_token(alloc, rest)?;
-        let next = skip_blank(after, true);
-        if let Some(form) = form_at(&brackets, before, rest, after, next) {
+        if let Some(form) = tokens.step(alloc)? {
             return Ok(Some((rest, form)));
         }
-        track(&mut brackets, first(rest))?;
-        before = last(up_to(next, rest));
-        rest = next;
     }
     Ok(None)
 }

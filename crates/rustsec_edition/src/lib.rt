@@ -3,9 +3,11 @@
 
 mod document;
 mod form;
+mod signs;
 #[cfg(test)]
 mod tests;
 mod token;
+mod tokens;
 
 pub use crate::document::{FoundForm, first_form};
 pub use crate::form::NewForm;

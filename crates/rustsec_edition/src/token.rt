@@ -1,36 +1,13 @@
 //! Which form of TOML 1.1 a token shows.
 
 ghost use Rattle.std.specs.Prelude.{◌≡◌, ◌<◌, ◌^◌, OnOk, false};
-ghost use Rattle.rustsec_edition.specs.Forms.{after_bracket, form_at, goes_on_after, has_line_feed_after, has_new_escape, has_sign, has_two_digits, is_in_table, is_new_letter, is_new_string, is_short_time, is_sign, is_table_end, is_table_split, last};
+ghost use Rattle.rustsec_edition.specs.Forms.{after_bracket, form_at, goes_on_after, has_line_feed_after, has_new_escape, has_two_digits, is_in_table, is_new_letter, is_new_string, is_short_time, is_table_end, is_table_split, last};
 ghost use Rattle.rustsec_places.specs.Places.{after_token, next_token};
 
 use crate::form::NewForm;
 use rustsec_places::up_to;
 use std::alloc::AllocError;
 use toml_parser::text::{byte_at, first};
-
-/// Returns whether a byte after another one is a sign of a form of TOML 1.1: a left brace, a backslash, or a colon after a
-/// digit.
-fn is_sign(before: u8, byte: u8) -> bool
-    ensures { result ≡ is_sign before byte }
-{
-    byte == b'{' || byte == b'\\' || byte == b':' && before.is_ascii_digit()
-}
-
-/// Returns whether a document has a sign of a form of TOML 1.1. One without has no such form.
-#[tactic(auto, using(crate::proofs::Signs::sign_more), unfolding(crate::specs::Forms::has_sign))]
-pub(crate) fn may_have_form(document: &str) -> bool
-    ensures { result ≡ has_sign 0 document.now }
-{
-    let mut before = 0;
-    for byte in document.as_bytes() {
-        if is_sign(before, *byte) {
-            return true;
-        }
-        before = *byte;
-    }
-    false
-}
 
 /// Returns whether a byte is the letter of an escape of TOML 1.1.
 fn is_new_letter(byte: u8) -> bool
