@@ -12,7 +12,7 @@ CVSS_V4 = (
     r"(/[A-Z]{1,3}:[A-Za-z]+)*"
 )
 SCORES = {"CVSS_V2": CVSS_V2, "CVSS_V3": CVSS_V3, "CVSS_V4": CVSS_V4}
-# `DATABASE-ENTRY`, as the schema has it.
+# `DATABASE-ENTRY`, as the schema's page has it. Its file asks for a prefix in `id` alone, and allows any text in lists of IDs.
 ID = r"[A-Za-z][A-Za-z0-9]*-.+"
 TIME = r"\d{4}-\d\d-\d\dT\d\d:\d\d:\d\d(\.\d+)?Z"
 # RFC 3986: the characters of a URI, brackets in the host alone.

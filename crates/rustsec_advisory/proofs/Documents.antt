@@ -2,7 +2,7 @@
 use Rattle.std.proofs.Common.{◌≡◌, ◌∙◌, ℕ, List, Option, Some, None, codes, subst, sym}
 use Rattle.toml.specs.Data.{Data, Members, as_table, get_member}
 use Rattle.toml.specs.Parse.{parse_document}
-use Rattle.rustsec_versions.specs.Lists.{Lists}
+use Rattle.rustsec_versions.specs.acceptance.Lists.{Lists}
 use Rattle.rustsec_texts.specs.Parts.{FileParts, parts_of}
 use Rattle.rustsec_advisory.specs.Advisory.{AreVersions, IsAdvisory, IsAffectedAt, IsOfDocument, document_text}
 use Rattle.rustsec_advisory.specs.Affected.{AreFunctions, AreFunctionsAt, Function}

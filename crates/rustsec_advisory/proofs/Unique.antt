@@ -12,7 +12,7 @@ use Rattle.std.proofs.lemmas.List.Sorted.{Contains-permutation, IsPermutation-sy
 use Rattle.std.proofs.lemmas.Option.{same_Some}
 use Rattle.toml.specs.Data.{Data, Members}
 use Rattle.toml.specs.Parse.{parse_document}
-use Rattle.rustsec_versions.specs.Lists.{Lists}
+use Rattle.rustsec_versions.specs.acceptance.Lists.{Lists}
 use Rattle.rustsec_texts.specs.Parts.{FileParts}
 use Rattle.rustsec_texts.specs.Paths.{path_order, path_total}
 use Rattle.rustsec_advisory.specs.Advisory.{AreVersions, IsAdvisory, IsAdvisoryWith, IsAffectedAt, IsOfDocument, document_text}

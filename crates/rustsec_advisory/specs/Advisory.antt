@@ -3,7 +3,7 @@ use Rattle.std.specs.Prelude.{◌≡◌, ◌++◌, ℕ, List, [], Option, Some, 
 use Rattle.std.specs.List.{starts_with}
 use Rattle.toml.specs.Data.{Data, Members, as_table, get_member}
 use Rattle.toml.specs.Parse.{parse_document}
-use Rattle.rustsec_versions.specs.Lists.{Lists, accepted}
+use Rattle.rustsec_versions.specs.acceptance.Lists.{Lists, accepted}
 use Rattle.rustsec_texts.specs.Parts.{FileParts, parts_of}
 use Rattle.rustsec_advisory.specs.Affected.{IsAffected}
 use Rattle.rustsec_advisory.specs.declared.advisory.Advisory.{Advisory}

@@ -193,12 +193,17 @@ fn parts_in(alloc: Global, text: &str) -> Result<Parts<'_>>
     }
 }
 
-/// Parses an advisory, and returns the document of its front matter too.
-pub(crate) fn read(alloc: Global, text: &str) -> Result<(Advisory, Table)>
+/// Parses the advisory of a text with these parts, and returns the document of its front matter too.
+pub(crate) fn read_parts(alloc: Global, text: &str, parts: Parts<'_>) -> Result<(Advisory, Table)>
+    requires { parts_of text.now ≡ Some (record {
+      front_matter = parts.front_matter.now;
+      markdown = parts.markdown.now;
+      title = parts.title.now;
+      description = parts.description.now;
+    }) }
     ensures ok { IfOk result (λ r. IsAdvisoryWith text.now (table_view r.1) r.0) }
     ensures err { IfErr result (IsRefusal ErrorKind.Parse ((a : given.Advisory) → ¬ IsAdvisory text.now a)) }
 {
-    let parts = parts_in(alloc, text)?;
     let line = first_line(text);
     let document = document_of(alloc, parts.front_matter, line)?;
     let whole = Section {
@@ -208,6 +213,15 @@ pub(crate) fn read(alloc: Global, text: &str) -> Result<(Advisory, Table)>
     };
     let advisory = of_document(alloc, whole, parts.title, parts.description)?;
     Ok((advisory, document))
+}
+
+/// Parses an advisory, and returns the document of its front matter too.
+pub(crate) fn read(alloc: Global, text: &str) -> Result<(Advisory, Table)>
+    ensures ok { IfOk result (λ r. IsAdvisoryWith text.now (table_view r.1) r.0) }
+    ensures err { IfErr result (IsRefusal ErrorKind.Parse ((a : given.Advisory) → ¬ IsAdvisory text.now a)) }
+{
+    let parts = parts_in(alloc, text)?;
+    read_parts(alloc, text, parts)
 }
 
 impl Advisory {

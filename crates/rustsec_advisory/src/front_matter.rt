@@ -15,7 +15,7 @@ ghost use Rattle.rustsec_advisory.specs.declared.metadata.Terms as terms;
 ghost use Rattle.rustsec_texts.specs.Paths.{path_of};
 ghost use Rattle.rustsec_toml.specs.Fields.{defaulted};
 ghost use Rattle.rustsec_error.specs.Failure.{IsMemory, IsOfKind, IsRefusal, out_of_memory};
-ghost use Rattle.rustsec_versions.specs.Lists.{Lists};
+ghost use Rattle.rustsec_versions.specs.acceptance.Lists.{Lists};
 
 use crate::affected::Affected;
 use crate::metadata::{Kinds, Metadata, Origin, Subject, Terms};

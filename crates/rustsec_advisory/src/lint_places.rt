@@ -1,5 +1,8 @@
 //! Where the keys of lint errors are in the file of an advisory, for messages.
 
+ghost use Rattle.std.specs.Prelude.{◌≢◌, None, OnErr};
+ghost use Rattle.rustsec_texts.specs.Parts.{parts_of};
+
 use crate::advisory::{first_line, front_place, header_keys};
 use crate::linter::{Error, ErrorKind};
 use rustsec_texts::Parts;
@@ -56,7 +59,10 @@ pub fn lint_error_line(
     alloc: Global,
     text: &str,
     error: &Error,
-) -> Result<Option<usize>, AllocError> {
+) -> Result<Option<usize>, AllocError>
+    // A text without a front matter takes no memory.
+    ensures none { OnErr result (parts_of text.now ≢ None) }
+{
     let Ok(parts) = Parts::parse(alloc, text) else {
         return Ok(None);
     };

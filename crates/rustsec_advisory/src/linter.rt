@@ -1,6 +1,6 @@
 //! The linter of advisories: it finds lint errors in advisories that the reader accepts.
 
-ghost use Rattle.std.specs.Prelude.{◌≡◌, ◌≢◌, ◌⊎◌, ℕ, List, IfErr, IfOk, OnErr, Some, false, true};
+ghost use Rattle.std.specs.Prelude.{◌≡◌, ◌≢◌, ◌⊎◌, ℕ, List, IfErr, IfOk, None, OnErr, Some, false, true};
 ghost use Rattle.std.specs.Fmt.{DisplaysOnOk};
 ghost use Rattle.std.specs.Option.{option_copied};
 ghost use Rattle.toml.specs.Data.{Members};
@@ -12,6 +12,7 @@ ghost use Rattle.rustsec_files.specs.Paths.{is_draft, is_markdown};
 ghost use Rattle.rustsec_advisory.specs.LintErrors.{LintError, lint_error_text, kind_text, message_text, section_text};
 ghost use Rattle.rustsec_advisory.specs.Lints.{Lints};
 ghost use Rattle.rustsec_folders.specs.Allowed.{AllowSame, real_folders};
+ghost use Rattle.rustsec_texts.specs.Parts.{parts_of};
 ghost use Rattle.rustsec_advisory.specs.declared.advisory.Advisory as given;
 ghost use Rattle.rustsec_advisory.specs.declared.linter.ErrorKind.TheVariants as lint_kind;
 ghost use Rattle.rustsec_error.specs.Failure.{IsMemory, IsOfKind, IsRefusal};
@@ -22,6 +23,7 @@ use crate::lint_rules;
 use rustsec_error::{Result, refused_file, refused_text};
 use rustsec_files::path;
 use rustsec_folders::{Folders, RealFolders};
+use rustsec_texts::Parts;
 use rustsec_values::{ExactClone, ExactEq, Items, Text};
 use std::alloc::{AllocError, Global};
 use std::fmt;
@@ -217,6 +219,9 @@ impl Error {
     pub fn clone(&self, _alloc: Global) -> Result<Error>
         ensures ok { IfOk result (λ e. e ≡ self.now) }
         ensures err { IfErr result IsMemory }
+
+        // `Malformed` without a section and without a message takes no memory.
+        ensures none { OnErr result ((self.now.kind ≢ lint_kind.Malformed) ⊎ (self.now.section ≢ None) ⊎ (self.now.message ≢ None)) }
     {
         let copy = Clone::clone(self)?;
         Ok(copy)
@@ -233,13 +238,31 @@ fn text_of(text: &Option<Text>) -> Option<&str>
     }
 }
 
+/// Copies a text that may be missing. A missing one takes no memory.
+fn copy_of(text: &Option<Text>) -> std::result::Result<Option<Text>, AllocError>
+    ensures ok { IfOk result (λ t. t ≡ text.now) }
+    ensures none { OnErr result (text.now ≢ None) }
+{
+    match text {
+        Some(text) => {
+            let copy = Clone::clone(text)?;
+            Ok(Some(copy))
+        }
+        None => Ok(None),
+    }
+}
+
 impl Clone for Error {
     ghost is_clone = { λ a b. b ≡ a };
 
-    fn clone(&self) -> std::result::Result<Error, AllocError> {
+    // `Malformed` without a section and without a message takes no memory.
+    fn clone(&self) -> std::result::Result<Error, AllocError>
+        ensures ok { IfOk result (λ e. e ≡ self.now) }
+        ensures none { OnErr result ((self.now.kind ≢ lint_kind.Malformed) ⊎ (self.now.section ≢ None) ⊎ (self.now.message ≢ None)) }
+    {
         let kind = Clone::clone(&self.kind)?;
-        let section = Clone::clone(&self.section)?;
-        let message = Clone::clone(&self.message)?;
+        let section = copy_of(&self.section)?;
+        let message = copy_of(&self.message)?;
         Ok(Error {
             kind,
             section,
@@ -325,6 +348,28 @@ impl Linter {
         let (advisory, document) = advisory::read(alloc, text)?;
         let errors = lint_rules::of_document(alloc, draft, &advisory, &document)?;
         Ok(Linter { advisory, errors })
+    }
+
+    /// Lints a text with these parts, as `lint_string`, with the same errors.
+    pub fn lint_parts(
+        alloc: Global,
+        text: &str,
+        parts: Parts<'_>,
+        draft: Option<bool>,
+    ) -> Result<Linter>
+        requires { parts_of text.now ≡ Some (record {
+          front_matter = parts.front_matter.now;
+          markdown = parts.markdown.now;
+          title = parts.title.now;
+          description = parts.description.now;
+        }) }
+        ensures ok { IfOk result (λ l. Lints text.now draft l.advisory l.errors) }
+        ensures err { IfErr result (IsRefusal failure.Parse ((a : given.Advisory) → ¬ IsAdvisory text.now a)) }
+    {
+        let (advisory, document) = advisory::read_parts(alloc, text, parts)?;
+        let errors = lint_rules::of_document(alloc, draft, &advisory, &document)?;
+        let linter = Linter { advisory, errors };
+        Ok(linter)
     }
 
     /// Returns the text of a Markdown file at a path of any folders.

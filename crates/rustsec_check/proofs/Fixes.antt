@@ -5,14 +5,14 @@ use Rattle.std.proofs.lemmas.Bool.{cases_Bool}
 use Rattle.std.proofs.lemmas.List.Folds.{list_any-append}
 use Rattle.std.proofs.lemmas.List.Sorted.{Contains-permutation, IsPermutation-sym}
 use Rattle.semver.specs.Parse.{Parts}
-use Rattle.rustsec_versions.specs.AcceptedRanges.{AreMergedRanges}
-use Rattle.rustsec_versions.specs.Interval.{Endpoint, Interval, exclusive, inclusive, unbounded}
-use Rattle.rustsec_versions.specs.Lists.{Lists, affected, intervals}
-use Rattle.rustsec_versions.specs.Precedence.{IsVersion}
-use Rattle.rustsec_versions.specs.Ranges.{Range, in_ranges, in_range, lower_cut, lower_cuts}
-use Rattle.rustsec_versions.specs.Requirement.{interval_of}
-use Rattle.rustsec_versions.proofs.LeastAbove.{successor-valid}
-use Rattle.rustsec_versions.proofs.Sound.{IsSoundEnd, interval_of-sound}
+use Rattle.rustsec_versions.specs.ranges.AcceptedRanges.{AreMergedRanges}
+use Rattle.rustsec_versions.specs.interval.Interval.{Endpoint, Interval, exclusive, inclusive, unbounded}
+use Rattle.rustsec_versions.specs.acceptance.Lists.{Lists, affected, intervals}
+use Rattle.rustsec_versions.specs.order.Precedence.{IsVersion}
+use Rattle.rustsec_versions.specs.ranges.Ranges.{Range, in_ranges, in_range, lower_cut, lower_cuts}
+use Rattle.rustsec_versions.specs.requirement.Requirement.{interval_of}
+use Rattle.rustsec_versions.proofs.lemmas.order.LeastAbove.{successor-valid}
+use Rattle.rustsec_versions.proofs.lemmas.requirement.Sound.{IsSoundEnd, interval_of-sound}
 use Rattle.rustsec_check.specs.LeastFree.{AreRangesOfAll, HaveValidFixes, IsValidFix, is_affected}
 
 -- to be one of the elements, by recursion

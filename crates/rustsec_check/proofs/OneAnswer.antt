@@ -7,9 +7,9 @@ use Rattle.std.specs.declared.cmp.Ordering.{Ordering}
 use Rattle.std.specs.declared.cmp.Ordering.TheVariants.{Equal, Greater, Less}
 use Rattle.semver.specs.OrderLaws.{pre-anti}
 use Rattle.semver.specs.Parse.{Parts}
-use Rattle.rustsec_versions.specs.Lists.{Lists}
-use Rattle.rustsec_versions.specs.Precedence.{is_at_most, precedence}
-use Rattle.rustsec_versions.proofs.PrecedenceLaws.{at_most-not_below}
+use Rattle.rustsec_versions.specs.acceptance.Lists.{Lists}
+use Rattle.rustsec_versions.specs.order.Precedence.{is_at_most, precedence}
+use Rattle.rustsec_versions.proofs.lemmas.order.PrecedenceLaws.{at_most-not_below}
 use Rattle.rustsec_check.specs.LeastFree.{IsLeastFree, is_affected}
 
 tied : (o : Ordering) → is_le o ≡ true → is_lt o ≡ false → o ≡ Equal

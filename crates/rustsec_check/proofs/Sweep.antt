@@ -3,10 +3,10 @@ use Rattle.std.proofs.Common.{◌≡◌, ◌∙◌, ◌⊎◌, ◌+◌, ◌<◌,
 use Rattle.std.specs.List.{find, list_any}
 use Rattle.std.proofs.lemmas.Bool.{cases_Bool}
 use Rattle.semver.specs.Parse.{Parts}
-use Rattle.rustsec_versions.specs.Lists.{Lists}
-use Rattle.rustsec_versions.specs.Precedence.{IsVersion, is_at_most, is_below}
-use Rattle.rustsec_versions.specs.Ranges.{Range, in_range, in_ranges, is_from, is_till}
-use Rattle.rustsec_versions.proofs.PrecedenceLaws.{at_most-below, at_most-not_below, at_most-trans, below-weak, not_below}
+use Rattle.rustsec_versions.specs.acceptance.Lists.{Lists}
+use Rattle.rustsec_versions.specs.order.Precedence.{IsVersion, is_at_most, is_below}
+use Rattle.rustsec_versions.specs.ranges.Ranges.{Range, in_range, in_ranges, is_from, is_till}
+use Rattle.rustsec_versions.proofs.lemmas.order.PrecedenceLaws.{at_most-below, at_most-not_below, at_most-trans, below-weak, not_below}
 use Rattle.rustsec_check.specs.LeastFree.{AreRangesOfAll, HaveValidFixes, IsLeastFree, IsValidFix, holding, is_affected}
 
 at_most-refl : (v : Parts) → is_at_most v v ≡ true

@@ -3,8 +3,8 @@
 use Rattle.std.specs.Prelude.{Bool, false, [], ◌∷◌, Option, Some, None}
 use Rattle.semver.specs.Parse.{Held, Parts}
 use Rattle.semver.specs.declared.Op.TheVariants as op
-use Rattle.rustsec_versions.specs.Interval.{Interval, holds}
-use Rattle.rustsec_versions.specs.Requirement.{interval_of}
+use Rattle.rustsec_versions.specs.interval.Interval.{Interval, holds}
+use Rattle.rustsec_versions.specs.requirement.Requirement.{interval_of}
 
 -- the comparator `^MAJOR.MINOR.PATCH-PRE` of a version; build metadata is left out
 abbrev pub caret_of : Parts → Held

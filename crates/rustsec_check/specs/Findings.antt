@@ -5,7 +5,7 @@ use Rattle.std.specs.List.{All, list_any}
 use Rattle.std.specs.Option.{option_eq}
 use denote.Enum.Bare.{sameb}
 use Rattle.rustsec_versions.specs.Equality.{version_eq}
-use Rattle.rustsec_versions.specs.Precedence.{IsVersion}
+use Rattle.rustsec_versions.specs.order.Precedence.{IsVersion}
 use Rattle.rustsec_lock.specs.Package.{PackageValue}
 use Rattle.rustsec_lock.specs.SourceOrder.{source_eq}
 use Rattle.rustsec_graph.specs.Edges.{dependents}

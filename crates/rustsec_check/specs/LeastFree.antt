@@ -2,9 +2,9 @@
 use Rattle.std.specs.Prelude.{◌≡◌, Bool, true, false, List, [], ◌∷◌, Option, Some, None}
 use Rattle.std.specs.List.{find, list_any}
 use Rattle.semver.specs.Parse.{Parts}
-use Rattle.rustsec_versions.specs.Lists.{Lists, affected}
-use Rattle.rustsec_versions.specs.Precedence.{IsVersion, is_at_most}
-use Rattle.rustsec_versions.specs.Ranges.{Range, in_range, in_ranges}
+use Rattle.rustsec_versions.specs.acceptance.Lists.{Lists, affected}
+use Rattle.rustsec_versions.specs.order.Precedence.{IsVersion, is_at_most}
+use Rattle.rustsec_versions.specs.ranges.Ranges.{Range, in_range, in_ranges}
 
 -- whether some of the lists leave a version affected
 abbrev pub is_affected : List Lists → Parts → Bool

@@ -2,7 +2,7 @@
 use Rattle.std.specs.Prelude.{◌≡◌, ◌&&◌, not, Bool, false, List, ◌∷◌, Option, None, Some, map}
 use Rattle.std.specs.List.{filter}
 use Rattle.semver.specs.Parse.{Parts}
-use Rattle.rustsec_versions.specs.Lists.{Lists, affected}
+use Rattle.rustsec_versions.specs.acceptance.Lists.{Lists, affected}
 use Rattle.rustsec_lock.specs.Package.{PackageValue}
 use Rattle.rustsec_texts.specs.Ids.{IdValue}
 use Rattle.rustsec_advisory.specs.declared.advisory.Advisory.{Advisory}

@@ -3,7 +3,7 @@
 ghost use Rattle.std.specs.Prelude.{◌≡◌, IfErr, IfOk, map, option_map};
 ghost use Rattle.semver.specs.Identifiers.{parts_of};
 ghost use Rattle.rustsec_error.specs.Failure.{IsMemory};
-ghost use Rattle.rustsec_versions.specs.Precedence.{IsVersion};
+ghost use Rattle.rustsec_versions.specs.order.Precedence.{IsVersion};
 ghost use Rattle.rustsec_report.specs.Report.{is_among};
 ghost use Rattle.rustsec_check.specs.LeastFree.{IsLeastFree};
 ghost use Rattle.rustsec_check.specs.Updates.{IsUpdateBy, about, affects, counting, in_force, lists_with, movers};

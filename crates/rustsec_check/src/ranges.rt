@@ -4,8 +4,8 @@ ghost use Rattle.std.specs.Prelude.{◌≡◌, ◌++◌, ◌∷◌, [], IfErr, I
 ghost use Rattle.std.specs.Option.{option_copied};
 ghost use Rattle.semver.specs.Identifiers.{parts_of};
 ghost use Rattle.rustsec_error.specs.Failure.{IsMemory};
-ghost use Rattle.rustsec_versions.specs.Lists.{Lists};
-ghost use Rattle.rustsec_versions.specs.Ranges.{in_range, is_from, is_till};
+ghost use Rattle.rustsec_versions.specs.acceptance.Lists.{Lists};
+ghost use Rattle.rustsec_versions.specs.ranges.Ranges.{in_range, is_from, is_till};
 ghost use Rattle.rustsec_check.specs.LeastFree.{AreRangesOfAll, holding};
 
 use rustsec_error::Result;

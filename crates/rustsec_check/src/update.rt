@@ -4,8 +4,8 @@ ghost use Rattle.std.specs.Prelude.{◌≡◌, IfErr, IfOk, List, Option, map, o
 ghost use Rattle.semver.specs.Identifiers.{parts_of};
 ghost use Rattle.semver.specs.Parse.{Parts};
 ghost use Rattle.rustsec_error.specs.Failure.{IsMemory};
-ghost use Rattle.rustsec_versions.specs.Lists.{Lists};
-ghost use Rattle.rustsec_versions.specs.Precedence.{IsVersion};
+ghost use Rattle.rustsec_versions.specs.acceptance.Lists.{Lists};
+ghost use Rattle.rustsec_versions.specs.order.Precedence.{IsVersion};
 ghost use Rattle.rustsec_check.specs.LeastFree.{AreRangesOfAll, IsLeastFree};
 
 use crate::ranges::{all_ranges, holding};

@@ -9,7 +9,7 @@ use Rattle.serde_json.specs.View.{items_of}
 use Rattle.serde_json.specs.Written.{has_float, items_have_float, members_have_float}
 use Rattle.rustsec_json.specs.Trees.{list_tree, optional_tree, text_tree}
 use Rattle.rustsec_error.specs.declared.error.ErrorKind.{ErrorKind}
-use Rattle.rustsec_versions.specs.Lists.{Lists}
+use Rattle.rustsec_versions.specs.acceptance.Lists.{Lists}
 use Rattle.rustsec_lock.specs.Package.{PackageValue}
 use Rattle.rustsec_advisory.specs.declared.advisory.Advisory.{Advisory}
 use Rattle.rustsec_advisory.specs.declared.metadata.Metadata.{Metadata}

@@ -5,6 +5,7 @@ mod advisory_tree;
 mod block;
 mod blocks;
 mod database_tree;
+mod dated;
 mod finding_tree;
 mod ignored_tree;
 mod lines;
@@ -20,6 +21,7 @@ mod written;
 mod yanked_block;
 mod yanked_tree;
 
+pub use crate::dated::Dated;
 pub use crate::many::{many_tree, refused_tree};
 pub use crate::text::check_text;
 pub use crate::tree::check_tree;

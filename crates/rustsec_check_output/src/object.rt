@@ -3,7 +3,7 @@
 ghost use Rattle.std.specs.Prelude.{◌≡◌, [], ◌∷◌, IfOk, OnOk, map};
 ghost use Rattle.serde_json.specs.Data.{string};
 ghost use Rattle.serde_json.specs.View.{members_view, view};
-ghost use Rattle.rustsec_versions.specs.RequirementText.{requirement_text};
+ghost use Rattle.rustsec_versions.specs.requirement.RequirementText.{requirement_text};
 ghost use Rattle.rustsec_versions.specs.Views.{comparators_of};
 ghost use Rattle.rustsec_json.specs.Trees.{list_tree, text_tree};
 ghost use Rattle.rustsec_report.specs.Trees.{ids_tree, requirements_tree, versions_entries, versions_tree, with_members};

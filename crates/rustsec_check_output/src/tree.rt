@@ -69,7 +69,7 @@ fn put_looked_at(
     ensures { OnOk result (members_view members.new.entries
         ≡ with_members (members_view members.old.entries) (looked_at_entries written.now)) }
 {
-    let database = database_tree(alloc, written.database.iter().as_slice())?;
+    let database = database_tree(alloc, written.database)?;
     put_tree(alloc, members, "database", database)?;
     let lockfile = lockfile_tree(alloc, written.lockfile.packages.len())?;
     put_tree(alloc, members, "lockfile", lockfile)?;

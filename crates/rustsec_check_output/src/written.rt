@@ -1,7 +1,7 @@
 //! A check with what it is written with.
 
+use crate::dated::Dated;
 use rustsec_check::{Check, Yanked};
-use rustsec_database::Database;
 use rustsec_lock::Lockfile;
 use rustsec_policy::Ignored;
 use rustsec_values::Text;
@@ -11,7 +11,7 @@ use std::marker::Model;
 #[derive(Drop)]
 pub struct Written<'a, 'b> {
     /// The database that the check looked at.
-    pub database: &'a Database,
+    pub database: &'a Dated<'a>,
     /// The lockfile that the check looked at. Places of packages are places in it.
     pub lockfile: &'a Lockfile,
     /// The check.

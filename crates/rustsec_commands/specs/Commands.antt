@@ -1,14 +1,16 @@
 -- What each command writes.
-use Rattle.std.specs.Prelude.{◌≡◌, ◌≢◌, ℕ, Bool, false, true, List, Option, IfSome, None, map}
-use Rattle.std.specs.Io.KnownBytes.{Appends}
+use Rattle.std.specs.Prelude.{◌≡◌, ◌≢◌, ℕ, Bool, false, true, List, Option, IfErr, IfOk, IfSome, None, Result, map}
+use Rattle.std.specs.Io.KnownBytes.{Appends, Keeps}
 use Rattle.rustsec_folders.specs.Allowed.{Allowed}
-use Rattle.rustsec_commands.specs.Lint.{IsLintOutput}
-use Rattle.rustsec_commands.specs.Osv.{IsOsvOutput}
-use Rattle.rustsec_commands.specs.Output.{IsRangesOutput, Output, affected_output, usage}
-use Rattle.rustsec_commands.specs.Reports.{IsAuditOutput, IsReportOutput}
-use Rattle.rustsec_commands.specs.Words.{Command, affected, audit, command_of, lint, none, osv, ranges, report}
-use Rattle.rustsec_commands.specs.declared.words.Command as given
-use Rattle.rustsec_commands.specs.declared.words.Command.TheVariants as command
+use Rattle.rustsec_commands.specs.command.Lint.{IsLintOutput}
+use Rattle.rustsec_commands.specs.command.Osv.{IsOsvOutput}
+use Rattle.rustsec_commands.specs.Output.{IsOnlyRangesOutput, Output, affected_output, usage}
+use Rattle.rustsec_commands.specs.command.Reports.{IsAuditOutput, IsReportOutput}
+use Rattle.rustsec_commands.specs.args.Words.{Command, affected, audit, command_of, lint, none, osv, ranges, report}
+use Rattle.rustsec_commands.specs.declared.args.Command as given
+use Rattle.rustsec_commands.specs.declared.args.Command.TheVariants as command
+use Rattle.rustsec_commands.specs.declared.fault.Fault.{Fault}
+use Rattle.rustsec_commands.specs.declared.fault.Fault.TheVariants as fault
 
 -- a command, with the texts of its words
 abbrev pub command_view : given.Command → Command
@@ -19,10 +21,6 @@ command_view (command.Osv path modified) = osv path.now modified.now
 command_view (command.Report root lock) = report root.now lock.now
 command_view (command.Audit root lock options) = audit root.now lock.now (map (λ w. w.now) options.now)
 command_view (command.Unknown words) = none
-
--- the one output of `ranges` for an input
-abbrev pub IsOnlyRangesOutput : List ℕ → Output → Type 0
-IsOnlyRangesOutput input o = IsRangesOutput input o × ((other : Output) → IsRangesOutput input other → other ≡ o)
 
 -- an output of a command, over folders that allow these answers; the output of `affected` and `ranges` is specified only if the bytes of the input are known
 abbrev pub IsOutputOf : Allowed → Command → Option (List ℕ) → Output → Type 0
@@ -55,6 +53,13 @@ pub record Carries (allowed : Allowed) (words : List (List ℕ)) (input : Option
   pub is_output : IsOutputOf allowed (command_of words) input output
   pub status_is : status ≡ output.status
   pub text : Appends old new output.text
+
+-- what carrying out words gives, whatever comes of it: a status is that of an output of the words, which alone was written; an input that no command of the
+-- words reads has the same bytes left; and after another fault than a failed write nothing was written
+pub record CarriesOut (allowed : Allowed) (words : List (List ℕ)) (result : Result ℕ Fault) (input left old new : Option (List ℕ)) : Type 0 where
+  pub carries : IfOk result (λ s. Carries allowed words input s old new)
+  pub unread : words_read_input words ≡ false → left ≡ input
+  pub kept : IfErr result (λ e. e ≢ fault.Write → Keeps old new)
 
 -- words have one output at most, if the bytes of the input are known or the command does not read it
 abbrev pub HaveOneOutput : Allowed → List (List ℕ) → Option (List ℕ) → Type 0

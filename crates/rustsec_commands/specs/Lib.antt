@@ -1,12 +1,5 @@
-pub mod Line
-pub mod Asked
-pub mod Output
-pub mod Views
-pub mod Answer
-pub mod Words
-pub mod Lint
-pub mod Options
-pub mod Audit
-pub mod Reports
-pub mod Osv
 pub mod Commands
+pub mod Output
+pub mod args
+pub mod command
+pub mod input

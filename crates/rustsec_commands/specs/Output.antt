@@ -7,11 +7,11 @@ use Rattle.semver.specs.Identifiers.{parts_text}
 use Rattle.semver.specs.Parse.{Parts}
 use Rattle.rustsec_error.specs.Failure.{kind_text}
 use Rattle.rustsec_error.specs.declared.error.ErrorKind.{ErrorKind}
-use Rattle.rustsec_versions.specs.Lists.{Lists, accepted, affected}
-use Rattle.rustsec_versions.specs.Ranges.{Range}
-use Rattle.rustsec_versions.specs.AcceptedRanges.{AreMergedRanges}
-use Rattle.rustsec_commands.specs.Asked.{Asked, asked, first_malformed, says}
-use Rattle.rustsec_commands.specs.declared.asked.Question.TheVariants as question
+use Rattle.rustsec_versions.specs.acceptance.Lists.{Lists, accepted, affected}
+use Rattle.rustsec_versions.specs.ranges.Ranges.{Range}
+use Rattle.rustsec_versions.specs.ranges.AcceptedRanges.{AreMergedRanges}
+use Rattle.rustsec_commands.specs.input.Input.{Input, first_malformed, input_of, says}
+use Rattle.rustsec_commands.specs.declared.input.InputKind.TheVariants as input_kind
 
 -- a text and a status
 pub record Output : Type 0 where
@@ -37,16 +37,16 @@ abbrev pub verdict : Lists → Parts → List ℕ
 verdict ls v = parts_text v ++ (if affected ls v then codes " affected\n" else codes " not affected\n")
 
 -- a line for each version, in order
-abbrev pub verdicts : Asked → Output
+abbrev pub verdicts : Input → Output
 verdicts a = if accepted a.lists then record { text = flat_map (verdict a.lists) a.versions; status = 0 } else refused
 
-abbrev pub verdicts_or : Option ℕ → Asked → Output
+abbrev pub verdicts_or : Option ℕ → Input → Output
 verdicts_or (Some place) a = malformed place
 verdicts_or None a = verdicts a
 
 -- the output of `affected` for an input
 abbrev pub affected_output : List ℕ → Output
-affected_output input = verdicts_or (first_malformed (says question.Verdicts input)) (asked (says question.Verdicts input))
+affected_output input = verdicts_or (first_malformed (says input_kind.Verdicts input)) (input_of (says input_kind.Verdicts input))
 
 -- ---- ranges
 
@@ -70,7 +70,11 @@ AreRangeLinesOr None ls o = AreRangeLines ls o
 
 -- the output of `ranges` for an input
 abbrev pub IsRangesOutput : List ℕ → Output → Type 0
-IsRangesOutput input o = AreRangeLinesOr (first_malformed (says question.Ranges input)) ((asked (says question.Ranges input)).lists) o
+IsRangesOutput input o = AreRangeLinesOr (first_malformed (says input_kind.Ranges input)) ((input_of (says input_kind.Ranges input)).lists) o
+
+-- the one output of `ranges` for an input
+abbrev pub IsOnlyRangesOutput : List ℕ → Output → Type 0
+IsOnlyRangesOutput input o = IsRangesOutput input o × ((other : Output) → IsRangesOutput input other → other ≡ o)
 
 -- ---- trees
 

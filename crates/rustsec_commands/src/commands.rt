@@ -4,12 +4,13 @@ ghost use Rattle.rustsec_commands.specs.declared.fault.Fault.TheVariants as faul
 ghost use Rattle.std.specs.Prelude.{◌≡◌, ◌≢◌, IfErr, IfOk, false, map};
 ghost use Rattle.std.specs.Io.KnownBytes.{Appends, Keeps};
 ghost use Rattle.rustsec_folders.specs.Allowed.{AllowSame, AnswersOnce, real_folders};
-ghost use Rattle.rustsec_commands.specs.Commands.{Carries, HaveOneOutput, IsOutputOf, command_view, reads_input, words_read_input};
+ghost use Rattle.rustsec_commands.specs.Commands.{Carries, CarriesOut, HaveOneOutput, IsOutputOf, command_view, reads_input, words_read_input};
 
+use crate::args::{Command, command_of};
+use crate::command::{affected, audit, lint, osv, ranges, report};
+use crate::error_output::misuse;
 use crate::fault::Fault;
-use crate::output::{self, Output};
-use crate::words::{Command, command_of};
-use crate::{answers, lint, misuse, osv, report};
+use crate::output::{Output, usage_output};
 use rustsec_folders::{Folders, RealFolders};
 use std::alloc::Global;
 use std::io::{self, Read, Write};
@@ -27,15 +28,15 @@ fn output_of<F: Folders, R: Read>(
     ensures same { AllowSame (F.allowed folders.old) (F.allowed folders.new) }
 {
     match command {
-        Command::Affected => answers::affected_of(alloc, input),
-        Command::Ranges => answers::ranges_of(alloc, input),
+        Command::Affected => affected::affected_of(alloc, input),
+        Command::Ranges => ranges::ranges_of(alloc, input),
         Command::Lint(path) => Ok(lint::lint_output(alloc, folders, path)?),
         Command::Osv(path, modified) => Ok(osv::osv_output(alloc, folders, path, modified)?),
         Command::Report(root, lock) => Ok(report::report(alloc, folders, root, lock)?),
         Command::Audit(root, lock, options) => {
-            Ok(report::audit(alloc, folders, root, lock, options)?)
+            Ok(audit::audit(alloc, folders, root, lock, options)?)
         }
-        Command::Unknown(words) => Ok(output::usage(alloc, misuse::of_words(alloc, words).ok())?),
+        Command::Unknown(words) => Ok(usage_output(alloc, misuse::of_words(alloc, words).ok())?),
     }
 }
 
@@ -125,10 +126,8 @@ pub fn run_with_notes<T: Files + AllocGlobal, R: Read, W: Write, N: Write>(
     output: &mut W,
     notes: &mut N,
 ) -> Result<u8, Fault>
-    ensures carries { IfOk result (λ s. Carries real_folders (map (λ w. w.now) words.now) (R.remaining input.old) s
-        (W.contents output.old) (W.contents output.new)) }
-    ensures unread { words_read_input (map (λ w. w.now) words.now) ≡ false → R.remaining input.new ≡ R.remaining input.old }
-    ensures kept { IfErr result (λ e. e ≢ fault.Write → Keeps (W.contents output.old) (W.contents output.new)) }
+    ensures carries { CarriesOut real_folders (map (λ w. w.now) words.now) result (R.remaining input.old) (R.remaining input.new)
+        (W.contents output.old) (W.contents output.new) }
 {
     let mut folders = RealFolders::new(rt);
     run_over(&mut folders, rt.alloc(), words, input, output, notes)
@@ -145,10 +144,8 @@ pub fn run<T: Files + AllocGlobal, R: Read, W: Write>(
     input: &mut R,
     output: &mut W,
 ) -> Result<u8, Fault>
-    ensures carries { IfOk result (λ s. Carries real_folders (map (λ w. w.now) words.now) (R.remaining input.old) s
-        (W.contents output.old) (W.contents output.new)) }
-    ensures unread { words_read_input (map (λ w. w.now) words.now) ≡ false → R.remaining input.new ≡ R.remaining input.old }
-    ensures kept { IfErr result (λ e. e ≢ fault.Write → Keeps (W.contents output.old) (W.contents output.new)) }
+    ensures carries { CarriesOut real_folders (map (λ w. w.now) words.now) result (R.remaining input.old) (R.remaining input.new)
+        (W.contents output.old) (W.contents output.new) }
 {
     run_with_notes(rt, words, input, output, &mut io::sink())
 }

@@ -1,15 +1,14 @@
-//! The output of a command: a text, a status and a note. Also the outputs that commands share.
+//! The output of a command: a text, a status and a note. Also the outputs for a malformed line and for words that name no command.
 
 ghost use Rattle.rustsec_commands.specs.declared.fault.Fault.TheVariants as fault;
 ghost use Rattle.std.specs.Prelude.{◌≡◌, ◌<◌, ◌^◌, ◌-◌, IfErr, IfOk, OnOk, false, string_bytes};
 ghost use Rattle.serde_json.specs.View.{view};
 ghost use Rattle.serde_json.specs.Written.{has_float};
 ghost use Rattle.std.specs.Io.KnownBytes.{Appends};
-ghost use Rattle.rustsec_commands.specs.Output.{malformed, refused, tree_line, usage};
+ghost use Rattle.rustsec_commands.specs.Output.{malformed, tree_line, usage};
 
 use crate::fault::Fault;
-use crate::refusal::why;
-use rustsec_error::{Error, refused_text};
+use rustsec_error::refused_text;
 use rustsec_shown::push_shown;
 use serde_json::Value;
 use std::alloc::{AllocError, Global};
@@ -112,7 +111,7 @@ fn line_note(alloc: Global, input: &[u8], place: usize) -> Result<String, AllocE
 
 /// Makes the output for an input with a malformed line at a place. The place is counted from 0, and printed
 /// from 1.
-pub fn malformed(alloc: Global, input: &[u8], place: usize) -> Result<Output, AllocError>
+pub fn malformed_output(alloc: Global, input: &[u8], place: usize) -> Result<Output, AllocError>
     requires { place < 2 ^ 64 - 1 }
     ensures { IfOk result (λ o. o ≡ malformed place) }
 {
@@ -121,16 +120,8 @@ pub fn malformed(alloc: Global, input: &[u8], place: usize) -> Result<Output, Al
     Ok(Output::new(text, 2).with_note(line_note(alloc, input, place).ok()))
 }
 
-/// Makes the output for requirements that are not accepted.
-pub fn refused(alloc: Global, error: &Error) -> Result<Output, AllocError>
-    ensures { IfOk result (λ o. o ≡ refused) }
-{
-    let text = String::from_str(alloc, "refused: bad parameter\n")?;
-    Ok(Output::new(text, 2).with_note(why(alloc, error).ok()))
-}
-
 /// Makes the output for words that do not name a command, with this note.
-pub fn usage(alloc: Global, note: Option<String>) -> Result<Output, AllocError>
+pub fn usage_output(alloc: Global, note: Option<String>) -> Result<Output, AllocError>
     ensures { IfOk result (λ o. o ≡ usage) }
 {
     let text = String::from_str(alloc, "usage: rustsec_audit COMMAND\n")?;

@@ -15,7 +15,7 @@ use Rattle.rustsec_folders.specs.Allowed.{Allowed, AnswersOnce}
 use Rattle.rustsec_folders.specs.Listed.{Listed}
 use Rattle.rustsec_folders.specs.declared.source_file.SourceFile.{SourceFile}
 use Rattle.rustsec_folders.proofs.Once.{listed-once, listed-or-error}
-use Rattle.rustsec_database.specs.Filing.{IsFiled, IsMisfiled, in_collection, kind_of, path_verdict}
+use Rattle.rustsec_database.specs.Filing.{IsFiled, IsMisfiled, placed_in, kind_of, path_verdict}
 use Rattle.rustsec_database.specs.Loaded.{AreFiled, AreLoaded, HaveOwnIds, IsAtFault, IsFirstFault, has_id, is_known, is_stored}
 use Rattle.rustsec_database.specs.Opened.{AreOpened, IsOpenRefusal}
 
@@ -27,7 +27,7 @@ filed-unique path text a b h k =
     let same = advisory_unique text h.written k.written h.is_advisory k.is_advisory in
     let both : Ok h.collection ≡ Ok k.collection = sym h.verdict ∙ (ap (path_verdict path) same ∙ k.verdict) in
     let there : h.collection ≡ k.collection = cc both in
-    let step : in_collection h.collection h.written ≡ in_collection k.collection k.written = λ i. in_collection (there i) (same i) in
+    let step : placed_in h.collection h.written ≡ placed_in k.collection k.written = λ i. placed_in (there i) (same i) in
     h.is ∙ (step ∙ sym k.is)
 
 -- a file that is filed is not misfiled

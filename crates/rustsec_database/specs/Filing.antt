@@ -56,8 +56,8 @@ path_verdict path a =
     (agreed a.metadata.collection (collection_at path))))
 
 -- an advisory with its collection set
-abbrev pub in_collection : Collection → Advisory → Advisory
-in_collection c a = record a { metadata = record a.metadata { collection = Some c } }
+abbrev pub placed_in : Collection → Advisory → Advisory
+placed_in c a = record a { metadata = record a.metadata { collection = Some c } }
 
 -- the file with this path and this text is filed as this advisory: that of the text, with the collection of the folder
 pub record IsFiled (path text : List ℕ) (a : Advisory) : Type 0 where
@@ -65,7 +65,7 @@ pub record IsFiled (path text : List ℕ) (a : Advisory) : Type 0 where
   pub is_advisory : IsAdvisory text written
   pub collection : Collection
   pub verdict : path_verdict path written ≡ Ok collection
-  pub is : a ≡ in_collection collection written
+  pub is : a ≡ placed_in collection written
 
 -- the text is not an advisory, or the path fails a check; the kind is that of the first failure
 abbrev pub IsMisfiled : List ℕ → List ℕ → ErrorKind → Type 0

@@ -3,7 +3,7 @@ use Rattle.std.specs.Prelude.{◌≡◌, ◌⊎◌, ◌&&◌, ℕ, Bool, false, 
 use Rattle.std.specs.Cmp.Lexicographic.{pointwise}
 use Rattle.std.specs.List.{filter, list_any}
 use Rattle.rustsec_error.specs.Failure.{Failure, IsMemory}
-use Rattle.rustsec_versions.specs.Lists.{affected}
+use Rattle.rustsec_versions.specs.acceptance.Lists.{affected}
 use Rattle.rustsec_lock.specs.Package.{PackageValue}
 use Rattle.rustsec_texts.specs.IdOrder.{id_eq}
 use Rattle.rustsec_texts.specs.Ids.{IdValue}

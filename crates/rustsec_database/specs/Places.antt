@@ -6,7 +6,7 @@ use Rattle.std.specs.Cmp.Lexicographic.{pointwise}
 use Rattle.std.specs.List.{filter_map, position_from}
 use Rattle.std.specs.Option.{option_eq}
 use denote.Enum.Bare.{sameb}
-use Rattle.rustsec_versions.specs.Lists.{Lists, affected}
+use Rattle.rustsec_versions.specs.acceptance.Lists.{Lists, affected}
 use Rattle.rustsec_lock.specs.Package.{PackageValue}
 use Rattle.rustsec_texts.specs.IdOrder.{id_order}
 use Rattle.rustsec_texts.specs.Ids.{IdValue}

@@ -1,6 +1,6 @@
 //! An index: the slots of each name.
 
-ghost use Rattle.std.specs.Prelude.{◌≡◌, ◌∷◌, [], if◌then◌else◌, ℕ, IfErr, IfOk, IfSome, List, OnErr, OnOk, nat_eq, not};
+ghost use Rattle.std.specs.Prelude.{◌≡◌, ◌∷◌, [], if◌then◌else◌, ℕ, IfErr, IfOk, IfSome, List, OnErr, OnOk, false, nat_eq, not};
 ghost use Rattle.std.specs.Cmp.Lexicographic.{pointwise};
 ghost use Rattle.std.specs.List.{list_any};
 ghost use Rattle.std.specs.Option.{option_copied};
@@ -31,12 +31,14 @@ impl Model for Index {
     ghost invariant = { λ i. AllRise i.slots };
 }
 
-/// Inserts a slot into a rising list without duplicates. Returns whether the slot was new.
+/// Inserts a slot into a rising list without duplicates. Returns whether the slot was new. One that is there takes no
+/// memory.
 fn add(slots: &mut Vec<Slot>, slot: Slot) -> std::result::Result<bool, AllocError>
     requires { Rises slots.old.items }
     ensures ok { OnOk result (slots.new.items ≡ with_slot slot slots.old.items) }
     ensures fresh { IfOk result (λ fresh. fresh ≡ not (list_any (nat_eq slot) slots.old.items)) }
     ensures err { OnErr result (slots.new.items ≡ slots.old.items) }
+    ensures none { OnErr result (list_any (nat_eq slot) slots.old.items ≡ false) }
 {
     match slots.as_slice().binary_search(&slot) {
         Ok(_) => Ok(false),
@@ -85,6 +87,9 @@ impl Index {
             ≡ (if pointwise nat_eq key.now name then with_slot slot (slots_at key.now self.old) else slots_at name self.old)) }
         ensures kept { OnErr result (self.new ≡ self.old) }
         ensures err { IfErr result IsMemory }
+
+        // A slot that the name has takes no memory.
+        ensures none { OnErr result (list_any (nat_eq slot) (slots_at key.now self.old) ≡ false) }
     {
         match self.slots.get_mut(key) {
             Some(slots) => {

@@ -3,7 +3,7 @@ use Rattle.std.proofs.Common.{◌≡◌, ◌≢◌, ◌∙◌, ℕ, Bool, List, 
 use Rattle.rustsec_folders.specs.Allowed.{Allowed, AnswersOnce}
 use Rattle.rustsec_lint_database.proofs.Once.{entries-once, entries-or-unlisted}
 use Rattle.rustsec_commands.specs.Output.{Output, refused_as}
-use Rattle.rustsec_commands.proofs.Once.{kinds-of, no-memory, same-output}
+use Rattle.rustsec_commands.proofs.lemmas.Once.{kinds-of, no-memory, same-output}
 use Rattle.semver.specs.Parse.{Parts, version_parts}
 use Rattle.rustsec_values.specs.Reading.{value_of}
 use Rattle.rustsec_error.specs.Failure.{Failure}

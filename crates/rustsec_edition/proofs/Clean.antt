@@ -1,14 +1,14 @@
 -- A document without signs has no form.
-use Rattle.std.proofs.Common.{◌≡◌, ◌≢◌, ◌∙◌, ◌==◌, ◌&&◌, ◌||◌, ◌+◌, ◌-◌, ◌<◌, ◌≤◌, ℕ, zero, suc, Bool, true, false, if◌then◌else◌, List, [], ◌∷◌, ◌++◌, Option, None, Some, ap, append-nil, append_assoc, arith, drop, drop_of_length-le, get_or, inl, inr, is_some, length, not, refl, slice_index, sym, take, true≢false}
+use Rattle.std.proofs.Common.{◌≡◌, ◌≢◌, ◌∙◌, ◌==◌, ◌&&◌, ◌||◌, ◌-◌, ℕ, zero, suc, Bool, true, false, if◌then◌else◌, List, [], ◌∷◌, ◌++◌, Option, None, Some, ap, append-nil, append_assoc, arith, inl, inr, is_some, length, not, refl, slice_index, sym, take, true≢false}
 use Rattle.std.specs.Char.{is_digit}
-use Rattle.std.specs.Option.{option_or}
 use Rattle.std.proofs.lemmas.Bool.{cases_Bool}
 use Rattle.toml_parser.specs.Lexical.{backslash, colon, first, left_brace, left_bracket, right_brace, right_bracket, line_feed}
 use Rattle.rustsec_places.specs.Places.{after_token, next_token, up_to}
 use Rattle.rustsec_edition.specs.Forms.{after_bracket, first_form, first_from, form_at, has_line_feed_after, has_new_escape, is_in_table, is_last_comma, is_new_string, is_short_time, last}
-use Rattle.rustsec_edition.specs.Signs.{closes, is_sign}
+use Rattle.rustsec_edition.specs.Signs.{closes, has_open_brace, has_sign_byte, is_sign}
 use Rattle.rustsec_edition.specs.declared.form.NewForm.{NewForm}
 use Rattle.rustsec_edition.specs.declared.form.NewForm.TheVariants as form
+use Rattle.rustsec_edition.proofs.Bytes.{or_first, or_second}
 use Rattle.rustsec_edition.proofs.Closing.{is_none}
 use Rattle.rustsec_edition.proofs.Suffixes.{at_next_token, at_start}
 
@@ -44,18 +44,13 @@ front : (earlier before b : ℕ) (bs : List ℕ) → is_sign earlier before b �
 unfolding has_sign
 front earlier before b bs h k = rw (h, k) refl
 
-no_sign : (earlier before : ℕ) (bytes : List ℕ) (i : ℕ) → i < length bytes → is_sign earlier before (get_or bytes i 0) ≡ false
-    → (get_or bytes i 0 == left_brace && not (closes 100 [] 0 (drop i bytes))) ≡ false
-    → has_sign earlier before (drop i bytes) ≡ has_sign before (get_or bytes i 0) (drop (suc i) bytes)
-no_sign earlier before [] i lt h k = elim lt [ ]
-no_sign earlier before (b ∷ bs) zero lt h k = front earlier before b bs h k
-no_sign earlier before (b ∷ bs) (suc i) lt h k = no_sign earlier before bs i (grind (arith, lt)) h k
-
-pub sign_more : (earlier before : ℕ) (bytes : List ℕ) (i b : ℕ) → i < length bytes → b ≡ get_or bytes i 0 → is_sign earlier before b ≡ false
-    → (b == left_brace && not (closes 100 [] 0 (drop i bytes))) ≡ false → has_sign earlier before (drop i bytes) ≡ has_sign before b (drop (i + 1) bytes)
-sign_more earlier before bytes i b lt is h k =
-    let next : i + 1 ≡ suc i = omega arith in
-    rw (next, is) (no_sign earlier before bytes i lt (rw is at h) (rw is at k))
+-- no sign among the bytes, and no left brace that stays open
+pub no_signs : (earlier before : ℕ) (text : List ℕ) → has_sign_byte earlier before text ≡ false → has_open_brace text ≡ false → has_sign earlier before text ≡ false
+unfolding has_sign has_sign_byte has_open_brace
+no_signs earlier before [] h k = refl
+no_signs earlier before (b ∷ bs) h k =
+    front earlier before b bs (or_first (is_sign earlier before b) _ h) (or_first (b == left_brace && not (closes 100 [] 0 (b ∷ bs))) _ k)
+    ∙ no_signs before b bs (or_second (is_sign earlier before b) _ h) (or_second (b == left_brace && not (closes 100 [] 0 (b ∷ bs))) _ k)
 
 first_false : (a b : Bool) → a ≡ false → (a && b) ≡ false
 first_false a b h = rw h refl
@@ -63,10 +58,6 @@ first_false a b h = rw h refl
 and_false : (a b : Bool) → b ≡ false → (a && b) ≡ false
 and_false true b h = h
 and_false false b h = refl
-
-pub none_left : (bytes : List ℕ) (i earlier before : ℕ) → length bytes ≤ i → has_sign earlier before (drop i bytes) ≡ false
-unfolding has_sign
-none_left bytes i earlier before h = rw (drop_of_length-le bytes h) refl
 
 -- ---- what a token shows where no sign comes
 

@@ -1,4 +1,5 @@
-pub mod Forms
+pub mod Bytes
 pub mod Clean
 pub mod Closing
+pub mod Forms
 pub mod Suffixes

@@ -6,9 +6,9 @@ use Rattle.std.specs.List.{cons_option, list_any}
 use Rattle.std.proofs.lemmas.List.Elements.{filter_map-append}
 use Rattle.std.proofs.lemmas.List.Folds.{list_any-append}
 use Rattle.semver.specs.Parse.{Held, Parts}
-use Rattle.rustsec_versions.specs.Interval.{Interval, holds}
-use Rattle.rustsec_versions.specs.Lists.{affected}
-use Rattle.rustsec_versions.specs.Requirement.{interval_of}
+use Rattle.rustsec_versions.specs.interval.Interval.{Interval, holds}
+use Rattle.rustsec_versions.specs.acceptance.Lists.{affected}
+use Rattle.rustsec_versions.specs.requirement.Requirement.{interval_of}
 use Rattle.rustsec_lock.specs.Package.{PackageValue}
 use Rattle.rustsec_lock.specs.Source.{Source}
 use Rattle.rustsec_texts.specs.Informational.{kind_of_warnings}

@@ -2,8 +2,8 @@
 use Rattle.std.specs.Prelude.{◌++◌, ◌&&◌, ◌||◌, not, ℕ, Bool, true, false, List, [], ◌∷◌, Option, Some, None, is_some, map, option_and_then}
 use Rattle.std.specs.List.{enumerate_from, filter}
 use Rattle.semver.specs.Parse.{Held, Parts}
-use Rattle.rustsec_versions.specs.Interval.{Interval, holds}
-use Rattle.rustsec_versions.specs.Requirement.{interval_of}
+use Rattle.rustsec_versions.specs.interval.Interval.{Interval, holds}
+use Rattle.rustsec_versions.specs.requirement.Requirement.{interval_of}
 use Rattle.rustsec_lock.specs.Package.{PackageValue}
 use Rattle.rustsec_lock.specs.Source.{Source, is_default}
 use Rattle.rustsec_texts.specs.Informational.{kind_of_warnings}

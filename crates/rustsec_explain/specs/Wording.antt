@@ -3,7 +3,7 @@ use Rattle.std.specs.Prelude.{◌++◌, ℕ, List, [], ◌∷◌, Option, Some, 
 use Rattle.std.specs.Fmt.{decimal}
 use Rattle.semver.specs.Identifiers.{parts_text}
 use Rattle.semver.specs.Parse.{Held, Parts}
-use Rattle.rustsec_versions.specs.RequirementText.{requirement_text}
+use Rattle.rustsec_versions.specs.requirement.RequirementText.{requirement_text}
 use Rattle.rustsec_lock.specs.Cvss.{cvss_severity}
 use Rattle.rustsec_lock.specs.Package.{PackageValue}
 use Rattle.rustsec_lock.specs.Platforms.{arch_text, os_text}

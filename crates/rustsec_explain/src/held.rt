@@ -3,7 +3,7 @@
 ghost use Rattle.std.specs.Prelude.{◌≡◌, ◌++◌, IfErr, IfOk, OnOk, map};
 ghost use Rattle.semver.specs.Identifiers.{parts_of};
 ghost use Rattle.rustsec_error.specs.Failure.{IsMemory};
-ghost use Rattle.rustsec_versions.specs.Requirement.{interval_of};
+ghost use Rattle.rustsec_versions.specs.requirement.Requirement.{interval_of};
 ghost use Rattle.rustsec_versions.specs.Views.{comparators_of};
 ghost use Rattle.rustsec_explain.specs.Reasons.{applying, held_by, is_within, requirement_rows};
 

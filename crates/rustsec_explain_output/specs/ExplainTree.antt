@@ -3,7 +3,7 @@ use Rattle.std.specs.Prelude.{◌==◌, ℕ, Bool, List, [], ◌∷◌, Option, 
 use Rattle.semver.specs.Identifiers.{parts_text}
 use Rattle.semver.specs.Parse.{Held}
 use Rattle.serde_json.specs.Data.{Data, boolean, null, string}
-use Rattle.rustsec_versions.specs.RequirementText.{requirement_text}
+use Rattle.rustsec_versions.specs.requirement.RequirementText.{requirement_text}
 use Rattle.rustsec_lock.specs.Package.{PackageValue}
 use Rattle.rustsec_lock.specs.Source.{source_text}
 use Rattle.rustsec_json.specs.Trees.{list_tree, optional_tree, text_tree}

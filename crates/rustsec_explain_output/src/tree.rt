@@ -6,7 +6,7 @@ ghost use Rattle.serde_json.specs.Data.{string};
 ghost use Rattle.serde_json.specs.View.{members_view, view};
 ghost use Rattle.rustsec_json.specs.Trees.{list_tree, optional_tree};
 ghost use Rattle.rustsec_error.specs.Failure.{IsMemory};
-ghost use Rattle.rustsec_versions.specs.RequirementText.{requirement_text};
+ghost use Rattle.rustsec_versions.specs.requirement.RequirementText.{requirement_text};
 ghost use Rattle.rustsec_versions.specs.Views.{comparators_of};
 ghost use Rattle.rustsec_lock.specs.Source.{source_text};
 ghost use Rattle.rustsec_report.specs.Trees.{object_of, with_members};

@@ -3,7 +3,7 @@
 use Rattle.std.specs.Prelude.{◌&&◌, ◌++◌, ℕ, Bool, false, true, List, [], ◌∷◌, Option, Some, None, codes, filter, map, nat_eq}
 use Rattle.std.specs.Cmp.Lexicographic.{pointwise}
 use Rattle.semver.specs.Identifiers.{parts_text}
-use Rattle.rustsec_versions.specs.Lists.{Lists, affected}
+use Rattle.rustsec_versions.specs.acceptance.Lists.{Lists, affected}
 use Rattle.rustsec_lock.specs.Package.{PackageValue}
 use Rattle.rustsec_lock.specs.Source.{Source, source_text}
 

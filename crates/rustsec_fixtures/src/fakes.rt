@@ -1,9 +1,10 @@
-//! Readers and writers over memory that give or take one byte a call, and fail at a given call.
+//! Readers and writers over memory that give or take one byte a call, or a text a call, and fail at a given call.
 
-ghost use Rattle.std.specs.Prelude.{Some, drop, ◌≡◌, ◌≤◌, vec_len};
+ghost use Rattle.std.specs.Prelude.{◌≡◌, ◌++◌, ◌≤◌, [], Some, drop, vec_len};
 
-use std::io;
+use std::alloc::Global;
 use std::io::{ErrorKind, Read, Write};
+use std::{fmt, io};
 
 /// A reader that gives one byte a call, and fails at the call with this number. Calls count from 1, so
 /// none fails at 0.
@@ -101,5 +102,55 @@ impl Write for ByteWriter {
 
     fn flush(&mut self) -> io::Result<()> {
         Ok(())
+    }
+}
+
+/// A writer of texts to memory that fails at the call with this number. Calls count from 1, so none fails at 0.
+#[derive(Drop)]
+pub struct TextWriter {
+    held: Vec<u8>,
+    calls: u64,
+    fails_at: u64,
+}
+
+impl TextWriter {
+    /// Returns a writer that holds no text yet.
+    pub fn new(alloc: Global, fails_at: u64) -> TextWriter
+        ensures { result.held.items ≡ [] }
+    {
+        TextWriter {
+            held: Vec::new(alloc),
+            calls: 0,
+            fails_at,
+        }
+    }
+
+    /// Returns the bytes that were written.
+    pub fn held(&self) -> &[u8]
+        ensures { result.now ≡ self.now.held.items }
+    {
+        self.held.as_slice()
+    }
+
+    /// Returns how many calls there were, with the one that failed.
+    pub fn calls(&self) -> u64
+        ensures { result ≡ self.now.calls }
+    {
+        self.calls
+    }
+}
+
+impl fmt::Write for TextWriter {
+    ghost write_str_gives = { λ before bytes after. after.held.items ≡ before.held.items ++ bytes };
+
+    fn write_str(&mut self, text: &str) -> fmt::Result {
+        self.calls = self.calls.saturating_add(1);
+        if self.calls == self.fails_at {
+            return Err(fmt::Error);
+        }
+        match self.held.extend_from_slice(text.as_bytes()) {
+            Ok(()) => Ok(()),
+            Err(_) => Err(fmt::Error),
+        }
     }
 }

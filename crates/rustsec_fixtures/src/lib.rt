@@ -17,7 +17,7 @@ pub use crate::commands::{
     ADVISORIES, FOUR_PACKAGES, UNMAINTAINED, VULNERABLE, WITHDRAWN, make_root, writes,
 };
 pub use crate::cvss::{base_of, is_printed, prints, score};
-pub use crate::fakes::{ByteReader, ByteWriter};
+pub use crate::fakes::{ByteReader, ByteWriter, TextWriter};
 pub use crate::folders_in_memory::{Failing, Holds, MemoryFolders, Paths};
 pub use crate::values::{interval, kind_of, lists, requirements, some_affects, version};
 pub use crate::warnings::warning_lines;

@@ -12,7 +12,7 @@ use Rattle.rustsec_error.specs.Failure.{Failure, IsMemory}
 use Rattle.rustsec_error.specs.declared.error.ErrorKind.TheVariants as kind
 use Rattle.rustsec_lock.specs.Package.{PackageValue}
 use Rattle.rustsec_registry.specs.Lookups.{Answer, AreAnswers as AreKeptAnswers, IsKeptOf, Kept, at, listed}
-use Rattle.rustsec_registry.specs.Packages.{AreDistinct, has_name}
+use Rattle.rustsec_registry.specs.Packages.{AreDistinctPackages, has_name}
 use Rattle.rustsec_registry.specs.Yanked.{AreKept, by_name, by_version, missing_name, missing_version, not_found, seen, yanked_answers}
 use Rattle.rustsec_registry.specs.declared.lookup.IndexVersion.{IndexVersion}
 use Rattle.rustsec_index.specs.IndexFolder.{AnswersAll, AreAnswers, IsAnswer, IsAnswerAt, IsGiven, IsIndex}
@@ -79,7 +79,7 @@ module _ (allowed : Allowed) (place : Place) (packages : List PackageValue) (ind
   named-in p h =
       list_any-from_Any (λ (q : PackageValue). pointwise nat_eq p.name q.name) packages (h.0, p, h.1, h.2, (bytes_decides p.name p.name).1 refl)
 
-  known-all : (distinct : List PackageValue) → AreDistinct packages distinct → AllByRecursion (IsKnown allowed place kept) distinct
+  known-all : (distinct : List PackageValue) → AreDistinctPackages packages distinct → AllByRecursion (IsKnown allowed place kept) distinct
   known-all distinct d =
       recursion_from_All (IsKnown allowed place kept) distinct
       (All-weaker (Contains distinct) (IsKnown allowed place kept) (λ p h. known-named p (named-in p ((d.same p).0 h))) distinct (All-contains_itself distinct))
@@ -227,13 +227,13 @@ same-other (x ∷ xs) (y ∷ ys) more rest e f is h k other another =
 -- what is found, or the error at which the answers stop, by the answers that were taken
 module _ (allowed : Allowed) (place : Place) (packages : List PackageValue) (index : List (List ℕ × Answer)) (kept : List (List ℕ × Kept))
     (answers : AreAnswers allowed place index) (all : AnswersAll packages index) (given : AreKeptAnswers (λ name a. IsGiven (at name index) a) kept)
-    (asks : AreKept packages kept) (distinct : List PackageValue) (d : AreDistinct packages distinct) (results : List (Result PackageValue Failure))
+    (asks : AreKept packages kept) (distinct : List PackageValue) (d : AreDistinctPackages packages distinct) (results : List (Result PackageValue Failure))
     (is : results ≡ yanked_answers kept distinct) where
   walked : Whole allowed place kept distinct ⊎ Stops allowed place kept distinct
   walked = walk allowed place kept distinct (known-all allowed place packages index kept answers all given asks distinct d)
 
   pub found-all : (y : YankedPackages) → AreTaken results y
-      → (found : List Found) × AreDistinct packages (packages_of found) × (AllByRecursion (IsFound allowed place) found
+      → (found : List Found) × AreDistinctPackages packages (packages_of found) × (AllByRecursion (IsFound allowed place) found
       × ((y.packages ≡ yanked found) × (y.unlisted ≡ unlisted found)))
   found-all y t = elim walked [
     | inl w ↦
@@ -266,7 +266,7 @@ module _ (allowed : Allowed) (place : Place) (packages : List PackageValue) (ind
 module _ (allowed : Allowed) (root : List ℕ) (packages : List PackageValue) (index old new : List (List ℕ × Answer)) (kept : List (List ℕ × Kept))
     (answers slice : List (Result (Bor PackageValue) Failure)) (read : IsIndex allowed root index) (all : AnswersAll packages index) (made : old ≡ index)
     (same : new ≡ old) (given : AreKeptAnswers (λ name a. IsGiven (at name new) a) kept) (asks : AreKept packages kept)
-    (told : (distinct : List PackageValue) × AreDistinct packages distinct × (map seen answers ≡ yanked_answers kept distinct)) (is : slice ≡ answers) where
+    (told : (distinct : List PackageValue) × AreDistinctPackages packages distinct × (map seen answers ≡ yanked_answers kept distinct)) (is : slice ≡ answers) where
   gives : AreKeptAnswers (λ name a. IsGiven (at name index) a) kept
   gives = subst (λ (i : List (List ℕ × Answer)). AreKeptAnswers (λ name a. IsGiven (at name i) a) kept) (same ∙ made) given
 

@@ -11,7 +11,7 @@ use Rattle.rustsec_folders.specs.Names.{AreNames, names_of, under}
 use Rattle.rustsec_folders.proofs.Once.{read-or-not, text-once}
 use Rattle.rustsec_error.specs.Failure.{Failure, IsMemory}
 use Rattle.rustsec_lock.specs.Package.{PackageValue, package_cmp, package_total}
-use Rattle.rustsec_registry.specs.Packages.{AreDistinct}
+use Rattle.rustsec_registry.specs.Packages.{AreDistinctPackages}
 use Rattle.rustsec_registry.specs.declared.lookup.IndexVersion.{IndexVersion}
 use Rattle.rustsec_index.specs.IndexFile.{Entries, IsDamage, Lists, after_entry, entries_of, first_says, versions_said}
 use Rattle.rustsec_index.specs.IndexFolder.{IsAnswer, IsAnswerAt, IsFileAnswer, IsListed, IsMissing, IsPlace, Shows, has, place_of}
@@ -91,7 +91,7 @@ rising-once (x ∷ xs) (y ∷ ys) r s h k =
     (λ p. rest-in x ys xs p rises back) in
     λ i. first i ∷ rest i
 
-distinct-once : (packages xs ys : List PackageValue) → AreDistinct packages xs → AreDistinct packages ys → xs ≡ ys
+distinct-once : (packages xs ys : List PackageValue) → AreDistinctPackages packages xs → AreDistinctPackages packages ys → xs ≡ ys
 distinct-once packages xs ys h k =
     rising-once xs ys h.rise k.rise (λ p there. (k.same p).1 ((h.same p).0 there)) (λ p there. (h.same p).1 ((k.same p).0 there))
 

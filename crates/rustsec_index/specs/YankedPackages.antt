@@ -10,7 +10,7 @@ use Rattle.rustsec_error.specs.declared.error.ErrorKind.TheVariants as kind
 use Rattle.rustsec_lock.specs.Package.{PackageValue}
 use Rattle.rustsec_lock.specs.Source.{Source, is_default}
 use Rattle.rustsec_registry.specs.Lookups.{listed}
-use Rattle.rustsec_registry.specs.Packages.{AreDistinct}
+use Rattle.rustsec_registry.specs.Packages.{AreDistinctPackages}
 use Rattle.rustsec_registry.specs.Yanked.{missing_name, missing_version}
 use Rattle.rustsec_registry.specs.declared.lookup.IndexVersion.{IndexVersion}
 use Rattle.rustsec_index.specs.IndexFolder.{IsAnswer, IsPlace}
@@ -82,7 +82,7 @@ pub record IsGivenFor (allowed : Allowed) (root : List ℕ) (packages : List Pac
   pub place : Place
   pub is_place : IsPlace allowed root place
   pub found : List Found
-  pub are_distinct : AreDistinct packages (packages_of found)
+  pub are_distinct : AreDistinctPackages packages (packages_of found)
   pub are_found : AllByRecursion (IsFound allowed place) found
   pub packages_are : y.packages ≡ yanked found
   pub unlisted_are : y.unlisted ≡ unlisted found
@@ -92,7 +92,7 @@ pub record IsFirstError (allowed : Allowed) (place : Place) (packages : List Pac
   pub found : List Found
   pub bad : PackageValue
   pub rest : List PackageValue
-  pub are_distinct : AreDistinct packages (packages_of found ++ bad ∷ rest)
+  pub are_distinct : AreDistinctPackages packages (packages_of found ++ bad ∷ rest)
   pub are_found : AllByRecursion (IsFound allowed place) found
   pub is_error : IsAnswer allowed place (bad.name) (Err e)
 

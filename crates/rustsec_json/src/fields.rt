@@ -1,6 +1,7 @@
 //! Reads the values at the keys of a JSON object (RFC 8259, section 4).
 
 ghost use Rattle.std.specs.Prelude.{◌≡◌, ◌≢◌, [], IfErr, IfOk, None, OnErr, Some, option_map};
+ghost use Rattle.serde_json.specs.Data.{null};
 ghost use Rattle.serde_json.specs.Find.{as_object, get_member};
 ghost use Rattle.serde_json.specs.View.{members_view, view};
 ghost use Rattle.rustsec_json.specs.Fields.{defaulted, every, optional, required};
@@ -54,7 +55,7 @@ pub fn required_at<T: FromTree>(alloc: Global, fields: &Map<String, Value>, key:
     }
 }
 
-/// Reads the value at a key that may be missing; null means missing too.
+/// Reads the value at a key that may be missing; null means missing too. A missing key and null take no memory.
 ///
 /// # Errors
 ///
@@ -67,6 +68,7 @@ pub fn optional_at<T: FromTree>(
     ensures ok { IfOk result (λ x. optional T.reads key.now (members_view fields.now.entries) ≡ Some x) }
     ensures err { IfErr result (IsRefusal ErrorKind.Parse (optional T.reads key.now (members_view fields.now.entries) ≡ None)) }
     ensures none { OnErr result (get_member key.now (members_view fields.now.entries) ≢ None) }
+    ensures at_null { OnErr result (get_member key.now (members_view fields.now.entries) ≢ Some null) }
 {
     let Some(tree) = member(fields, key) else {
         return Ok(None);

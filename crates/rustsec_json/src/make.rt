@@ -1,9 +1,9 @@
 //! Makes JSON trees of values.
 
-ghost use Rattle.std.specs.Prelude.{◌≡◌, IfOk};
+ghost use Rattle.std.specs.Prelude.{◌≡◌, ◌≢◌, IfOk, None, OnErr};
 ghost use Rattle.serde_json.specs.Data.{Data};
 ghost use Rattle.serde_json.specs.View.{view};
-ghost use Rattle.rustsec_json.specs.Trees.{list_tree};
+ghost use Rattle.rustsec_json.specs.Trees.{list_tree, optional_tree};
 
 use rustsec_values::Items;
 use serde_json::Value;
@@ -48,7 +48,11 @@ impl<T: ToTree> ToTree for Option<T> {
 
     ghost tree = { optional_tree T.tree };
 
-    fn to_tree(&self, alloc: Global) -> Result<Value, AllocError> {
+    // `None` takes no memory.
+    fn to_tree(&self, alloc: Global) -> Result<Value, AllocError>
+        ensures ok { IfOk result (λ v. view v ≡ optional_tree T.tree self.now) }
+        ensures none { OnErr result (self.now ≢ None) }
+    {
         match self {
             Some(value) => value.to_tree(alloc),
             None => Ok(Value::Null),

@@ -1,6 +1,6 @@
 //! Builds objects of JSON trees, key by key.
 
-ghost use Rattle.std.specs.Prelude.{◌≡◌, OnOk, option_map};
+ghost use Rattle.std.specs.Prelude.{◌≡◌, ◌≢◌, None, OnErr, OnOk, option_map};
 ghost use Rattle.serde_json.specs.Data.{put};
 ghost use Rattle.serde_json.specs.View.{members_view};
 ghost use Rattle.rustsec_json.specs.Codecs.{put_some};
@@ -26,7 +26,7 @@ pub fn put_at<T: ToTree>(
     serde_json::put(fields, alloc, key, tree)
 }
 
-/// Puts the tree of a value at a key, if there is a value.
+/// Puts the tree of a value at a key, if there is a value. No value takes no memory.
 ///
 /// # Errors
 ///
@@ -37,7 +37,8 @@ pub fn put_if<T: ToTree>(
     key: &str,
     value: &Option<T>,
 ) -> Result<(), AllocError>
-    ensures { OnOk result (members_view fields.new.entries ≡ put_some key.now (option_map T.tree value.now) (members_view fields.old.entries)) }
+    ensures ok { OnOk result (members_view fields.new.entries ≡ put_some key.now (option_map T.tree value.now) (members_view fields.old.entries)) }
+    ensures none { OnErr result (value.now ≢ None) }
 {
     match value {
         Some(value) => put_at(alloc, fields, key, value),

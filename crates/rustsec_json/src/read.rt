@@ -1,9 +1,9 @@
 //! Reads values from JSON trees.
 
-ghost use Rattle.std.specs.Prelude.{◌≡◌, IfErr, IfOk, None, Option, Some};
-ghost use Rattle.serde_json.specs.Data.{Data};
+ghost use Rattle.std.specs.Prelude.{◌≡◌, ◌≢◌, IfErr, IfOk, None, OnErr, Option, Some};
+ghost use Rattle.serde_json.specs.Data.{Data, null};
 ghost use Rattle.serde_json.specs.View.{items_view, view};
-ghost use Rattle.rustsec_json.specs.Fields.{list_of, text};
+ghost use Rattle.rustsec_json.specs.Fields.{list_of, or_null, text};
 ghost use Rattle.rustsec_values.specs.Reading.{read_all};
 ghost use Rattle.rustsec_error.specs.Failure.{IsRefusal};
 
@@ -82,7 +82,12 @@ impl<T: FromTree> FromTree for Option<T> {
 
     ghost reads = { or_null T.reads };
 
-    fn from_tree(alloc: Global, tree: &Value) -> Result<Option<T>> {
+    // Null takes no memory.
+    fn from_tree(alloc: Global, tree: &Value) -> Result<Option<T>>
+        ensures ok { IfOk result (λ x. or_null T.reads (view tree.now) ≡ Some x) }
+        ensures err { IfErr result (IsRefusal ErrorKind.Parse (or_null T.reads (view tree.now) ≡ None)) }
+        ensures none { OnErr result (view tree.now ≢ null) }
+    {
         if tree.is_null() {
             return Ok(None);
         }

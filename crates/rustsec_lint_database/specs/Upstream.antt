@@ -1,6 +1,6 @@
 -- What the Rust crate refuses of an advisory.
 use Rattle.std.specs.Prelude.{ℕ, ◌++◌, List, [], Option, None, Some, codes, is_some}
-use Rattle.rustsec_versions.specs.Lists.{Lists, accepted_apart}
+use Rattle.rustsec_versions.specs.acceptance.Lists.{Lists, accepted_apart}
 use Rattle.rustsec_lock.specs.Source.{Source, url_of}
 use Rattle.rustsec_advisory.specs.Addresses.{address_of}
 use Rattle.rustsec_advisory.specs.declared.advisory.Advisory.{Advisory}

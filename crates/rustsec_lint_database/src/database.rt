@@ -10,7 +10,7 @@ ghost use Rattle.rustsec_lint_database.specs.Firsts.{AreFirsts, IsAdded, file_of
 ghost use Rattle.rustsec_lint_database.specs.declared.file.FileLint.{FileLint};
 
 use crate::file::{FileLint, FileNotes, lint_file};
-use crate::lines::after_line;
+use crate::lines::{KeyIn, after_line};
 use rustsec_error::{ErrorKind, Result};
 use rustsec_folders::{Folders, source_paths};
 use rustsec_texts::Id;
@@ -104,13 +104,15 @@ impl Linting {
         self.entries.push(Entry { file, first })
     }
 
-    /// Appends to the notes on the last file that an earlier one has its ID, if so, after the line of the ID.
+    /// Appends to the notes on the last file, which has this text, that an earlier one has its ID, if so, after the line
+    /// of the ID.
     fn note_first(
         &self,
         alloc: Global,
+        text: &Option<Text>,
         notes: &mut FileNotes,
     ) -> std::result::Result<(), AllocError> {
-        let Some(entry) = self.entries.as_slice().last() else {
+        let (Some(entry), Some(text)) = (self.entries.as_slice().last(), text) else {
             return Ok(());
         };
         let Some(first) = &entry.first else {
@@ -118,7 +120,8 @@ impl Linting {
         };
         let path = first.as_str();
         let words = format!(in alloc; "the ID is that of {path}")?;
-        notes.words.push(after_line(alloc, notes.id_line, &words)?)
+        let line = KeyIn::advisory(text.as_str(), "id").line(alloc)?;
+        notes.words.push(after_line(alloc, line, &words)?)
     }
 }
 
@@ -137,7 +140,7 @@ fn lint_next<F: Folders>(
     let linted = lint_file(alloc, folders, path)?;
     let mut notes = linted.notes;
     linting.add(linted.lint)?;
-    linting.note_first(alloc, &mut notes)?;
+    linting.note_first(alloc, &linted.text, &mut notes)?;
     Ok(notes)
 }
 

@@ -1,26 +1,27 @@
 //! The remarks on one file.
 
-ghost use Rattle.std.specs.Prelude.{◌≡◌, ◌++◌, ◌≢◌, IfOk, OnOk, map, option_map};
+ghost use Rattle.std.specs.Prelude.{◌≡◌, ◌++◌, ◌≢◌, IfOk, None, OnOk, Some, map, option_map};
 ghost use Rattle.rustsec_folders.specs.Allowed.{AllowSame};
 ghost use Rattle.rustsec_advisory.specs.LintErrors.{LintError};
 ghost use Rattle.rustsec_advisory.specs.declared.advisory.Advisory as given;
 ghost use Rattle.rustsec_error.specs.declared.error.ErrorKind.TheVariants as failure;
+ghost use Rattle.rustsec_texts.specs.Parts.{parts_of};
+ghost use Rattle.rustsec_lint_database.specs.Edition.{form_of};
 ghost use Rattle.rustsec_lint_database.specs.Placement.{HasNone};
 ghost use Rattle.rustsec_lint_database.specs.Files.{IsLintAt, IsLintOf, file_with, lint_remark, of_advisory, of_refusal, own_id, remarks_with};
 
-use crate::edition::{form_in, push_edition};
-use crate::lines::KeyIn;
+use crate::edition::push_edition;
 use crate::placement::push_placement;
 use crate::remark::{Remark, RemarkKind, push_remark};
 use crate::upstream::push_upstream;
 use crate::words::{Source, words_of};
 use rustsec_advisory::Advisory;
 use rustsec_advisory::linter::{self, Linter};
-use rustsec_edition::FoundForm;
+use rustsec_edition::{FoundForm, first_form};
 use rustsec_error::{Error, ErrorKind};
 use rustsec_files::path;
 use rustsec_folders::Folders;
-use rustsec_texts::Id;
+use rustsec_texts::{Id, Parts};
 use rustsec_values::{Items, Text};
 use std::alloc::{AllocError, Global};
 
@@ -122,8 +123,6 @@ pub struct FileNotes {
     /// Words on the advisory, with their lines: the first lint errors, the other remarks, and the requirements that
     /// Cargo's matching reads differently.
     pub words: Items<Text>,
-    /// The line of the advisory's ID, if the file is one's.
-    pub id_line: Option<usize>,
 }
 
 /// A file with its remarks, and the notes on it.
@@ -133,6 +132,8 @@ pub struct Linted {
     pub lint: FileLint,
     /// The notes.
     pub notes: FileNotes,
+    /// The text that `lint_file` read, if any.
+    pub text: Option<Text>,
 }
 
 /// Returns the remarks on a file that is refused, and why.
@@ -143,29 +144,25 @@ fn refused(alloc: Global, path: &str, error: Error) -> Result<Linted, AllocError
     let notes = FileNotes {
         refusal: Some(error),
         words: Items::new(alloc),
-        id_line: None,
     };
-    Ok(Linted { lint, notes })
-}
-
-/// Returns the notes on the file of an advisory that has these remarks.
-fn notes_on(
-    alloc: Global,
-    source: Source<'_>,
-    remarks: &[Remark],
-) -> Result<FileNotes, AllocError> {
-    Ok(FileNotes {
-        refusal: None,
-        words: words_of(alloc, source, remarks)?,
-        id_line: KeyIn::advisory(source.text, "id").line(alloc)?,
+    Ok(Linted {
+        lint,
+        notes,
+        text: None,
     })
 }
 
-/// Returns the remarks on the file of an advisory with this text, and the notes on it.
-fn accepted(alloc: Global, path: &str, text: &str, linter: &Linter) -> Result<Linted, AllocError>
+/// Returns the remarks on the file of an advisory with this text and this first form of TOML 1.1, and the notes on it.
+fn accepted(
+    alloc: Global,
+    path: &str,
+    text: &str,
+    linter: &Linter,
+    found: Option<FoundForm>,
+) -> Result<Linted, AllocError>
+    requires { option_map (λ f. f.form) found ≡ form_of (parts_of text.now) }
     ensures { IfOk result (λ r. r.lint ≡ of_advisory path.now text.now linter.now.advisory linter.now.errors) }
 {
-    let found = form_in(alloc, text)?;
     let lint = of_advisory(alloc, path, linter, found)?;
     let source = Source {
         path,
@@ -173,8 +170,43 @@ fn accepted(alloc: Global, path: &str, text: &str, linter: &Linter) -> Result<Li
         linter,
         found,
     };
-    let notes = notes_on(alloc, source, lint.remarks.as_slice())?;
-    Ok(Linted { lint, notes })
+    let notes = FileNotes {
+        refusal: None,
+        words: words_of(alloc, source, lint.remarks.as_slice())?,
+    };
+    Ok(Linted {
+        lint,
+        notes,
+        text: None,
+    })
+}
+
+/// Returns the remarks on a text without the parts of an advisory, which the linter refuses, and the notes on it.
+fn without_parts(alloc: Global, path: &str, text: &str) -> Result<Linted, AllocError>
+    requires { parts_of text.now ≡ None }
+    ensures { IfOk result (λ r. IsLintOf path.now text.now r.lint) }
+{
+    match Linter::lint_string(alloc, text, Some(path::is_draft(path))) {
+        Ok(linter) => accepted(alloc, path, text, &linter, None),
+        Err(error) => refused(alloc, path, error),
+    }
+}
+
+/// Returns the remarks on a text with these parts, and the notes on it.
+fn with_parts(alloc: Global, path: &str, text: &str, parts: Parts<'_>) -> Result<Linted, AllocError>
+    requires { parts_of text.now ≡ Some (record {
+      front_matter = parts.front_matter.now;
+      markdown = parts.markdown.now;
+      title = parts.title.now;
+      description = parts.description.now;
+    }) }
+    ensures { IfOk result (λ r. IsLintOf path.now text.now r.lint) }
+{
+    let found = first_form(alloc, parts.front_matter)?;
+    match Linter::lint_parts(alloc, text, parts, Some(path::is_draft(path))) {
+        Ok(linter) => accepted(alloc, path, text, &linter, found),
+        Err(error) => refused(alloc, path, error),
+    }
 }
 
 /// Lints the text of a file: finds its lint errors or that it is not an advisory, whether its path fits the advisory,
@@ -190,9 +222,9 @@ pub fn lint_source(alloc: Global, path: &str, text: &str) -> Result<Linted, Allo
     // The place of the file has no remark exactly if loading a database accepts it.
     ensures placed { (a : given.Advisory) → HasNone path.now a }
 {
-    match Linter::lint_string(alloc, text, Some(path::is_draft(path))) {
-        Ok(linter) => accepted(alloc, path, text, &linter),
-        Err(error) => refused(alloc, path, error),
+    match Parts::parse(alloc, text) {
+        Ok(parts) => with_parts(alloc, path, text, parts),
+        Err(_) => without_parts(alloc, path, text),
     }
 }
 
@@ -211,7 +243,11 @@ pub fn lint_file<F: Folders>(
     ensures same { AllowSame (F.allowed folders.old) (F.allowed folders.new) }
 {
     match folders.read(alloc, path) {
-        Ok(text) => lint_source(alloc, path, text.as_str()),
+        Ok(text) => {
+            let mut linted = lint_source(alloc, path, text.as_str())?;
+            linted.text = Some(text);
+            Ok(linted)
+        }
         Err(error) => refused(alloc, path, error),
     }
 }

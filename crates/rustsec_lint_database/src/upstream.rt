@@ -1,8 +1,6 @@
 //! What the Rust crate refuses of an advisory.
 
-ghost use Rattle.std.specs.Prelude.{◌≡◌, ◌++◌, IfOk, OnOk, is_some, map};
-ghost use Rattle.rustsec_versions.specs.Lists.{accepted_apart};
-ghost use Rattle.rustsec_versions.specs.Views.{comparators_of};
+ghost use Rattle.std.specs.Prelude.{◌≡◌, ◌++◌, IfOk, OnOk, is_some};
 ghost use Rattle.rustsec_advisory.specs.Addresses.{address_of};
 ghost use Rattle.rustsec_lint_database.specs.Upstream.{overlap_remarks, source_remarks, upstream_remarks};
 
@@ -13,51 +11,7 @@ use rustsec_error::ErrorKind;
 use rustsec_lock::SourceId;
 use rustsec_values::{Items, Text};
 use rustsec_versions::Versions;
-use semver::VersionReq;
 use std::alloc::{AllocError, Global};
-
-/// Returns an equal requirement.
-fn copy_of(requirement: &VersionReq) -> Result<VersionReq, AllocError>
-    ensures { IfOk result (λ r. comparators_of r ≡ comparators_of requirement.now) }
-{
-    let copy = requirement.clone()?;
-    Ok(copy)
-}
-
-/// Appends copies of the requirements of a list.
-fn push_copies(all: &mut Vec<VersionReq>, list: &[VersionReq]) -> Result<(), AllocError>
-    ensures { OnOk result (map comparators_of all.new.items ≡ map comparators_of all.old.items ++ map comparators_of list.now) }
-{
-    for requirement in list {
-        let copy = copy_of(requirement)?;
-        all.push(copy)?;
-    }
-    Ok(())
-}
-
-/// Returns copies of the patched requirements, and after them of the unaffected ones.
-fn all_of(alloc: Global, versions: &Versions) -> Result<Vec<VersionReq>, AllocError>
-    ensures { IfOk result (λ v. map comparators_of v.items ≡ versions.now.patched ++ versions.now.unaffected) }
-{
-    let mut all = Vec::new(alloc);
-    push_copies(&mut all, versions.patched())?;
-    push_copies(&mut all, versions.unaffected())?;
-    Ok(all)
-}
-
-/// Returns whether no two requirements overlap, whichever lists they are in.
-fn are_apart(alloc: Global, versions: &Versions) -> Result<bool, AllocError>
-    ensures { IfOk result (λ b. b ≡ accepted_apart versions.now) }
-{
-    let all = all_of(alloc, versions)?;
-    match Versions::new(alloc, Vec::new(alloc), all) {
-        Ok(_) => Ok(true),
-        Err(e) => match e.kind() {
-            ErrorKind::BadParam => Ok(false),
-            _ => Err(AllocError),
-        },
-    }
-}
 
 /// Appends the remark on patched requirements that overlap.
 fn push_overlap(
@@ -67,7 +21,7 @@ fn push_overlap(
 ) -> Result<(), AllocError>
     ensures { OnOk result (remarks.new ≡ remarks.old ++ overlap_remarks versions.now) }
 {
-    if are_apart(alloc, versions)? {
+    if versions.are_apart(alloc)? {
         return Ok(());
     }
     let text = "the Rust crate refuses patched requirements that overlap";

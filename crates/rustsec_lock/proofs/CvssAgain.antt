@@ -1,9 +1,10 @@
 -- Parsing the printed text of base metrics gives the same metrics.
-use Rattle.std.proofs.Common.{◌≡◌, ◌∙◌, ℕ, ◌==◌, false, List, [], ◌∷◌, ◌++◌, Some, All, refl, ap, codes, rules}
+use Rattle.std.proofs.Common.{◌≡◌, ◌∙◌, ℕ, ◌==◌, false, List, [], ◌∷◌, ◌++◌, Option, Some, All, refl, ap, codes, rules}
 use Rattle.std.proofs.lemmas.List.Splits.{slice_split_at, slice_split_none}
 use Rattle.std.specs.Fmt.{digits}
+use Rattle.rustsec_values.specs.ClosedTables.{value_named}
 use Rattle.rustsec_lock.specs.Cvss.{base_of, base_text, cvss_of, given, metrics_of, parts_of}
-use Rattle.rustsec_lock.specs.Metrics.{attack_complexity_letter, attack_complexity_of, attack_vector_letter, attack_vector_of, availability_letter, availability_of, confidentiality_letter, confidentiality_of, integrity_letter, integrity_of, privileges_required_letter, privileges_required_of, scope_letter, scope_of, user_interaction_letter, user_interaction_of}
+use Rattle.rustsec_lock.specs.Metrics.{attack_complexity_letter, attack_complexity_values, attack_vector_letter, attack_vector_values, availability_letter, availability_values, confidentiality_letter, confidentiality_values, integrity_letter, integrity_values, privileges_required_letter, privileges_required_values, scope_letter, scope_values, user_interaction_letter, user_interaction_values}
 use Rattle.rustsec_lock.specs.declared.cvss.Cvss.TheVariants as cvss
 use Rattle.rustsec_lock.specs.declared.metrics.Base.{Base}
 use Rattle.rustsec_lock.specs.declared.metrics.AttackComplexity.{AttackComplexity}
@@ -22,6 +23,34 @@ use Rattle.rustsec_lock.specs.declared.metrics.Scope.{Scope}
 use Rattle.rustsec_lock.specs.declared.metrics.Scope.TheVariants as scope
 use Rattle.rustsec_lock.specs.declared.metrics.UserInteraction.{UserInteraction}
 use Rattle.rustsec_lock.specs.declared.metrics.UserInteraction.TheVariants as user_interaction
+
+-- ---- the value of a letter, if any
+
+abbrev attack_vector_of : List ℕ → Option AttackVector
+attack_vector_of = value_named attack_vector_letter attack_vector_values
+
+abbrev attack_complexity_of : List ℕ → Option AttackComplexity
+attack_complexity_of = value_named attack_complexity_letter attack_complexity_values
+
+abbrev privileges_required_of : List ℕ → Option PrivilegesRequired
+privileges_required_of = value_named privileges_required_letter privileges_required_values
+
+abbrev user_interaction_of : List ℕ → Option UserInteraction
+user_interaction_of = value_named user_interaction_letter user_interaction_values
+
+abbrev scope_of : List ℕ → Option Scope
+scope_of = value_named scope_letter scope_values
+
+abbrev confidentiality_of : List ℕ → Option Confidentiality
+confidentiality_of = value_named confidentiality_letter confidentiality_values
+
+abbrev integrity_of : List ℕ → Option Integrity
+integrity_of = value_named integrity_letter integrity_values
+
+abbrev availability_of : List ℕ → Option Availability
+availability_of = value_named availability_letter availability_values
+
+-- ---- the texts of metrics
 
 -- no byte is a slash
 abbrev HasNoSlash : List ℕ → Type 0

@@ -7,8 +7,8 @@ use Rattle.semver.specs.Parse.{Parts, version_parts}
 use Rattle.toml.specs.Data.{Data, Members, as_str, as_table}
 use Rattle.rustsec_values.specs.Reading.{◌>>=◌, before, read_all, read_optional, value_of}
 use Rattle.rustsec_toml.specs.Fields.{optional, required}
-use Rattle.rustsec_versions.specs.Precedence.{IsVersion}
-use Rattle.rustsec_versions.proofs.Parsed.{IsVersion-read}
+use Rattle.rustsec_versions.specs.order.Precedence.{IsVersion}
+use Rattle.rustsec_versions.proofs.lemmas.requirement.Parsed.{IsVersion-read}
 use Rattle.rustsec_lock.specs.Lockfile.{AreValid, package_in, package_of, version_of}
 use Rattle.rustsec_lock.specs.Names.{name_of}
 use Rattle.rustsec_lock.specs.Package.{PackageValue}

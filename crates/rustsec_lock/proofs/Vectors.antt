@@ -2,8 +2,8 @@
 use Rattle.std.proofs.Common.{◌≡◌, ◌∙◌, ◌==◌, ℕ, List, [], ◌∷◌, ◌++◌, Option, Some, None, IsPermutation, ap, arith, codes, length, refl, sym}
 use Rattle.std.proofs.lemmas.List.Sorted.{length_permutation}
 use Rattle.rustsec_values.specs.Reading.{◌>>=◌, only_if}
-use Rattle.rustsec_versions.proofs.RangeEnds.{one-IsPermutation}
-use Rattle.rustsec_versions.proofs.Shuffled.{IsPermutation-filter_map}
+use Rattle.rustsec_versions.proofs.lemmas.ranges.RangeEnds.{one-IsPermutation}
+use Rattle.rustsec_versions.proofs.lemmas.lists.Shuffled.{IsPermutation-filter_map}
 use Rattle.rustsec_lock.specs.Cvss.{base_of, after_prefix, cvss_of, given, lone, metrics_of, or_else, parts_of}
 use Rattle.rustsec_lock.specs.declared.cvss.Cvss.{Cvss}
 use Rattle.rustsec_lock.specs.declared.cvss.Cvss.TheVariants as cvss

@@ -10,7 +10,7 @@ use Rattle.rustsec_files.specs.ReadFailures.{IsReadFailure}
 use Rattle.rustsec_folders.specs.Allowed.{Allowed}
 use Rattle.rustsec_error.specs.Failure.{Failure, IsMemory, IsRefusal}
 use Rattle.rustsec_error.specs.declared.error.ErrorKind.TheVariants as kind
-use Rattle.rustsec_versions.specs.Precedence.{IsVersion}
+use Rattle.rustsec_versions.specs.order.Precedence.{IsVersion}
 use Rattle.rustsec_lock.specs.Names.{name_of}
 use Rattle.rustsec_lock.specs.Package.{PackageValue}
 use Rattle.rustsec_lock.specs.Source.{source_id_of}

@@ -1,6 +1,5 @@
 -- The letters of the values of the base metrics: CVSS 3.1, section 6, table 15.
-use Rattle.std.specs.Prelude.{ℕ, List, [], ◌∷◌, Option, codes}
-use Rattle.rustsec_values.specs.ClosedTables.{value_named}
+use Rattle.std.specs.Prelude.{ℕ, List, [], ◌∷◌, codes}
 use Rattle.rustsec_lock.specs.declared.metrics.AttackComplexity.{AttackComplexity}
 use Rattle.rustsec_lock.specs.declared.metrics.AttackComplexity.TheVariants as attack_complexity
 use Rattle.rustsec_lock.specs.declared.metrics.AttackVector.{AttackVector}
@@ -83,29 +82,3 @@ integrity_values = integrity.None ∷ integrity.Low ∷ integrity.High ∷ []
 
 abbrev pub availability_values : List Availability
 availability_values = availability.None ∷ availability.Low ∷ availability.High ∷ []
-
--- ---- the value of a letter, if any
-
-abbrev pub attack_vector_of : List ℕ → Option AttackVector
-attack_vector_of = value_named attack_vector_letter attack_vector_values
-
-abbrev pub attack_complexity_of : List ℕ → Option AttackComplexity
-attack_complexity_of = value_named attack_complexity_letter attack_complexity_values
-
-abbrev pub privileges_required_of : List ℕ → Option PrivilegesRequired
-privileges_required_of = value_named privileges_required_letter privileges_required_values
-
-abbrev pub user_interaction_of : List ℕ → Option UserInteraction
-user_interaction_of = value_named user_interaction_letter user_interaction_values
-
-abbrev pub scope_of : List ℕ → Option Scope
-scope_of = value_named scope_letter scope_values
-
-abbrev pub confidentiality_of : List ℕ → Option Confidentiality
-confidentiality_of = value_named confidentiality_letter confidentiality_values
-
-abbrev pub integrity_of : List ℕ → Option Integrity
-integrity_of = value_named integrity_letter integrity_values
-
-abbrev pub availability_of : List ℕ → Option Availability
-availability_of = value_named availability_letter availability_values

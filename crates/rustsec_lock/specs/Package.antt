@@ -13,7 +13,7 @@ use Rattle.std.proofs.Common.{ap}
 use Rattle.rustsec_values.specs.Equality.{both_true, option_decides}
 use Rattle.rustsec_versions.specs.EqualityLaws.{version_decides}
 use Rattle.rustsec_versions.specs.Equality.{version_eq, version_equiv}
-use Rattle.rustsec_versions.specs.Precedence.{version_order}
+use Rattle.rustsec_versions.specs.order.Precedence.{version_order}
 use Rattle.rustsec_lock.specs.Source.{Source}
 use Rattle.rustsec_lock.specs.SourceOrder.{source_cmp, source_decides, source_eq, source_equiv, source_ties, source_total}
 

@@ -64,7 +64,7 @@ fn push_sizes(text: &mut String, written: &Written<'_, '_>) -> std::result::Resu
     ensures ok { OnOk result (string_bytes text.new ≡ string_bytes text.old ++ looked_at_words (length written.now.packages) (length written.now.advisories)) }
     ensures short { OnOk result (length (string_bytes text.new) ≤ length (string_bytes text.old) + 150) }
 {
-    let advisories = written.database.iter().as_slice().len();
+    let advisories = written.database.advisories().len();
     push_looked_at(text, written.lockfile.packages.len(), advisories)
 }
 

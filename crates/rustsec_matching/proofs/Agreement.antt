@@ -9,10 +9,10 @@ use Rattle.semver.specs.Identifiers.{comparator_view}
 use Rattle.semver.specs.declared.Comparator.{Comparator}
 use Rattle.semver.specs.EvalViews.{view_op}
 use Rattle.semver.specs.Parse.{Held, Parts}
-use Rattle.rustsec_versions.specs.Interval.{Endpoint, Interval, exclusive, holds, inclusive, is_after, is_before, reaches, unbounded}
-use Rattle.rustsec_versions.specs.Precedence.{is_at_most, is_below, precedence}
-use Rattle.rustsec_versions.specs.Requirement.{Side, interval_of, lower, neither, of_sides, side_of, stated, upper}
-use Rattle.rustsec_versions.proofs.PrecedenceLaws.{at_most-below, at_most-trans, below-at_most, below-weak, not_at_most}
+use Rattle.rustsec_versions.specs.interval.Interval.{Endpoint, Interval, exclusive, holds, inclusive, is_after, is_before, reaches, unbounded}
+use Rattle.rustsec_versions.specs.order.Precedence.{is_at_most, is_below, precedence}
+use Rattle.rustsec_versions.specs.requirement.Requirement.{Side, interval_of, lower, neither, of_sides, side_of, stated, upper}
+use Rattle.rustsec_versions.proofs.lemmas.order.PrecedenceLaws.{at_most-below, at_most-trans, below-at_most, below-weak, not_at_most}
 use Rattle.rustsec_matching.specs.Matching.{Agree, IsRelease, LeavesLast, first_patch}
 use Rattle.rustsec_matching.proofs.Requirements.{admitted-is, and-swap, both, given, none-or-some, of-one, of-release, of-two, some-same}
 use Rattle.rustsec_matching.proofs.Sides.{EndOr, StartOr, end-or, start-or}

@@ -5,8 +5,8 @@ use Rattle.std.specs.List.{Any}
 use Rattle.std.proofs.lemmas.List.Elements.{All-head}
 use Rattle.semver.specs.Identifiers.{parts_of}
 use Rattle.semver.specs.Parse.{Held, Parts}
-use Rattle.rustsec_versions.specs.Interval.{Interval, holds}
-use Rattle.rustsec_versions.specs.Requirement.{interval_of}
+use Rattle.rustsec_versions.specs.interval.Interval.{Interval, holds}
+use Rattle.rustsec_versions.specs.requirement.Requirement.{interval_of}
 use Rattle.rustsec_matching.specs.declared.difference.Difference.{Difference}
 use Rattle.rustsec_matching.specs.Matching.{Agree, IsDifference, IsReadAs, LeavesLast, first_patch, is_greater, is_read_differently}
 use Rattle.rustsec_matching.proofs.Agreement.{AgreeAtPatches}

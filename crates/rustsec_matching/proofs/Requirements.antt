@@ -5,9 +5,9 @@ use Rattle.std.specs.List.{list_all}
 use Rattle.semver.specs.EvalViews.{matches_views, view_op}
 use Rattle.semver.specs.Parse.{Held, Parts}
 use Rattle.rustsec_values.specs.Reading.{only_if}
-use Rattle.rustsec_versions.specs.Interval.{Interval, holds, reaches}
-use Rattle.rustsec_versions.specs.Precedence.{precedence}
-use Rattle.rustsec_versions.specs.Requirement.{admitted, is_admissible}
+use Rattle.rustsec_versions.specs.interval.Interval.{Interval, holds, reaches}
+use Rattle.rustsec_versions.specs.order.Precedence.{precedence}
+use Rattle.rustsec_versions.specs.requirement.Requirement.{admitted, is_admissible}
 
 -- the interval and the comparator agree on a version
 abbrev pub AgreeOn : Held → Interval → Parts → Type 0

@@ -5,9 +5,9 @@ use Rattle.std.proofs.lemmas.Bool.Decides.{nat_tests}
 use Rattle.semver.specs.EvalViews.{view_op}
 use Rattle.semver.specs.declared.Op.TheVariants as op
 use Rattle.semver.specs.Parse.{Held, Parts}
-use Rattle.rustsec_versions.specs.Interval.{Endpoint, exclusive, inclusive, is_after, is_before, reaches}
-use Rattle.rustsec_versions.specs.Precedence.{is_at_most, is_below, precedence}
-use Rattle.rustsec_versions.specs.Requirement.{lower, side_of, upper}
+use Rattle.rustsec_versions.specs.interval.Interval.{Endpoint, exclusive, inclusive, is_after, is_before, reaches}
+use Rattle.rustsec_versions.specs.order.Precedence.{is_at_most, is_below, precedence}
+use Rattle.rustsec_versions.specs.requirement.Requirement.{lower, side_of, upper}
 use Rattle.rustsec_matching.specs.Matching.{LeavesLast, first_patch}
 use Rattle.rustsec_matching.proofs.Releases as release
 use Rattle.rustsec_matching.proofs.Zeros.{same-end, same-start}

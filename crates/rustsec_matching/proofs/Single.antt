@@ -5,9 +5,9 @@ use Rattle.std.proofs.lemmas.Bool.Decides.{nat_tests}
 use Rattle.semver.specs.EvalViews.{view_op}
 use Rattle.semver.specs.declared.Op.TheVariants as op
 use Rattle.semver.specs.Parse.{Held, Parts}
-use Rattle.rustsec_versions.specs.Interval.{Endpoint, Interval, inclusive, is_after, is_before, unbounded}
-use Rattle.rustsec_versions.specs.Precedence.{is_at_most}
-use Rattle.rustsec_versions.specs.Requirement.{named, of_one}
+use Rattle.rustsec_versions.specs.interval.Interval.{Endpoint, Interval, inclusive, is_after, is_before, unbounded}
+use Rattle.rustsec_versions.specs.order.Precedence.{is_at_most}
+use Rattle.rustsec_versions.specs.requirement.Requirement.{base_version, of_one}
 use Rattle.rustsec_matching.specs.Matching.{LeavesLast, first_patch}
 use Rattle.rustsec_matching.proofs.Releases as release
 use Rattle.rustsec_matching.proofs.Requirements.{AgreeOn, and-true, some-same}
@@ -41,7 +41,7 @@ module _ (i : Interval) (v : Parts) (none : v.3 ≡ []) where
   Same c j = AgreeOn c j v
 
   abbrev point : Held → Interval
-  point c = record { start = inclusive (named c); end = inclusive (named c) }
+  point c = record { start = inclusive (base_version c); end = inclusive (base_version c) }
 
   exact : (a : ℕ) (m n : Option ℕ) (p : List ℕ) → LeavesLast (op.Exact, a, m, n, p)
       → AgreeOn (op.Exact, a, m, n, p) (point (op.Exact, a, m, n, p)) (first_patch (op.Exact, a, m, n, p)) → Same (op.Exact, a, m, n, p) (point (op.Exact, a, m, n, p))

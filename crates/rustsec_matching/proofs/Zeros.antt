@@ -5,9 +5,9 @@ use Rattle.semver.specs.EvalViews.{view_op}
 use Rattle.semver.specs.declared.Op.TheVariants as op
 use Rattle.semver.specs.Parse.{Held, Parts}
 use Rattle.rustsec_values.specs.Reading.{only_if}
-use Rattle.rustsec_versions.specs.Interval.{Endpoint, Interval, holds, is_after, is_before, unbounded}
-use Rattle.rustsec_versions.specs.Precedence.{is_at_most, is_below}
-use Rattle.rustsec_versions.specs.Requirement.{Side, fits, interval_of, least_of, lower, named, neither, of_one, of_sides, side_of, stated, up_to, upper}
+use Rattle.rustsec_versions.specs.interval.Interval.{Endpoint, Interval, holds, is_after, is_before, unbounded}
+use Rattle.rustsec_versions.specs.order.Precedence.{is_at_most, is_below}
+use Rattle.rustsec_versions.specs.requirement.Requirement.{Side, fits, interval_of, least_of, lower, base_version, neither, of_one, of_sides, side_of, stated, up_to, upper}
 use Rattle.rustsec_matching.specs.Matching.{Agree, with_zeros}
 use Rattle.rustsec_matching.proofs.Releases as release
 use Rattle.rustsec_matching.proofs.Requirements.{AgreeOn, admitted-is, and-swap, and-true, both, given, none-or-some, of-one, of-release, of-two, some-same}
@@ -32,8 +32,8 @@ module _ (v : Parts) (none : v.3 ≡ []) where
 
   module _ (i : Interval) where
     -- the interval is the one that the operator gives
-    at-end : (c : Held) (e : Parts) (b : Bool) → option_map (up_to (named c)) (only_if b (Some e)) ≡ Some i → AgreeOn c (up_to (named c) e) v → AgreeOn c i v
-    at-end c e b is same = subst (λ j. AgreeOn c j v) (mapped (up_to (named c)) b e i is) same
+    at-end : (c : Held) (e : Parts) (b : Bool) → option_map (up_to (base_version c)) (only_if b (Some e)) ≡ Some i → AgreeOn c (up_to (base_version c) e) v → AgreeOn c i v
+    at-end c e b is same = subst (λ j. AgreeOn c j v) (mapped (up_to (base_version c)) b e i is) same
 
     pub caret : (a : ℕ) (m n : Option ℕ) (p : List ℕ) → of_one op.Caret (op.Caret, a, m, n, p) ≡ Some i → AgreeOn (op.Caret, a, m, n, p) i v
     caret a None (Some n) p is = cc is

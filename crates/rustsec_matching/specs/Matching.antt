@@ -4,9 +4,9 @@ use Rattle.semver.specs.EvalViews.{matches_views}
 use Rattle.semver.specs.Parse.{Held, Parts}
 use Rattle.semver.specs.declared.Op.{Op}
 use Rattle.semver.specs.declared.Op.TheVariants as op
-use Rattle.rustsec_versions.specs.Interval.{Interval, holds}
-use Rattle.rustsec_versions.specs.Precedence.{IsVersion}
-use Rattle.rustsec_versions.specs.Requirement.{interval_of}
+use Rattle.rustsec_versions.specs.interval.Interval.{Interval, holds}
+use Rattle.rustsec_versions.specs.order.Precedence.{IsVersion}
+use Rattle.rustsec_versions.specs.requirement.Requirement.{interval_of}
 
 -- a release: a valid version without a pre-release (SemVer 2.0.0, section 9)
 pub record IsRelease (v : Parts) : Type 0 where

@@ -6,9 +6,9 @@ ghost use Rattle.semver.specs.EvalViews.{matches_views};
 ghost use Rattle.semver.specs.Identifiers.{comparator_view, parts_of};
 ghost use Rattle.semver.specs.Parse.{Held, Parts, req_of};
 ghost use Rattle.rustsec_error.specs.Failure.{IsRefusal};
-ghost use Rattle.rustsec_versions.specs.Interval.{Interval};
+ghost use Rattle.rustsec_versions.specs.interval.Interval.{Interval};
 ghost use Rattle.rustsec_versions.specs.Memory.{hold_no_text};
-ghost use Rattle.rustsec_versions.specs.Requirement.{interval_of};
+ghost use Rattle.rustsec_versions.specs.requirement.Requirement.{interval_of};
 ghost use Rattle.rustsec_versions.specs.Views.{comparators_of};
 ghost use Rattle.rustsec_matching.specs.Matching.{Agree, IsDifference, IsReadAlike, IsReadAs, IsRelease, IsWhole, LeavesLast, first_patch, is_greater, is_read_differently, with_zeros};
 

@@ -7,16 +7,16 @@ use Rattle.std.proofs.lemmas.List.Sorted.{All-permutation}
 use Rattle.std.proofs.lemmas.Option.{none-some, same_Some}
 use Rattle.semver.specs.Grammar.{IsValid}
 use Rattle.semver.specs.Parse.{Parts}
-use Rattle.rustsec_versions.specs.Interval.{Endpoint, Interval, exclusive, inclusive, unbounded}
-use Rattle.rustsec_versions.specs.Lists.{Lists, intervals}
-use Rattle.rustsec_versions.specs.Ranges.{Range, lower_cut, lower_cuts, upper_cut, upper_cuts}
-use Rattle.rustsec_versions.specs.Requirement.{least_of}
-use Rattle.rustsec_versions.specs.AcceptedRanges.{AreMergedRanges}
-use Rattle.rustsec_versions.proofs.Agreement.{intervals-admissible}
-use Rattle.rustsec_versions.proofs.Clashes.{AllSound, intervals-sound}
-use Rattle.rustsec_versions.proofs.MergedFit.{merged-fit}
-use Rattle.rustsec_versions.proofs.LeastAbove.{successor-valid}
-use Rattle.rustsec_versions.proofs.Sound.{IsSound, IsSoundEnd}
+use Rattle.rustsec_versions.specs.interval.Interval.{Endpoint, Interval, exclusive, inclusive, unbounded}
+use Rattle.rustsec_versions.specs.acceptance.Lists.{Lists, intervals}
+use Rattle.rustsec_versions.specs.ranges.Ranges.{Range, lower_cut, lower_cuts, upper_cut, upper_cuts}
+use Rattle.rustsec_versions.specs.requirement.Requirement.{least_of}
+use Rattle.rustsec_versions.specs.ranges.AcceptedRanges.{AreMergedRanges}
+use Rattle.rustsec_versions.proofs.lemmas.ranges.Agreement.{intervals-admissible}
+use Rattle.rustsec_versions.proofs.lemmas.acceptance.Clashes.{AllSound, intervals-sound}
+use Rattle.rustsec_versions.proofs.lemmas.acceptance.MergedFit.{merged-fit}
+use Rattle.rustsec_versions.proofs.lemmas.order.LeastAbove.{successor-valid}
+use Rattle.rustsec_versions.proofs.lemmas.requirement.Sound.{IsSound, IsSoundEnd}
 use Rattle.rustsec_osv.specs.DocumentEvents.{fixed, introduced}
 use Rattle.rustsec_osv.specs.EventCodec.{IsEventAgain}
 use Rattle.rustsec_osv.specs.Events.{events_of}

@@ -2,9 +2,9 @@
 -- It carries meaning: public contracts cite it.
 use Rattle.std.specs.Prelude.{◌≡◌, ℕ, List, [], ◌∷◌, ◌++◌, Option, Some, None, codes, flat_map, map, option_map, option_to_list}
 use Rattle.std.specs.Map.{keys_of}
-use Rattle.rustsec_versions.specs.Lists.{Lists}
-use Rattle.rustsec_versions.specs.Ranges.{Range}
-use Rattle.rustsec_versions.specs.AcceptedRanges.{AreMergedRanges, HasUnboundedInterval}
+use Rattle.rustsec_versions.specs.acceptance.Lists.{Lists}
+use Rattle.rustsec_versions.specs.ranges.Ranges.{Range}
+use Rattle.rustsec_versions.specs.ranges.AcceptedRanges.{AreMergedRanges, HasUnboundedInterval}
 use Rattle.rustsec_lock.specs.declared.cvss.Cvss.{Cvss}
 use Rattle.rustsec_lock.specs.declared.cvss.Cvss.TheVariants as cvss
 use Rattle.rustsec_texts.specs.Licenses.{license_name}

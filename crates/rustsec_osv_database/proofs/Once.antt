@@ -9,7 +9,7 @@ use Rattle.rustsec_advisory.specs.declared.advisory.Advisory.{Advisory}
 use Rattle.rustsec_osv.specs.Documents.{Document}
 use Rattle.rustsec_osv.specs.Export.{IsDocument, noon}
 use Rattle.rustsec_osv.specs.DocumentCodec.{document_tree}
-use Rattle.rustsec_commands.proofs.Once.{document-once, none-or-some}
+use Rattle.rustsec_commands.proofs.lemmas.Once.{document-once, none-or-some}
 use Rattle.rustsec_commands.specs.Output.{tree_line}
 use Rattle.rustsec_osv_database.specs.Answers.{AreDocuments, HasNoAnswer, IsAnswerOf, IsOwnDocument, affecting, answer_line}
 use Rattle.rustsec_osv_database.specs.Lines.{AreParts, HasNoDocument, IsPart, Part, chosen, exported, is_left_out, left_out, without}

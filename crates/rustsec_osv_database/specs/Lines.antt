@@ -2,7 +2,7 @@
 use Rattle.std.specs.Prelude.{◌≡◌, ◌⊎◌, ◌&&◌, ℕ, Bool, true, false, List, [], None, if◌then◌else◌, is_some}
 use Rattle.std.specs.List.{flat_map, list_any}
 use Rattle.rustsec_folders.specs.Listed.{Pairwise}
-use Rattle.rustsec_versions.specs.AcceptedRanges.{HasUnboundedInterval}
+use Rattle.rustsec_versions.specs.ranges.AcceptedRanges.{HasUnboundedInterval}
 use Rattle.rustsec_advisory.specs.declared.advisory.Advisory.{Advisory}
 use Rattle.rustsec_osv.specs.Documents.{Document}
 use Rattle.rustsec_osv.specs.Export.{IsDocument}

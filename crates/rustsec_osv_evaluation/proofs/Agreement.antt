@@ -5,9 +5,9 @@ use Rattle.std.specs.Str.{bytes_eq}
 use Rattle.std.proofs.lemmas.Slice.Eq.{bytes_eq-Decides}
 use Rattle.semver.specs.Parse.{Parts}
 use Rattle.rustsec_error.specs.Failure.{Failure}
-use Rattle.rustsec_versions.specs.Lists.{affected}
-use Rattle.rustsec_versions.specs.Precedence.{IsVersion}
-use Rattle.rustsec_versions.proofs.Rising.{Rises}
+use Rattle.rustsec_versions.specs.acceptance.Lists.{affected}
+use Rattle.rustsec_versions.specs.order.Precedence.{IsVersion}
+use Rattle.rustsec_versions.proofs.lemmas.order.Rising.{Rises}
 use Rattle.rustsec_folders.specs.Listed.{Pairwise}
 use Rattle.rustsec_advisory.specs.declared.advisory.Advisory.{Advisory}
 use Rattle.rustsec_osv.specs.DocumentEvents.{Event, JsonRange}

@@ -4,9 +4,9 @@ use Rattle.std.specs.Prelude.{not}
 use Rattle.std.specs.List.{AllByRecursion}
 use Rattle.std.proofs.lemmas.Bool.{cases_Bool}
 use Rattle.semver.specs.Parse.{Parts}
-use Rattle.rustsec_versions.specs.Precedence.{is_at_most, is_below}
-use Rattle.rustsec_versions.proofs.PrecedenceLaws.{at_most-trans, below-at_most, below-not_at_most, not_at_most}
-use Rattle.rustsec_versions.proofs.Rising.{Rises, Rises-tail}
+use Rattle.rustsec_versions.specs.order.Precedence.{is_at_most, is_below}
+use Rattle.rustsec_versions.proofs.lemmas.order.PrecedenceLaws.{at_most-trans, below-at_most, below-not_at_most, not_at_most}
+use Rattle.rustsec_versions.proofs.lemmas.order.Rising.{Rises, Rises-tail}
 use Rattle.rustsec_osv.specs.DocumentEvents.{Event, fixed, introduced, last_affected}
 use Rattle.rustsec_osv_evaluation.specs.Event.{seen}
 use Rattle.rustsec_osv_evaluation.specs.Pairs.{are_at_one, at, normalized}

@@ -4,10 +4,10 @@ use Rattle.std.specs.List.{AllByRecursion}
 use Rattle.std.specs.List.Sorted.{IsSorted}
 use Rattle.std.proofs.lemmas.List.Sorted.{IsPermutation-sym}
 use Rattle.semver.specs.Parse.{Parts}
-use Rattle.rustsec_versions.specs.Precedence.{is_at_most, is_below, precedence}
-use Rattle.rustsec_versions.proofs.PrecedenceLaws.{at_most-trans, below-not_at_most, below-weak, not_at_most}
-use Rattle.rustsec_versions.proofs.Rising.{Rises, Rises-from, Rises-tail}
-use Rattle.rustsec_versions.proofs.Shuffled.{Shuffled, both, keep, same, shuffled, turn}
+use Rattle.rustsec_versions.specs.order.Precedence.{is_at_most, is_below, precedence}
+use Rattle.rustsec_versions.proofs.lemmas.order.PrecedenceLaws.{at_most-trans, below-not_at_most, below-weak, not_at_most}
+use Rattle.rustsec_versions.proofs.lemmas.order.Rising.{Rises, Rises-from, Rises-tail}
+use Rattle.rustsec_versions.proofs.lemmas.lists.Shuffled.{Shuffled, both, keep, same, shuffled, turn}
 use Rattle.rustsec_osv_evaluation.specs.Event.{Event, version_of}
 
 -- ---- versions that tie

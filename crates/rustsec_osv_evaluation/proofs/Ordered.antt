@@ -5,8 +5,8 @@ use Rattle.std.specs.List.{list_all}
 use Rattle.std.proofs.lemmas.Bool.{and_from}
 use Rattle.std.proofs.lemmas.List.{drop_all, drop_more}
 use Rattle.semver.specs.Parse.{Parts}
-use Rattle.rustsec_versions.specs.Precedence.{is_at_most}
-use Rattle.rustsec_versions.proofs.Rising.{Rises}
+use Rattle.rustsec_versions.specs.order.Precedence.{is_at_most}
+use Rattle.rustsec_versions.proofs.lemmas.order.Rising.{Rises}
 use Rattle.rustsec_advisory.specs.declared.advisory.Advisory.{Advisory}
 use Rattle.rustsec_error.specs.Failure.{Failure}
 use Rattle.rustsec_osv.specs.DocumentEvents.{Event, event_of}

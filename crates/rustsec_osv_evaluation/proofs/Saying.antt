@@ -6,7 +6,7 @@ use Rattle.std.proofs.lemmas.Bool.{cases_Bool}
 use Rattle.std.proofs.lemmas.List.Elements.{recursion_from_All}
 use Rattle.std.proofs.Common.{suc, arith}
 use Rattle.semver.specs.Parse.{Parts}
-use Rattle.rustsec_versions.specs.Precedence.{is_at_most}
+use Rattle.rustsec_versions.specs.order.Precedence.{is_at_most}
 use Rattle.rustsec_osv.specs.DocumentEvents.{Event, fixed, introduced, last_affected}
 use Rattle.rustsec_osv.specs.Events.{ends_introduced, events_say, is_introduction, is_till}
 use Rattle.rustsec_osv_evaluation.specs.Event.{seen, version_of}

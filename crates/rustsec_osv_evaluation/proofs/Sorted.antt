@@ -3,9 +3,9 @@ use Rattle.std.proofs.Common.{◌≡◌, ◌∙◌, ◌+◌, ◌<◌, ◌||◌, 
 use Rattle.std.specs.List.{list_any}
 use Rattle.std.specs.List.Sorted.{IsSorted, IsSortedByKey}
 use Rattle.std.proofs.lemmas.List.{map_more}
-use Rattle.rustsec_versions.specs.Precedence.{precedence}
-use Rattle.rustsec_versions.proofs.PrecedenceLaws.{not_below}
-use Rattle.rustsec_versions.proofs.Rising.{IsSorted-from, Rises}
+use Rattle.rustsec_versions.specs.order.Precedence.{precedence}
+use Rattle.rustsec_versions.proofs.lemmas.order.PrecedenceLaws.{not_below}
+use Rattle.rustsec_versions.proofs.lemmas.order.Rising.{IsSorted-from, Rises}
 use Rattle.rustsec_folders.specs.Listed.{Pairwise}
 use Rattle.rustsec_folders.proofs.Lists.{pairwise-push, pairwise-step}
 use Rattle.rustsec_osv_evaluation.specs.Document.{are_any}

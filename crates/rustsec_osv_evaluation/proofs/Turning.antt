@@ -5,12 +5,12 @@ use Rattle.std.proofs.Common.{◌&&◌}
 use Rattle.std.proofs.lemmas.List.Elements.{recursion_from_All}
 use Rattle.semver.specs.Grammar.{IsValid}
 use Rattle.semver.specs.Parse.{Parts}
-use Rattle.rustsec_versions.specs.AcceptedRanges.{AreMergedRanges}
-use Rattle.rustsec_versions.specs.Lists.{Lists}
-use Rattle.rustsec_versions.specs.Precedence.{IsVersion}
-use Rattle.rustsec_versions.specs.Ranges.{Range, is_followed, is_in_order}
-use Rattle.rustsec_versions.proofs.RangeList.{AllFollowed, followed-to}
-use Rattle.rustsec_versions.proofs.Rising.{Rises}
+use Rattle.rustsec_versions.specs.ranges.AcceptedRanges.{AreMergedRanges}
+use Rattle.rustsec_versions.specs.acceptance.Lists.{Lists}
+use Rattle.rustsec_versions.specs.order.Precedence.{IsVersion}
+use Rattle.rustsec_versions.specs.ranges.Ranges.{Range, is_followed, is_in_order}
+use Rattle.rustsec_versions.proofs.lemmas.ranges.RangeList.{AllFollowed, followed-to}
+use Rattle.rustsec_versions.proofs.lemmas.order.Rising.{Rises}
 use Rattle.rustsec_osv.specs.EventCodec.{IsEventAgain}
 use Rattle.rustsec_osv.specs.DocumentEvents.{Event, fixed, introduced, last_affected}
 use Rattle.rustsec_osv.specs.Events.{events_of}

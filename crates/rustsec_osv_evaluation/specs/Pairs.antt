@@ -2,7 +2,7 @@
 use Rattle.std.specs.Prelude.{◌≡◌, ◌&&◌, Bool, List, [], ◌∷◌, false, if◌then◌else◌, map, option_map}
 use Rattle.std.specs.List.{AllPairs}
 use Rattle.semver.specs.Parse.{Parts}
-use Rattle.rustsec_versions.specs.Precedence.{is_at_most}
+use Rattle.rustsec_versions.specs.order.Precedence.{is_at_most}
 use Rattle.rustsec_osv.specs.DocumentEvents.{Event, JsonRange}
 use Rattle.rustsec_osv.specs.Documents.{Document}
 use Rattle.rustsec_osv.specs.declared.affected.OsvAffected.{OsvAffected}

@@ -3,7 +3,7 @@ use Rattle.std.specs.Prelude.{◌≡◌, ◌&&◌, ◌||◌, Bool, IsPermutation
 use Rattle.std.specs.List.{fold, list_any}
 use Rattle.std.specs.List.Sorted.{IsSorted}
 use Rattle.semver.specs.Parse.{Parts}
-use Rattle.rustsec_versions.specs.Precedence.{is_at_most, is_below, precedence}
+use Rattle.rustsec_versions.specs.order.Precedence.{is_at_most, is_below, precedence}
 use Rattle.rustsec_osv_evaluation.specs.Event.{Event, fixed, introduced, last_affected, limit, version_of}
 
 -- whether a version is affected after an event, by whether it was before it

@@ -7,10 +7,10 @@ ghost use Rattle.rustsec_osv.specs.References.{references_of};
 ghost use Rattle.rustsec_osv_evaluation.specs.Document.{IsAnswer};
 ghost use Rattle.rustsec_osv_evaluation.specs.Order.{has_ordered_events};
 ghost use Rattle.rustsec_osv_evaluation.specs.Pairs.{HaveOwnVersions, normalized_document};
-ghost use Rattle.rustsec_versions.specs.AcceptedRanges.{HasUnboundedInterval};
+ghost use Rattle.rustsec_versions.specs.ranges.AcceptedRanges.{HasUnboundedInterval};
 ghost use Rattle.rustsec_error.specs.Failure.{IsRefusal};
-ghost use Rattle.rustsec_versions.specs.Lists.{affected};
-ghost use Rattle.rustsec_versions.specs.Precedence.{IsVersion};
+ghost use Rattle.rustsec_versions.specs.acceptance.Lists.{affected};
+ghost use Rattle.rustsec_versions.specs.order.Precedence.{IsVersion};
 
 use rustsec_advisory::Advisory;
 use rustsec_error::{ErrorKind, Result};

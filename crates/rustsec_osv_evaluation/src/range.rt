@@ -4,7 +4,7 @@ ghost use Rattle.std.specs.Prelude.{◌≡◌, IfOk, IsPermutation, OnOk, false,
 ghost use Rattle.std.specs.List.{list_any};
 ghost use Rattle.std.specs.List.Sorted.{IsSortedByKey};
 ghost use Rattle.semver.specs.Identifiers.{parts_of};
-ghost use Rattle.rustsec_versions.specs.Precedence.{precedence};
+ghost use Rattle.rustsec_versions.specs.order.Precedence.{precedence};
 ghost use Rattle.rustsec_osv_evaluation.specs.Event.{event_view, version_of};
 ghost use Rattle.rustsec_osv_evaluation.specs.Range.{IsRangeAnswer, after, is_before_limits, is_limit, is_limit_above, say_in_order};
 

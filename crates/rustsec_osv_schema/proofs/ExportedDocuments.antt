@@ -5,9 +5,9 @@ use Rattle.std.proofs.lemmas.Bool.{and_from}
 use Rattle.serde_json.specs.View.{view}
 use Rattle.serde_json.specs.declared.value.Value.{Value}
 use Rattle.rustsec_json.specs.Trees.{list_tree}
-use Rattle.rustsec_versions.specs.Lists.{Lists}
-use Rattle.rustsec_versions.specs.Ranges.{whole}
-use Rattle.rustsec_versions.proofs.Contained.{contains-here}
+use Rattle.rustsec_versions.specs.acceptance.Lists.{Lists}
+use Rattle.rustsec_versions.specs.ranges.Ranges.{whole}
+use Rattle.rustsec_versions.proofs.lemmas.lists.Contained.{contains-here}
 use Rattle.rustsec_advisory.specs.FieldGroups.{kinds_of}
 use Rattle.rustsec_advisory.specs.declared.advisory.Advisory.{Advisory}
 use Rattle.rustsec_advisory.specs.declared.affected.Affected.{Affected}

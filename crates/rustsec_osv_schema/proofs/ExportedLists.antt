@@ -20,7 +20,7 @@ use Rattle.rustsec_osv.specs.declared.reference.OsvReferenceKind.{OsvReferenceKi
 use Rattle.rustsec_osv.specs.declared.reference.OsvReferenceKind.TheVariants as kind
 use Rattle.rustsec_osv.specs.DocumentKinds.{reference_kind_name}
 use Rattle.rustsec_texts.specs.Ids.{IdValue}
-use Rattle.rustsec_versions.specs.Ranges.{Range}
+use Rattle.rustsec_versions.specs.ranges.Ranges.{Range}
 use Rattle.rustsec_osv_schema.specs.Exports.{HasSchemaScore}
 use Rattle.rustsec_osv_schema.specs.Names.{range_types, reference_types}
 use Rattle.rustsec_osv_schema.specs.Schema.{are_ends_alike, are_events, are_severities, is_event, is_range, is_reference, is_severity}

@@ -4,7 +4,7 @@ ghost use Rattle.std.specs.Prelude.{◌≡◌, ◌⊎◌, ℕ, IfErr, IfOk, List
 ghost use Rattle.serde_json.specs.View.{view};
 ghost use Rattle.rustsec_advisory.specs.Advisory.{IsAdvisory};
 ghost use Rattle.rustsec_error.specs.Failure.{IsRefusal};
-ghost use Rattle.rustsec_versions.specs.AcceptedRanges.{HasUnboundedInterval};
+ghost use Rattle.rustsec_versions.specs.ranges.AcceptedRanges.{HasUnboundedInterval};
 ghost use Rattle.rustsec_osv.specs.Documents.{Document};
 ghost use Rattle.rustsec_osv.specs.Export.{IsDocument};
 ghost use Rattle.rustsec_osv.specs.References.{references_of};

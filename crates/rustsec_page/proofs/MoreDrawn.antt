@@ -2,7 +2,7 @@
 use Rattle.std.proofs.Common.{◌≡◌, ◌∙◌, ◌++◌, List, [], ◌∷◌, ap, ap₂, map, sym}
 use Rattle.std.proofs.lemmas.List.{map-append}
 use Rattle.std.proofs.lemmas.List.Elements.{All-push, All-same}
-use Rattle.rustsec_versions.specs.AcceptedRanges.{AreRangesOf}
+use Rattle.rustsec_versions.specs.ranges.AcceptedRanges.{AreRangesOf}
 use Rattle.rustsec_check.specs.Values.{FindingValue}
 use Rattle.rustsec_page.specs.Findings.{AreDrawn, DrawnValue}
 

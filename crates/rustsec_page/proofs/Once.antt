@@ -3,9 +3,9 @@ use Rattle.std.proofs.Common.{◌≡◌, ◌∙◌, ◌++◌, ℕ, List, [], ◌
 use Rattle.std.specs.List.{All}
 use Rattle.std.proofs.lemmas.List.Elements.{All-head, All-tail}
 use Rattle.std.proofs.lemmas.List.Sorted.{IsPermutation-refl}
-use Rattle.rustsec_versions.specs.AcceptedRanges.{AreRangesOf}
-use Rattle.rustsec_versions.specs.Ranges.{Range}
-use Rattle.rustsec_versions.proofs.Agreement.{kept-order}
+use Rattle.rustsec_versions.specs.ranges.AcceptedRanges.{AreRangesOf}
+use Rattle.rustsec_versions.specs.ranges.Ranges.{Range}
+use Rattle.rustsec_versions.proofs.lemmas.ranges.Agreement.{kept-order}
 use Rattle.rustsec_check.specs.Values.{FindingValue}
 use Rattle.rustsec_check_output.specs.CheckTree.{WrittenValue}
 use Rattle.rustsec_page.specs.Findings.{AreDrawn, DrawnValue}

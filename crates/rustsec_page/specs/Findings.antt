@@ -3,8 +3,8 @@ use Rattle.std.specs.Prelude.{◌≡◌, ◌==◌, ◌&&◌, ◌++◌, ℕ, Bool
 use Rattle.std.specs.List.{All, filter, flat_map, list_any}
 use Rattle.semver.specs.Identifiers.{parts_text}
 use Rattle.semver.specs.Parse.{Parts}
-use Rattle.rustsec_versions.specs.AcceptedRanges.{AreRangesOf}
-use Rattle.rustsec_versions.specs.Ranges.{Range}
+use Rattle.rustsec_versions.specs.ranges.AcceptedRanges.{AreRangesOf}
+use Rattle.rustsec_versions.specs.ranges.Ranges.{Range}
 use Rattle.rustsec_lock.specs.Package.{PackageValue}
 use Rattle.rustsec_lock.specs.Score.{severity_text}
 use Rattle.rustsec_lock.specs.declared.severity.Severity.{Severity}

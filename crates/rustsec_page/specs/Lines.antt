@@ -5,8 +5,8 @@ use Rattle.std.specs.List.{filter, flat_map, fold, list_any}
 use Rattle.std.specs.Ordering.{is_eq}
 use Rattle.semver.specs.Identifiers.{parts_text}
 use Rattle.semver.specs.Parse.{Parts}
-use Rattle.rustsec_versions.specs.Precedence.{is_below, precedence}
-use Rattle.rustsec_versions.specs.Ranges.{Range}
+use Rattle.rustsec_versions.specs.order.Precedence.{is_below, precedence}
+use Rattle.rustsec_versions.specs.ranges.Ranges.{Range}
 use Rattle.rustsec_page.specs.Pieces.{Piece, content, drawing, number}
 use Rattle.rustsec_page.specs.declared.drawing.Drawing.TheVariants as part
 

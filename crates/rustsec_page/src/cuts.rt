@@ -3,7 +3,7 @@
 ghost use Rattle.std.specs.Prelude.{◌≡◌, IfOk, OnOk, length, map, option_map};
 ghost use Rattle.std.specs.List.{filter, fold, list_any};
 ghost use Rattle.semver.specs.Identifiers.{parts_of};
-ghost use Rattle.rustsec_versions.specs.Precedence.{is_below};
+ghost use Rattle.rustsec_versions.specs.order.Precedence.{is_below};
 ghost use Rattle.rustsec_page.specs.Lines.{cuts_of, is_level, place, width, with_cut, with_end, with_range, x_from, x_of, x_till};
 
 use rustsec_versions::OsvRange;

@@ -1,7 +1,7 @@
 //! The findings of a check, each with the ranges of versions that its advisory affects.
 
 ghost use Rattle.std.specs.Prelude.{◌≡◌, IfErr, IfOk};
-ghost use Rattle.rustsec_versions.specs.AcceptedRanges.{AreRangesOf};
+ghost use Rattle.rustsec_versions.specs.ranges.AcceptedRanges.{AreRangesOf};
 ghost use Rattle.rustsec_error.specs.Failure.{IsMemory};
 ghost use Rattle.rustsec_page.specs.Findings.{AreDrawn};
 

@@ -1,6 +1,6 @@
 //! The known word that is nearest to an unknown one, for messages.
 
-ghost use Rattle.std.specs.Prelude.{◌≡◌, IfOk, map, option_map};
+ghost use Rattle.std.specs.Prelude.{◌≡◌, ◌<◌, IfOk, OnErr, length, map, option_map};
 ghost use Rattle.rustsec_error.specs.Failure.{IsMemory, IsOfKind};
 ghost use Rattle.rustsec_policy.specs.Nearest.{first_at, nearest};
 
@@ -16,7 +16,8 @@ fn first_at<'a>(
     text: &str,
     steps: usize,
 ) -> Result<Option<&'a str>, AllocError>
-    ensures { IfOk result (λ word. option_map (λ w. w.now) word ≡ first_at steps text.now (map (λ w. w.now) words.now)) }
+    ensures ok { IfOk result (λ word. option_map (λ w. w.now) word ≡ first_at steps text.now (map (λ w. w.now) words.now)) }
+    ensures none { OnErr result (0 < length words.now) }
 {
     for word in words {
         if osa_distance(alloc, text, word)? == steps {
@@ -38,7 +39,10 @@ pub fn nearest_word<'a>(
     words: &[&'a str],
     text: &str,
 ) -> Result<Option<&'a str>, AllocError>
-    ensures { IfOk result (λ word. option_map (λ w. w.now) word ≡ nearest text.now (map (λ w. w.now) words.now)) }
+    ensures ok { IfOk result (λ word. option_map (λ w. w.now) word ≡ nearest text.now (map (λ w. w.now) words.now)) }
+
+    // An empty list takes no memory.
+    ensures none { OnErr result (0 < length words.now) }
 {
     match first_at(alloc, words, text, 1)? {
         Some(word) => Ok(Some(word)),

@@ -2,8 +2,10 @@
 
 ghost use Rattle.std.specs.Prelude.{◌≡◌, Err, IfErr, IfOk, Ok};
 
-use rustsec_error::{Error, Result};
+use rustsec_error::{Error, FromText, Result};
 use rustsec_toml::Section;
+use std::alloc::Global;
+use toml::Value;
 
 /// A refusal, and the key that it is about.
 #[derive(Drop)]
@@ -12,7 +14,7 @@ pub(crate) struct Refused<'a> {
     /// The name of the key's table in messages.
     pub(crate) table: &'a str,
     pub(crate) key: &'a str,
-    /// The index of the entry that is refused, if the value is a list of entries.
+    /// The index of the element that is refused, if the value is a list.
     pub(crate) entry: Option<usize>,
 }
 
@@ -35,6 +37,44 @@ pub(crate) fn at_key<'a, T: Drop>(
             table: section.name,
             key,
             entry: None,
+        }),
+    }
+}
+
+/// Returns whether a value is a text of a type.
+fn is_text<T: FromText>(alloc: Global, value: &Value) -> bool {
+    match value.as_str() {
+        Some(text) => T::from_text(alloc, text).is_ok(),
+        None => false,
+    }
+}
+
+/// Returns the index of the first element of an array that is not a text of a type.
+fn first_other<T: FromText>(alloc: Global, value: Option<&Value>) -> Option<usize> {
+    let elements = value?.as_array()?;
+    elements
+        .iter()
+        .position(|element| !is_text::<T>(alloc, element))
+}
+
+/// Returns what was read at a key of a table whose value may be a list of texts of a type, or the refusal with the key
+/// and the element.
+pub(crate) fn at_element<'a, E: FromText, T: Drop>(
+    alloc: Global,
+    section: Section<'a>,
+    key: &'a str,
+    read: Result<T>,
+) -> Read<'a, T>
+    ensures ok { IfOk result (λ x. read ≡ Ok x) }
+    ensures err { IfErr result (λ r. read ≡ Err r.error) }
+{
+    match read {
+        Ok(value) => Ok(value),
+        Err(error) => Err(Refused {
+            error,
+            table: section.name,
+            key,
+            entry: first_other::<E>(alloc, section.get(key)),
         }),
     }
 }

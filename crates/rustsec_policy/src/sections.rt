@@ -13,7 +13,7 @@ use crate::flags::flag_at;
 use crate::ignored::{Ignored, all_ignored, first_refused, ids_on};
 use crate::keys::{AdvisoryKeys, OutputKeys, TargetKeys, expect_keys};
 use crate::nearest::with_nearest_name;
-use crate::refused::{Read, Refused, at_key};
+use crate::refused::{Read, Refused, at_element, at_key};
 use crate::threshold::Threshold;
 use crate::words::{Denied, OutputFormat};
 use rustsec_error::{Error, ErrorKind, FromText, Result};
@@ -149,7 +149,8 @@ impl AdvisoryPolicy {
         };
         expect_keys::<AdvisoryKeys>(alloc, section)?;
         let ignore = entries_at(alloc, section)?;
-        let informational_warnings = at_key(
+        let informational_warnings = at_element::<Informational, Option<Items<Informational>>>(
+            alloc,
             section,
             "informational_warnings",
             warnings_at(alloc, section),
@@ -191,7 +192,12 @@ impl OutputPolicy {
             place: TablePlace::unknown(),
         };
         expect_keys::<OutputKeys>(alloc, section)?;
-        let deny = at_key(section, "deny", section.texts_at(alloc, "deny"))?;
+        let deny = at_element::<Denied, Items<Denied>>(
+            alloc,
+            section,
+            "deny",
+            section.texts_at(alloc, "deny"),
+        )?;
         let format = at_key(section, "format", section.optional_text_at(alloc, "format"))?;
         let quiet = flag_at(alloc, section, "quiet")?;
         let show_tree = flag_at(alloc, section, "show_tree")?;
@@ -276,8 +282,13 @@ impl TargetPolicy {
             place: TablePlace::unknown(),
         };
         expect_keys::<TargetKeys>(alloc, section)?;
-        let arch = at_key(section, "arch", words_at(alloc, section, "arch"))?;
-        let os = at_key(section, "os", words_at(alloc, section, "os"))?;
+        let arch = at_element::<Arch, Items<Arch>>(
+            alloc,
+            section,
+            "arch",
+            words_at(alloc, section, "arch"),
+        )?;
+        let os = at_element::<OS, Items<OS>>(alloc, section, "os", words_at(alloc, section, "os"))?;
         Ok(TargetPolicy { arch, os })
     }
 }

@@ -14,7 +14,7 @@ use Rattle.rustsec_index.specs.declared.yanked.YankedPackages.{YankedPackages}
 use Rattle.rustsec_check_output.specs.CheckTree.{WrittenValue}
 use Rattle.rustsec_commands.specs.Output.{Output}
 use Rattle.rustsec_page.proofs.Once.{page_once}
-use Rattle.rustsec_commands.proofs.Once.{one-output-of}
+use Rattle.rustsec_commands.proofs.lemmas.Once.{one-output-of}
 use Rattle.rustsec_program.specs.Check.{AreAnswers, AreAnswersTo, IsCheckOutput, IsCheckRefusal, IsCheckResult, IsManyOutput, IsManyRefusal, answered, checked, misused, misused_many, names_none, paths_of, refused, refused_many, separator, worst}
 use Rattle.rustsec_program.specs.CheckOptions.{CheckOption, options_of}
 use Rattle.rustsec_program.specs.Checked.{AreYankedIf, Form, FoundValue, Ground, IsAnswer, IsCheckedOutput, IsCheckedRefusal, IsFound, IsLockfileOutput, IsOutputFor, IsWrittenText, form_of, is_empty, line, places_of, subject_of, written_of}

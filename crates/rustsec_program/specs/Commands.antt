@@ -4,7 +4,7 @@ use Rattle.std.specs.Io.KnownBytes.{Appends}
 use Rattle.rustsec_folders.specs.Allowed.{Allowed}
 use Rattle.rustsec_commands.specs.Commands as old
 use Rattle.rustsec_commands.specs.Output.{Output, usage}
-use Rattle.rustsec_commands.specs.Words as old_words
+use Rattle.rustsec_commands.specs.args.Words as old_words
 use Rattle.rustsec_program.specs.Check.{IsCheckOutput, IsManyOutput}
 use Rattle.rustsec_program.specs.Explain.{IsExplainOutput}
 use Rattle.rustsec_program.specs.Words.{Command, check, command_of, explain, many, short}

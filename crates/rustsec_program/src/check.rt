@@ -13,6 +13,7 @@ use crate::misuse;
 use crate::options::{Options, options_of};
 use crate::output::{self, Output, refusal};
 use crate::plan::Plan;
+use rustsec_check_output::Dated;
 use rustsec_commands::Paths;
 use rustsec_database::Database;
 use rustsec_error::Result;
@@ -34,9 +35,10 @@ fn check_by_plan<'x, F: Folders>(
     ensures same { AllowSame (F.allowed folders.old) (F.allowed folders.new) }
 {
     let database = Database::open_with(alloc, folders, paths.root)?;
+    let dated = Dated::new(&database);
     let ground = Ground {
         plan,
-        database: &database,
+        database: &dated,
     };
     let form = form_of(plan, paths.lock);
     check_lockfile(alloc, folders, form, &ground, paths.lock)

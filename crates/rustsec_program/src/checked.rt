@@ -17,8 +17,7 @@ use crate::plan::Plan;
 use crate::readings::readings_note;
 use crate::wanted::Wanted;
 use rustsec_check::{Check, Subject, Yanked, check, yanked_fail, yanked_packages};
-use rustsec_check_output::{Written, check_line, check_text, many_line};
-use rustsec_database::Database;
+use rustsec_check_output::{Dated, Written, check_line, check_text, many_line};
 use rustsec_error::{Error, ErrorKind, Result};
 use rustsec_folders::Folders;
 use rustsec_index::YankedPackages;
@@ -34,8 +33,8 @@ use std::marker::Model;
 pub struct Ground<'a> {
     /// The plan.
     pub plan: &'a Plan<'a>,
-    /// The database.
-    pub database: &'a Database,
+    /// The database, with the latest date of its advisories.
+    pub database: &'a Dated<'a>,
 }
 
 impl<'a> Model for Ground<'a> {
@@ -52,8 +51,7 @@ fn is_empty(ground: &Ground<'_>, loaded: &Loaded) -> bool
 {
     let plan = ground.plan;
     !plan.allow_empty
-        && (ground.database.iter().as_slice().is_empty()
-            || loaded.locked.lockfile.packages.is_empty())
+        && (ground.database.advisories().is_empty() || loaded.locked.lockfile.packages.is_empty())
 }
 
 /// Returns the text of a check of the lockfile with the text `lock`.
@@ -148,7 +146,7 @@ fn check_output<'x, 'c>(
     ensures err { IfErr result IsMemory }
 {
     let plan = ground.plan;
-    let advisories = ground.database.iter().as_slice().len();
+    let advisories = ground.database.advisories().len();
     let notes = notes_of(alloc, &plan.wanted, advisories, loaded)?;
     let written = Written {
         database: ground.database,
@@ -170,7 +168,7 @@ fn subject_of<'x>(ground: &'x Ground<'x>, loaded: &'x Loaded) -> Subject<'x>
 {
     let plan = ground.plan;
     Subject {
-        database: ground.database,
+        database: ground.database.database(),
         lockfile: &loaded.locked.lockfile,
         graph: &loaded.locked.graph,
         settings: &plan.wanted.settings,

@@ -18,6 +18,7 @@ use crate::options::{Options, options_of};
 use crate::output::{self, Output, refusal};
 use crate::plan::Plan;
 use crate::shapes::Shape;
+use rustsec_check_output::Dated;
 use rustsec_commands::{Paths, tree_line};
 use rustsec_database::Database;
 use rustsec_error::{ErrorKind, Result};
@@ -85,7 +86,7 @@ fn pairs_of<'x>(
 {
     let plan = ground.plan;
     let settings = &plan.wanted.settings;
-    let advisories = ground.database.iter().as_slice();
+    let advisories = ground.database.advisories();
     let packages = lockfile.packages.as_slice();
     match known_id(alloc, text)? {
         Some(id) => explain_id(alloc, settings, advisories, packages, &id),
@@ -138,9 +139,10 @@ fn explain_by_plan<'x, F: Folders>(
 {
     let database = Database::open_with(alloc, folders, paths.root)?;
     let lockfile = Lockfile::load_with(alloc, folders, paths.lock)?;
+    let dated = Dated::new(&database);
     let ground = Ground {
         plan,
-        database: &database,
+        database: &dated,
     };
     let output = pairs_output(alloc, &ground, &lockfile, text)?;
     Ok(output)

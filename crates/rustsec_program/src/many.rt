@@ -17,7 +17,7 @@ use crate::misuse;
 use crate::options::{Options, options_of};
 use crate::output::{self, Output, refusal, why};
 use crate::plan::Plan;
-use rustsec_check_output::refused_line;
+use rustsec_check_output::{Dated, refused_line};
 use rustsec_database::Database;
 use rustsec_error::{Error, ErrorKind, Result};
 use rustsec_folders::Folders;
@@ -238,9 +238,10 @@ fn answers_by_plan<'x, F: Folders, N: Write>(
     ensures same { AllowSame (F.allowed folders.old) (F.allowed folders.new) }
 {
     let database = Database::open_with(alloc, folders, work.root)?;
+    let dated = Dated::new(&database);
     let ground = Ground {
         plan,
-        database: &database,
+        database: &dated,
     };
     let output = answers(alloc, folders, &ground, work.paths, notes)?;
     Ok(output)

@@ -6,7 +6,7 @@ use Rattle.std.specs.List.{list_any}
 use Rattle.std.specs.Option.{option_eq}
 use Rattle.std.specs.Ordering.{is_lt}
 use denote.Enum.Bare.{sameb}
-use Rattle.rustsec_versions.specs.Lists.{affected}
+use Rattle.rustsec_versions.specs.acceptance.Lists.{affected}
 use Rattle.rustsec_lock.specs.Cvss.{cvss_severity}
 use Rattle.rustsec_lock.specs.Score.{severity_cmp}
 use Rattle.rustsec_lock.specs.Source.{Source, default_source, url_of}

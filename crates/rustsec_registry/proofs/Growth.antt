@@ -9,7 +9,7 @@ use Rattle.rustsec_error.specs.Failure.{Failure}
 use Rattle.rustsec_error.specs.declared.error.ErrorKind.TheVariants as kind
 use Rattle.rustsec_lock.specs.Package.{PackageValue}
 use Rattle.rustsec_registry.specs.Lookups.{Answer, AreAnswers, IsKeptOf, IsKeptOfSome, Kept, at}
-use Rattle.rustsec_registry.specs.Packages.{AreDistinct, has_name}
+use Rattle.rustsec_registry.specs.Packages.{AreDistinctPackages, has_name}
 use Rattle.rustsec_registry.specs.Yanked.{AreKept, Grows}
 
 -- ---- tests
@@ -164,12 +164,12 @@ kept-step ps i p mid new l is all g this =
 -- ---- the distinct ones
 
 pub grows-distinct : (packages : List PackageValue) (ds refs : List (Bor PackageValue)) (old new : List (List ℕ × Kept)) → refs ≡ ds
-    → AreDistinct packages (map (λ x. x.now) ds) → Grows (map (λ x. x.now) refs) old new → Grows packages old new
+    → AreDistinctPackages packages (map (λ x. x.now) ds) → Grows (map (λ x. x.now) refs) old new → Grows packages old new
 grows-distinct packages ds refs old new is d g =
     grows-among (map read refs) packages old new (λ p. rw is (d.same p).0) g
 
 pub kept-distinct : (packages : List PackageValue) (ds refs : List (Bor PackageValue)) (new : List (List ℕ × Kept)) → refs ≡ ds
-    → AreDistinct packages (map (λ x. x.now) ds) → AreKept (map (λ x. x.now) refs) new → AreKept packages new
+    → AreDistinctPackages packages (map (λ x. x.now) ds) → AreKept (map (λ x. x.now) refs) new → AreKept packages new
 kept-distinct packages ds refs new is d all =
     kept-among (map read refs) packages new (λ p. rw is (d.same p).1) all
 

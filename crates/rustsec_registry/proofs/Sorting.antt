@@ -10,7 +10,7 @@ use Rattle.std.proofs.lemmas.List.Kept.{Contains-dedup, Contains-from_dedup, IsS
 use Rattle.std.proofs.lemmas.List.Sorted.{Contains-permutation, IsPermutation-map, IsPermutation-sym}
 use Rattle.rustsec_values.proofs.Seen.{dedup-map, rise-map}
 use Rattle.rustsec_lock.specs.Package.{PackageValue, package_cmp, package_decides, package_eq, package_equiv, package_ties, package_total}
-use Rattle.rustsec_registry.specs.Packages.{AreDistinct}
+use Rattle.rustsec_registry.specs.Packages.{AreDistinctPackages}
 
 -- the package that a reference refers to
 abbrev read : Bor PackageValue → PackageValue
@@ -19,7 +19,7 @@ read x = x.now
 pub are-distinct : (packages : List PackageValue) (refs sorted left : List (Bor PackageValue)) → map (λ x. x.now) refs ≡ packages
     → IsPermutation refs sorted → IsSorted (λ (x y : Bor PackageValue). package_cmp x.now y.now) sorted
     → IsFiltered (DiffersFromLast (λ (x y : Bor PackageValue). package_eq x.now y.now)) [] sorted left
-    → AreDistinct packages (map (λ x. x.now) left)
+    → AreDistinctPackages packages (map (λ x. x.now) left)
 are-distinct packages refs sorted left are perm up kept =
     let is : left ≡ dedup (λ (x y : Bor PackageValue). package_eq x.now y.now) sorted = dedup_is _ sorted left kept in
     let rising = IsStrictlySortedBy-dedup (on_total read package_total) (λ x y. package_ties x.now y.now) sorted up in

@@ -6,7 +6,7 @@ use Rattle.std.specs.List.Sorted.{IsStrictlySortedBy}
 use Rattle.rustsec_lock.specs.Package.{PackageValue, package_cmp}
 
 -- the distinct packages of a list, in the order of packages: they rise, and are the same packages
-pub record AreDistinct (packages distinct : List PackageValue) : Type 0 where
+pub record AreDistinctPackages (packages distinct : List PackageValue) : Type 0 where
   pub rise : IsStrictlySortedBy package_cmp distinct
   pub same : (p : PackageValue) → Contains distinct p ↔ Contains packages p
 

@@ -4,7 +4,7 @@ ghost use Rattle.std.specs.Prelude.{◌≡◌, [], IfErr, IfOk, List, OnOk, map}
 ghost use Rattle.rustsec_error.specs.Failure.{IsMemory};
 ghost use Rattle.rustsec_lock.specs.Package.{PackageValue};
 ghost use Rattle.rustsec_registry.specs.Lookups.{AreAnswers};
-ghost use Rattle.rustsec_registry.specs.Packages.{AreDistinct};
+ghost use Rattle.rustsec_registry.specs.Packages.{AreDistinctPackages};
 ghost use Rattle.rustsec_registry.specs.Yanked.{AreKept, Grows, seen, yanked_answers};
 
 use crate::distinct::distinct;
@@ -41,7 +41,7 @@ fn find<'a, I: Lookup>(
     kept: &mut SortedMap<Name, Kept>,
     packages: &'a [Package],
 ) -> Result<Vec<std::result::Result<&'a Package, Error>>>
-    ensures ok { IfOk result (λ v. (distinct : List PackageValue) × AreDistinct packages.now distinct
+    ensures ok { IfOk result (λ v. (distinct : List PackageValue) × AreDistinctPackages packages.now distinct
         × (map seen v.items ≡ yanked_answers kept.new distinct)) }
     ensures asked { OnOk result (AreKept packages.now kept.new) }
     ensures grown { Grows packages.now kept.old kept.new }
@@ -80,7 +80,7 @@ impl<I: Lookup> CachedIndex<I> {
         alloc: Global,
         packages: &'a [Package],
     ) -> Result<Vec<std::result::Result<&'a Package, Error>>>
-        ensures ok { IfOk result (λ v. (distinct : List PackageValue) × AreDistinct packages.now distinct
+        ensures ok { IfOk result (λ v. (distinct : List PackageValue) × AreDistinctPackages packages.now distinct
             × (map seen v.items ≡ yanked_answers self.new.kept distinct)) }
         ensures asked { OnOk result (AreKept packages.now self.new.kept) }
 

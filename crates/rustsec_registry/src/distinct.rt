@@ -1,7 +1,7 @@
 //! The distinct packages of a list.
 
 ghost use Rattle.std.specs.Prelude.{◌≡◌, IfOk, map};
-ghost use Rattle.rustsec_registry.specs.Packages.{AreDistinct};
+ghost use Rattle.rustsec_registry.specs.Packages.{AreDistinctPackages};
 
 use rustsec_lock::package::Package;
 use std::alloc::{AllocError, Global};
@@ -18,7 +18,7 @@ pub(crate) fn distinct(
     alloc: Global,
     packages: &[Package],
 ) -> std::result::Result<Vec<&Package>, AllocError>
-    ensures { IfOk result (λ v. AreDistinct packages.now (map (λ p. p.now) v.items)) }
+    ensures { IfOk result (λ v. AreDistinctPackages packages.now (map (λ p. p.now) v.items)) }
 {
     let mut sorted = references(alloc, packages)?;
     sorted.sort()?;

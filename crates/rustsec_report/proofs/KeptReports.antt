@@ -5,7 +5,7 @@ use Rattle.std.specs.Cmp.Lexicographic.{bytes_decides, pointwise}
 use Rattle.std.specs.List.{filter, flat_map, list_any}
 use Rattle.toml.specs.Data.{Members}
 use Rattle.rustsec_folders.specs.declared.source_file.SourceFile.{SourceFile}
-use Rattle.rustsec_versions.specs.Lists.{affected}
+use Rattle.rustsec_versions.specs.acceptance.Lists.{affected}
 use Rattle.rustsec_lock.specs.Lockfile.{packages_of}
 use Rattle.rustsec_lock.specs.Package.{PackageValue}
 use Rattle.rustsec_advisory.specs.declared.advisory.Advisory.{Advisory}

@@ -4,7 +4,7 @@ ghost use Rattle.std.specs.Prelude.{◌≡◌, [], ◌∷◌, IfOk, OnOk, map, s
 ghost use Rattle.serde_json.specs.Data.{string};
 ghost use Rattle.serde_json.specs.View.{members_view, view};
 ghost use Rattle.rustsec_json.specs.Trees.{list_tree};
-ghost use Rattle.rustsec_versions.specs.RequirementText.{requirement_text};
+ghost use Rattle.rustsec_versions.specs.requirement.RequirementText.{requirement_text};
 ghost use Rattle.rustsec_versions.specs.Views.{comparators_of};
 ghost use Rattle.rustsec_report.specs.Trees.{requirements_tree, with_members};
 

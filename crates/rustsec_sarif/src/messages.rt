@@ -3,7 +3,7 @@
 ghost use Rattle.std.specs.Prelude.{◌≡◌, ◌++◌, IfOk, OnOk, Some, map, option_map, string_bytes};
 ghost use Rattle.std.specs.Str.{encode_utf8_all};
 ghost use Rattle.semver.specs.Identifiers.{parts_of, parts_text};
-ghost use Rattle.rustsec_versions.specs.RequirementText.{requirement_text};
+ghost use Rattle.rustsec_versions.specs.requirement.RequirementText.{requirement_text};
 ghost use Rattle.rustsec_versions.specs.Views.{comparators_of};
 ghost use Rattle.rustsec_sarif.specs.SarifTree.{help_words};
 ghost use Rattle.rustsec_sarif.specs.SarifWords.{address_words, command_words, doubled, doubled_char, finding_words, fingerprint, further_words, incompatible_words, level, locked_words, long_words, or_else, package_words, patched_words, short_words, subject_words, update_words, yanked_words};

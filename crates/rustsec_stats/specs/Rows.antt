@@ -37,10 +37,10 @@ collection_rows = of_collection.Crates ∷ of_collection.Rust ∷ of_collection.
 abbrev pub names : Collection → Advisory → Bool
 names c a = option_eq (sameb collection_type) (Some c) a.metadata.collection
 
-abbrev pub in_collection : CollectionRow → Advisory → Bool
-in_collection of_collection.Crates a = names collection.Crates a
-in_collection of_collection.Rust a = names collection.Rust a
-in_collection of_collection.Missing a = is_none a.metadata.collection
+abbrev pub is_counted_in : CollectionRow → Advisory → Bool
+is_counted_in of_collection.Crates a = names collection.Crates a
+is_counted_in of_collection.Rust a = names collection.Rust a
+is_counted_in of_collection.Missing a = is_none a.metadata.collection
 
 -- ---- kinds
 

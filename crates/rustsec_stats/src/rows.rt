@@ -53,9 +53,9 @@ impl Named for CollectionRow {
 }
 
 impl Row for CollectionRow {
-    ghost use Rattle.rustsec_stats.specs.Rows.{in_collection};
+    ghost use Rattle.rustsec_stats.specs.Rows.{is_counted_in};
 
-    ghost counts = { in_collection };
+    ghost counts = { is_counted_in };
 
     fn counts(&self, advisory: &Advisory) -> bool {
         let collection = advisory.metadata.collection;

@@ -111,6 +111,38 @@ fn texts_of_readers(rt: HostRuntime) {
     }
 }
 
+/// Returns whether an error is that of a file that cannot be read, with this cause.
+fn is_unread(error: &Error, cause: &str) -> bool {
+    error.kind() == ErrorKind::Io
+        && error.message() == "couldn't read x.md"
+        && error.cause() == Some(cause)
+}
+
+/// Returns whether bytes are refused as a text with this cause.
+fn is_not_text(alloc: Global, bytes: &[u8], cause: &str) -> bool {
+    let mut reader = bytes;
+    match reading::text_of(alloc, &mut reader, "x.md") {
+        Ok(_) => false,
+        Err(error) => is_unread(&error, cause),
+    }
+}
+
+// A byte that begins no character, a cut character, a long form, a surrogate.
+#[test]
+fn offsets_of_bytes_that_are_not_utf8(rt: HostRuntime) {
+    for (bytes, cause) in &[
+        (b"\xff".as_slice(), "it is not UTF-8 from byte offset 0 on"),
+        (b"\xc3\xa9\xe2\x82", "it is not UTF-8 from byte offset 2 on"),
+        (
+            b"0123456789\xc0\x80",
+            "it is not UTF-8 from byte offset 10 on",
+        ),
+        (b"a\xed\xa0\x80b", "it is not UTF-8 from byte offset 1 on"),
+    ] {
+        assert!(rt; is_not_text(rt.alloc(), bytes, cause), "of {cause}");
+    }
+}
+
 #[test]
 fn names_in_paths(rt: HostRuntime) {
     for (whole, file, folder, parent) in &[

@@ -1,10 +1,11 @@
 //! The intervals of requirements: their bounds, how they print, which overlap, and by which order they compare.
 
 use rustsec_error::ErrorKind;
-use rustsec_fixtures::{interval, kind_of, version};
+use rustsec_fixtures::{TextWriter, interval, kind_of, version};
 use rustsec_versions::{Bound, OsvRange, UnaffectedRange, requirement_text};
 use semver::{Comparator, Op, Prerelease, VersionReq};
 use std::alloc::Global;
+use std::fmt::Write as _;
 use std::process::Abort;
 use std::test::Fail;
 
@@ -67,6 +68,56 @@ fn interval_display(rt: HostRuntime) -> Result<(), Fail> {
             ("<= 2", "[0, 2.0.0]"),
         ],
     )
+}
+
+/// Returns how many writes the text of a requirement's interval takes, if a writer that never fails gets this text.
+fn writes_of(alloc: Global, text: &str, printed: &str) -> Result<Option<u64>, Fail> {
+    let interval = interval(alloc, text)??;
+    let mut writer = TextWriter::new(alloc, 0);
+    let answer = write!(writer, "{interval}");
+    let is_whole = answer.is_ok() && writer.held() == printed.as_bytes();
+    Ok(is_whole.then_some(writer.calls()))
+}
+
+/// Returns whether printing the interval of a requirement fails at a write that fails, after which nothing is written.
+fn stops_at(alloc: Global, text: &str, printed: &str, call: u64) -> Result<bool, Fail> {
+    let interval = interval(alloc, text)??;
+    let mut writer = TextWriter::new(alloc, call);
+    let answer = write!(writer, "{interval}");
+    let is_beginning = printed.as_bytes().starts_with(writer.held());
+    Ok(answer.is_err() && is_beginning && writer.calls() == call)
+}
+
+/// Returns whether printing the interval of a requirement fails exactly where its writer does: at each of its writes.
+fn stops_at_each(alloc: Global, text: &str, printed: &str) -> Result<bool, Fail> {
+    let Some(writes) = writes_of(alloc, text, printed)? else {
+        return Ok(false);
+    };
+    for call in 0..writes {
+        if !stops_at(alloc, text, printed, call + 1)? {
+            return Ok(false);
+        }
+    }
+    Ok(writes > 2)
+}
+
+// Each kind of start is printed with each kind of end.
+#[test]
+fn interval_display_fails_where_its_writer_does(rt: HostRuntime) -> Result<(), Fail> {
+    for (text, printed) in [
+        ("*", "[0, ∞)"),
+        ("< 2", "[0, 2.0.0)"),
+        ("<= 2", "[0, 2.0.0]"),
+        ("> 1", "(1.0.0, ∞)"),
+        ("> 1, < 2", "(1.0.0, 2.0.0)"),
+        ("> 1, <= 2", "(1.0.0, 2.0.0]"),
+        (">= 1", "[1.0.0, ∞)"),
+        ("^1.2.3-a.1", "[1.2.3-a.1, 2.0.0-0)"),
+        ("=1.0", "[1.0.0, 1.0.0]"),
+    ] {
+        assert!(rt; stops_at_each(rt.alloc(), text, printed)?, "of {text}");
+    }
+    Ok(())
 }
 
 #[test]

@@ -62,11 +62,12 @@ fn document(alloc: Global, text: &str) -> Result<String, Fail> {
     Ok(value.to_string(alloc)?)
 }
 
-/// Returns whether a document that is read prints as it was.
+/// Returns whether a copy of a document that is read prints as the document was.
 fn prints_again(alloc: Global, document: &str) -> Result<bool, Fail> {
     let tree = Value::from_str(alloc, document)?;
     let read = OsvAdvisory::from_value(alloc, &tree)?;
-    let printed = read.to_value(alloc)?.to_string(alloc)?;
+    let copy = read.clone(alloc)?;
+    let printed = copy.to_value(alloc)?.to_string(alloc)?;
     Ok(printed.as_str() == document)
 }
 
@@ -80,7 +81,7 @@ fn written(alloc: Global, words: &[&str], file: &str) -> Result<String, Fail> {
 }
 
 /// Returns whether the command `lint` writes nothing, and `osv` a document, on one line; and whether that prints again
-/// after it is read.
+/// after it is read and copied.
 fn commands_answer(alloc: Global, file: &str, document: &str) -> Result<bool, Fail> {
     let lint = written(alloc, &["lint", "file.md"], file)?;
     let osv = written(alloc, &["osv", "file.md", MODIFIED], file)?;

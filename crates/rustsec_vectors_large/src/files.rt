@@ -127,6 +127,54 @@ fn thousands_of_packages_and_advisories(rt: HostRuntime) -> Result<(), Fail> {
     Ok(())
 }
 
+/// Returns whether a copy of thousands of packages is equal to them.
+fn packages_are_copied(alloc: Global) -> Result<bool, Fail> {
+    let text = one_vulnerable(alloc)?;
+    let lockfile = Lockfile::from_str(alloc, &text)?;
+    let copy = lockfile.clone(alloc)?;
+    Ok(copy == lockfile)
+}
+
+/// Returns a report as it prints.
+fn printed(alloc: Global, report: &Report) -> Result<String, Fail> {
+    Ok(report.to_value(alloc)?.to_string(alloc)?)
+}
+
+/// Returns whether a copy of a report prints as the report does.
+fn report_is_copied(alloc: Global, report: &Report) -> Result<bool, Fail> {
+    let copy = report.clone(alloc)?;
+    Ok(printed(alloc, &copy)? == printed(alloc, report)?)
+}
+
+/// Returns how many packages a report of thousands of texts is about and how many vulnerabilities it lists, and whether
+/// a copy of it prints as it does.
+fn report_of_texts(alloc: Global) -> Result<(usize, usize, bool), Fail> {
+    let files = source_files(alloc, ADVISORIES)?;
+    let lockfile = one_vulnerable(alloc)?;
+    let report = Report::of_texts(alloc, &files, &lockfile, &Settings::new(alloc))?;
+    let is_copied = report_is_copied(alloc, &report)?;
+    let packages = report.lockfile.dependency_count;
+    Ok((packages, report.vulnerabilities.list.len(), is_copied))
+}
+
+/// Returns how many vulnerabilities a report of thousands of files and of a lockfile's table lists.
+fn listed_by_table(alloc: Global) -> Result<usize, Fail> {
+    let lockfile = one_vulnerable(alloc)?;
+    let table = toml::table_from_str(alloc, &lockfile)?;
+    let files = source_files(alloc, ADVISORIES)?;
+    let report = Report::of_files(alloc, &files, &table, &Settings::new(alloc))?;
+    Ok(report.vulnerabilities.list.len())
+}
+
+#[test]
+fn copies_of_thousands_of_elements(rt: HostRuntime) -> Result<(), Fail> {
+    let counts = (PACKAGES as usize + 1, ADVISORIES as usize, true);
+    assert!(rt; packages_are_copied(rt.alloc())?);
+    assert!(rt; report_of_texts(rt.alloc())? == counts);
+    assert!(rt; listed_by_table(rt.alloc())? == ADVISORIES as usize);
+    Ok(())
+}
+
 /// Returns the entries of the folder of some files.
 fn entries_of<'a>(alloc: Global, files: &'a [SourceFile]) -> Result<Vec<(&'a str, bool)>, Fail> {
     let mut entries = Vec::new(alloc);

@@ -2,6 +2,7 @@
 
 use crate::folders::output_over;
 use crate::numbers::{REQUIREMENTS, numbered, occurrences};
+use rustsec_check::least_free;
 use rustsec_fixtures::{Holds, SHORT, changed, lists, version, writes};
 use rustsec_versions::{Versions, ranges_for_advisory};
 use std::alloc::Global;
@@ -101,6 +102,41 @@ fn verdicts_of_hundreds_of_requirements(rt: HostRuntime) -> Result<(), Fail> {
             ("301.0.0", true),
         ],
     )
+}
+
+/// Returns patched requirements by a template, and a last one that is above them.
+fn stepped(alloc: Global, template: &str) -> Result<Versions, Fail> {
+    let patched = numbered(alloc, REQUIREMENTS, template)?;
+    let patched = format!(in alloc; "{patched}>=301.0.0\n")?;
+    let patched = lines_of(alloc, &patched)?;
+    Ok(lists(alloc, &patched, &[])??)
+}
+
+/// Returns whether the least version that neither of two lists leaves affected is this one, from version 0.1.0 on.
+fn is_least_free(
+    alloc: Global,
+    first: &Versions,
+    second: &Versions,
+    least: &str,
+) -> Result<bool, Fail> {
+    let locked = version(alloc, "0.1.0")?;
+    let found = least_free(alloc, &[first, second], &locked)?.ok_or("none is free")?;
+    let found = found.to_string(alloc)?;
+    Ok(found.as_str() == least)
+}
+
+/// Returns whether the least free version is the one above hundreds of intervals. Each interval begins inside the one
+/// before it. Each of two advisories leaves affected what the other one patches.
+fn intervals_are_left(alloc: Global) -> Result<bool, Fail> {
+    let first = stepped(alloc, PATCHED)?;
+    let second = stepped(alloc, ">=@.5.0, <@.9.0\n")?;
+    is_least_free(alloc, &first, &second, "301.0.0")
+}
+
+#[test]
+fn the_least_version_above_hundreds_of_intervals(rt: HostRuntime) -> Result<(), Fail> {
+    assert!(rt; intervals_are_left(rt.alloc())?);
+    Ok(())
 }
 
 /// Returns the lines of both lists, as an input of the commands.

@@ -35,7 +35,7 @@ pub(crate) struct Fault {
     pub remarks: &'static str,
     /// Whether it has the ID of the file before it.
     pub is_twice: bool,
-    /// Parts of the notes about it, each with a line, and with marks as above.
+    /// Parts of the notes about it, with marks as above; each has a line if the file can be read.
     pub notes: &'static [&'static str],
 }
 

@@ -1,13 +1,14 @@
 //! The commands `stats`, `osv-database` and `query-osv` over small databases, and what is written for other words.
 
-use crate::answers::writes;
+use crate::answers::{notes_of, writes};
 use rustsec_fixtures::{Holds, Paths, SHORT, SHORT_DOCUMENT, changed};
 use std::alloc::Global;
+use std::str;
 use std::test::Fail;
 
 /// A database with three advisories: one of all versions before 1.2.3, one that was withdrawn, and one whose
-/// requirements touch at 1.0.0, so that no version is left between them. A database with an advisory that leaves no
-/// version affected. A folder without a database.
+/// requirements touch at 1.0.0, so that no version is left between them. A database with an advisory whose requirement
+/// holds every version. A folder without a database.
 const FILES: Paths<'_> = &[
     ("db/crates", Holds::Entries(&[("base", true)])),
     (
@@ -118,6 +119,24 @@ fn exports_normalized(alloc: Global) -> Result<bool, Fail> {
 fn osv_database(rt: HostRuntime) -> Result<(), Fail> {
     assert!(rt; exports(rt.alloc())?);
     assert!(rt; exports_normalized(rt.alloc())?);
+    Ok(())
+}
+
+/// The note on the advisory whose requirement holds every version.
+const NOTE: &str =
+    "RUSTSEC-2001-2104 has no document: the requirements leave no version affected, so there is no range to export\n";
+
+/// Returns whether `osv-database` writes this note for a root.
+fn notes_one(alloc: Global, root: &str) -> Result<bool, Fail> {
+    let notes = notes_of(alloc, FILES, &["osv-database", root, MODIFIED])?;
+    let text = str::from_utf8(notes.as_slice())?;
+    Ok(text.contains(NOTE))
+}
+
+#[test]
+fn osv_database_notes(rt: HostRuntime) -> Result<(), Fail> {
+    assert!(rt; notes_one(rt.alloc(), "whole")?);
+    assert!(rt; !notes_one(rt.alloc(), "db")?);
     Ok(())
 }
 

@@ -2,7 +2,7 @@
 
 use rustsec_advisory::Advisory;
 use rustsec_check::{Check, Finding, IgnoredPair, Update, Yanked};
-use rustsec_check_output::Written;
+use rustsec_check_output::{Dated, Written};
 use rustsec_database::Database;
 use rustsec_folders::SourceFile;
 use rustsec_lock::Lockfile;
@@ -194,7 +194,7 @@ impl<'a> Case<'a> {
     /// Returns what is written of the case.
     pub(crate) fn written<'c>(
         &'c self,
-        database: &'c Database,
+        database: &'c Dated<'c>,
         lockfile: &'c Lockfile,
         entries: &'c [Ignored],
     ) -> Written<'c, 'a> {

@@ -6,7 +6,7 @@ use crate::cases::{
 };
 use rustsec_advisory::Advisory;
 use rustsec_check::{Check, Finding, Yanked};
-use rustsec_check_output::{Written, check_line, check_text, refused_line};
+use rustsec_check_output::{Dated, Written, check_line, check_text, refused_line};
 use rustsec_database::Database;
 use rustsec_error::ErrorKind;
 use rustsec_lock::Lockfile;
@@ -152,7 +152,8 @@ fn is_written_of(
     let Some(case) = whole_case(alloc, loaded.as_slice(), packages)? else {
         return Ok(false);
     };
-    is_written(alloc, &case.written(database, lockfile, entries))
+    let dated = Dated::new(database);
+    is_written(alloc, &case.written(&dated, lockfile, entries))
 }
 
 /// Returns whether the whole is written as the rows above say.

@@ -6,7 +6,7 @@ use crate::cases::{
 };
 use rustsec_advisory::Advisory;
 use rustsec_check::{Check, Finding};
-use rustsec_check_output::Written;
+use rustsec_check_output::{Dated, Written};
 use rustsec_database::Database;
 use rustsec_fixtures::changed;
 use rustsec_lock::Lockfile;
@@ -152,7 +152,8 @@ fn is_written_of(
     let Some(case) = whole_case(alloc, loaded.as_slice(), packages)? else {
         return Ok(false);
     };
-    is_text(alloc, &case.written(database, lockfile, entries), TEXT)
+    let dated = Dated::new(database);
+    is_text(alloc, &case.written(&dated, lockfile, entries), TEXT)
 }
 
 /// Returns whether the whole text is written as the row above says.
@@ -202,7 +203,8 @@ fn is_bounded_of(alloc: Global, database: &Database, lockfile: &Lockfile) -> Res
     let Some(case) = long_case(alloc, loaded.as_slice(), packages)? else {
         return Ok(false);
     };
-    is_long_text(alloc, &case.written(database, lockfile, &[]))
+    let dated = Dated::new(database);
+    is_long_text(alloc, &case.written(&dated, lockfile, &[]))
 }
 
 /// Returns whether a long check is written as the rows above say.

@@ -3,7 +3,7 @@
 use crate::cases::{Case, check_of, database, vulnerability, warning, yanked};
 use rustsec_advisory::Advisory;
 use rustsec_check::{Check, Yanked};
-use rustsec_check_output::Written;
+use rustsec_check_output::{Dated, Written};
 use rustsec_database::Database;
 use rustsec_lock::Lockfile;
 use rustsec_lock::package::Package;
@@ -171,7 +171,8 @@ fn is_written_of(
     let Some(case) = whole_case(alloc, loaded.as_slice(), packages)? else {
         return Ok(false);
     };
-    is_written(alloc, places, &case.written(database, lockfile, &[]))
+    let dated = Dated::new(database);
+    is_written(alloc, places, &case.written(&dated, lockfile, &[]))
 }
 
 /// Returns whether the whole is written as the rows above say.

@@ -18,6 +18,8 @@ mod matching;
 #[cfg(test)]
 mod osv_evaluation;
 #[cfg(test)]
+mod osv_examples;
+#[cfg(test)]
 mod osv_reading;
 #[cfg(test)]
 mod osv_schema;

@@ -54,6 +54,24 @@ const GITHUB: &[(&str, &str)] = &[
         "references":[{"type":"WEB","url":"https://example.com/tool"}],"database_specific":{"severity":"HIGH"}}"#,
         "at `affected[0].ranges[0].events[1].fixed`: malformed version `2.0.0.RELEASE`, expected one such as `1.2.3`",
     ),
+    (
+        r#"{"schema_version":"1.4.0","id":"GHSA-2222-4444-5555","modified":"2021-02-04T00:00:00Z","published":"2021-02-03T00:00:00Z",
+        "aliases":["CVE-2021-0004"],"summary":"Denial of service in tool","details":"A long text hangs the parser.",
+        "severity":[{"type":"CVSS_V3","score":"CVSS:3.1/AV:N/AC:L/PR:N/UI:N/S:U/C:N/I:N/A:H/E:P/RL:O/RC:C"}],
+        "affected":[{"package":{"ecosystem":"npm","name":"tool"},
+        "ranges":[{"type":"ECOSYSTEM","events":[{"introduced":"0"},{"fixed":"1.2.3"}]}],
+        "database_specific":{"last_known_affected_version_range":"<= 1.2.2"}}],
+        "references":[{"type":"WEB","url":"https://example.com/tool"}],"database_specific":{"cwe_ids":["CWE-400"],"severity":"HIGH"}}"#,
+        "at `severity[0].score`: malformed CVSS vector `AV:N/AC:L/PR:N/UI:N/S:U/C:N/I:N/A:H/E:P/RL:O/RC:C`, expected each of AV, AC, PR, UI, S, C, I and A once, with one of its letters",
+    ),
+    (
+        r#"{"schema_version":"1.4.0","id":"GHSA-2222-4444-6666","modified":"2024-05-06T00:00:00Z","published":"2024-05-05T00:00:00Z",
+        "aliases":[],"summary":"Injection in tool","details":"Update it.","severity":[],
+        "affected":[{"package":{"ecosystem":"crates.io","name":"tool"},"ecosystem_specific":{"affected_functions":["run"]},
+        "ranges":[{"type":"SEMVER","events":[{"introduced":"0"},{"fixed":"1.2.3"}]}],"database_specific":{}}],
+        "references":[{"type":"WEB","url":"https://example.com/tool"}],"database_specific":{"cwe_ids":[]}}"#,
+        "at `affected[0].ecosystem_specific.affected_functions[0]`: malformed function path `run`, expected two or more identifiers joined by `::`",
+    ),
 ];
 
 /// Documents in Go's style, likewise.
@@ -119,7 +137,7 @@ fn says(error: &Error, wanted: &str) -> bool {
 }
 
 /// Returns whether a document is read and has this ID, or is refused with this message.
-fn is_as_said(alloc: Global, text: &str, wanted: &str) -> Result<bool, Fail> {
+pub(crate) fn is_as_said(alloc: Global, text: &str, wanted: &str) -> Result<bool, Fail> {
     let tree = Value::from_str(alloc, text)?;
     Ok(is_answer(OsvAdvisory::from_value(alloc, &tree), wanted))
 }

@@ -208,7 +208,7 @@ const DOCUMENTS: &[(&str, bool)] = &[
 ];
 
 /// Returns whether the document of a text keeps the schema.
-fn keeps(alloc: Global, text: &str) -> Result<bool, Fail> {
+pub(crate) fn keeps(alloc: Global, text: &str) -> Result<bool, Fail> {
     Ok(is_osv_schema(&Value::from_str(alloc, text)?))
 }
 

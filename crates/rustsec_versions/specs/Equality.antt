@@ -8,8 +8,8 @@ use Rattle.std.specs.Ordering.{eq_of_both, on}
 use Rattle.semver.specs.Parse.{Held, Parts}
 use Rattle.semver.specs.declared.Op.{Op}
 use Rattle.semver.specs.declared.Op.TheVariants as op
-use Rattle.rustsec_versions.specs.Lists.{Lists}
-use Rattle.rustsec_versions.specs.Interval.{Endpoint, Interval, exclusive, inclusive, unbounded}
+use Rattle.rustsec_versions.specs.acceptance.Lists.{Lists}
+use Rattle.rustsec_versions.specs.interval.Interval.{Endpoint, Interval, exclusive, inclusive, unbounded}
 
 -- two versions
 abbrev pub version_eq : Parts → Parts → Bool

@@ -11,8 +11,8 @@ use Rattle.semver.specs.declared.Op.{Op}
 use Rattle.semver.specs.declared.Op.TheVariants as op
 use Rattle.rustsec_values.specs.Equality.{option_decides}
 use Rattle.rustsec_versions.specs.Equality.{comparator_eq, endpoint_eq, interval_eq, lists_eq, op_number, requirements_eq, version_eq}
-use Rattle.rustsec_versions.specs.Interval.{Endpoint, Interval, exclusive, inclusive, unbounded}
-use Rattle.rustsec_versions.specs.Lists.{Lists}
+use Rattle.rustsec_versions.specs.interval.Interval.{Endpoint, Interval, exclusive, inclusive, unbounded}
+use Rattle.rustsec_versions.specs.acceptance.Lists.{Lists}
 
 both-true : (a b : Bool) → (a && b) ≡ true → (a ≡ true) × (b ≡ true)
 both-true true b h = (refl, h)

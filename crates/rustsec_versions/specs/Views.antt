@@ -5,14 +5,14 @@ use Rattle.semver.specs.Identifiers.{comparator_view, parts_of}
 use Rattle.semver.specs.Parse.{Held, Parts}
 use Rattle.semver.specs.declared.Version.{Version}
 use Rattle.semver.specs.declared.VersionReq.{VersionReq}
-use Rattle.rustsec_versions.specs.Ranges.{Range}
+use Rattle.rustsec_versions.specs.ranges.Ranges.{Range}
 use Rattle.rustsec_versions.specs.declared.interval.Bound.{Bound}
 use Rattle.rustsec_versions.specs.declared.interval.Bound.TheVariants as bound
-use Rattle.rustsec_versions.specs.declared.comparator.Side as given
-use Rattle.rustsec_versions.specs.declared.comparator.Side.TheVariants as side
-use Rattle.rustsec_versions.specs.Requirement.{Side, lower, neither, upper}
-use Rattle.rustsec_versions.specs.Lists.{Lists}
-use Rattle.rustsec_versions.specs.Interval.{Endpoint, Interval, exclusive, inclusive, unbounded}
+use Rattle.rustsec_versions.specs.declared.requirement.comparator.Side as given
+use Rattle.rustsec_versions.specs.declared.requirement.comparator.Side.TheVariants as side
+use Rattle.rustsec_versions.specs.requirement.Requirement.{Side, lower, neither, upper}
+use Rattle.rustsec_versions.specs.acceptance.Lists.{Lists}
+use Rattle.rustsec_versions.specs.interval.Interval.{Endpoint, Interval, exclusive, inclusive, unbounded}
 
 -- a bound
 abbrev pub endpoint_of : Bound → Endpoint

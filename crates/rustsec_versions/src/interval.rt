@@ -6,17 +6,17 @@ ghost use Rattle.std.specs.Fmt.{DisplaysOnOk};
 ghost use Rattle.semver.specs.Identifiers.{parts_of};
 ghost use Rattle.rustsec_versions.specs.Equality.{endpoint_eq, endpoint_equiv, interval_eq, interval_equiv};
 ghost use Rattle.rustsec_error.specs.Failure.{IsMemory, IsOfKind, IsRefusal};
-ghost use Rattle.rustsec_versions.specs.Interval.{holds, is_after, is_before, overlap, reaches};
-ghost use Rattle.rustsec_versions.specs.IntervalText.{end_text, interval_text, start_text};
+ghost use Rattle.rustsec_versions.specs.interval.Interval.{holds, is_after, is_before, overlap, reaches};
+ghost use Rattle.rustsec_versions.specs.interval.IntervalText.{end_text, interval_text, start_text};
 ghost use Rattle.rustsec_versions.specs.Memory.{hold_no_text};
-ghost use Rattle.rustsec_versions.specs.Merged.{ends_by};
-ghost use Rattle.rustsec_versions.specs.Precedence.{version_order};
-ghost use Rattle.rustsec_versions.specs.Ranges.{has_bound};
-ghost use Rattle.rustsec_versions.specs.Requirement.{has_successor, interval_of, is_end, is_start};
+ghost use Rattle.rustsec_versions.specs.acceptance.Merged.{end_le};
+ghost use Rattle.rustsec_versions.specs.order.Precedence.{version_order};
+ghost use Rattle.rustsec_versions.specs.ranges.Ranges.{has_bound};
+ghost use Rattle.rustsec_versions.specs.requirement.Requirement.{has_successor, interval_of, end_cut_exists, start_cut_exists};
 ghost use Rattle.rustsec_versions.specs.Views.{bound_version_of, comparators_of, endpoint_of, interval_between};
 
-use crate::comparator::bounds_of;
-use crate::print::{quoted_bound, refused_requirement};
+use crate::requirement::comparator::bounds_of;
+use crate::requirement::print::{quoted_bound, refused_requirement};
 use rustsec_error::{Error, ErrorKind, Result};
 use rustsec_values::{ExactClone, ExactEq};
 use semver::{Version, VersionReq};
@@ -135,8 +135,8 @@ fn is_before(end: &Bound, version: &Version) -> bool
 }
 
 /// Returns whether the first end is the second one or before it, by precedence.
-pub(crate) fn ends_by(first: &Bound, second: &Bound) -> bool
-    ensures { result ≡ ends_by (endpoint_of first.now) (endpoint_of second.now) }
+pub(crate) fn end_le(first: &Bound, second: &Bound) -> bool
+    ensures { result ≡ end_le (endpoint_of first.now) (endpoint_of second.now) }
 {
     match (first, second) {
         (_, Bound::Unbounded) => true,
@@ -157,8 +157,8 @@ fn has_successor(version: &Version) -> bool
 }
 
 /// Returns whether the successor that an exclusive start needs exists.
-fn is_start(bound: &Bound) -> bool
-    ensures { result ≡ is_start (endpoint_of bound.now) }
+fn start_cut_exists(bound: &Bound) -> bool
+    ensures { result ≡ start_cut_exists (endpoint_of bound.now) }
 {
     match bound {
         Bound::Unbounded | Bound::Inclusive(_) => true,
@@ -167,8 +167,8 @@ fn is_start(bound: &Bound) -> bool
 }
 
 /// Returns whether the successor that an inclusive end needs exists.
-fn is_end(bound: &Bound) -> bool
-    ensures { result ≡ is_end (endpoint_of bound.now) }
+fn end_cut_exists(bound: &Bound) -> bool
+    ensures { result ≡ end_cut_exists (endpoint_of bound.now) }
 {
     match bound {
         Bound::Unbounded | Bound::Exclusive(_) => true,
@@ -185,8 +185,8 @@ pub struct UnaffectedRange {
 
 impl Model for UnaffectedRange {
     ghost use Rattle.std.specs.Prelude.{◌≡◌, true};
-    ghost use Rattle.rustsec_versions.specs.Interval.{Interval, reaches};
-    ghost use Rattle.rustsec_versions.specs.Precedence.{version_order};
+    ghost use Rattle.rustsec_versions.specs.interval.Interval.{Interval, reaches};
+    ghost use Rattle.rustsec_versions.specs.order.Precedence.{version_order};
     ghost use Rattle.rustsec_versions.specs.Views.{endpoint_of, interval_between};
 
     ghost Value = { Interval };
@@ -204,7 +204,7 @@ fn admissible_interval(alloc: Global, req: &VersionReq) -> Result<UnaffectedRang
     ensures none { OnErr result (hold_no_text (comparators_of req.now) ≡ true → interval_of (comparators_of req.now) ≡ None) }
 {
     let (start, end) = bounds_of(alloc, req)?;
-    if !is_start(&start) || !is_end(&end) {
+    if !start_cut_exists(&start) || !end_cut_exists(&end) {
         return Err(no_version_above(alloc));
     }
     UnaffectedRange::new(alloc, start, end)

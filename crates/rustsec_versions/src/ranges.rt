@@ -1,24 +1,26 @@
 //! The ranges of affected versions that an advisory's requirements leave.
 
+pub(crate) mod gap;
+
 ghost use Rattle.std.specs.Prelude.{◌≡◌, ◌<◌, ◌⊎◌, ◌++◌, ◌↔◌, [], ◌∷◌, Contains, IfErr, IfOk, List, OnErr, Some, filter_map, is_some, length, map, option_map, true};
 ghost use Rattle.std.specs.List.{All, list_any};
 ghost use Rattle.semver.specs.Identifiers.{parts_of};
 ghost use Rattle.semver.specs.Parse.{Held, Parts};
 ghost use Rattle.rustsec_error.specs.Failure.{IsMemory};
-ghost use Rattle.rustsec_versions.specs.Gaps.{HasValidBounds, IsValidBound, cut};
-ghost use Rattle.rustsec_versions.specs.Interval.{Interval};
-ghost use Rattle.rustsec_versions.specs.Lists.{Lists, accepted_apart, affected, intervals};
-ghost use Rattle.rustsec_versions.specs.Merged.{AreMerged, IsJoined};
-ghost use Rattle.rustsec_versions.specs.Precedence.{IsVersion};
-ghost use Rattle.rustsec_versions.specs.Ranges.{AreRanges, HasCuts, Range, SameRequirements, affects, affects_from, affects_till, in_ranges, lower_cut, upper_cut};
-ghost use Rattle.rustsec_versions.specs.Requirement.{interval_of};
-ghost use Rattle.rustsec_versions.specs.AcceptedRanges.{AreMergedRanges, HasUnboundedInterval};
-ghost use Rattle.rustsec_versions.specs.Successor.{IsLeastAbove, successor};
+ghost use Rattle.rustsec_versions.specs.ranges.Gaps.{HasValidBounds, IsValidBound, cut};
+ghost use Rattle.rustsec_versions.specs.interval.Interval.{Interval};
+ghost use Rattle.rustsec_versions.specs.acceptance.Lists.{Lists, accepted_apart, affected, intervals};
+ghost use Rattle.rustsec_versions.specs.acceptance.Merged.{AreMerged, IsJoined};
+ghost use Rattle.rustsec_versions.specs.order.Precedence.{IsVersion};
+ghost use Rattle.rustsec_versions.specs.ranges.Ranges.{AreRanges, HasCuts, Range, SameRequirements, affects, affects_from, affects_till, in_ranges, lower_cut, upper_cut};
+ghost use Rattle.rustsec_versions.specs.requirement.Requirement.{interval_of};
+ghost use Rattle.rustsec_versions.specs.ranges.AcceptedRanges.{AreMergedRanges, HasUnboundedInterval};
+ghost use Rattle.rustsec_versions.specs.order.Successor.{IsLeastAbove, successor};
 ghost use Rattle.rustsec_versions.specs.Views.{endpoint_of, range_of};
 
-use crate::gap::Gap;
 use crate::interval::Bound;
-use crate::next_version::successor;
+use crate::order::next_version::successor;
+use crate::ranges::gap::Gap;
 use crate::versions::Versions;
 use rustsec_error::{Error, Result};
 use rustsec_values::ExactClone;
@@ -37,7 +39,7 @@ pub struct OsvRange {
 }
 
 impl Model for OsvRange {
-    ghost use Rattle.rustsec_versions.specs.Ranges.{Range};
+    ghost use Rattle.rustsec_versions.specs.ranges.Ranges.{Range};
     ghost use Rattle.rustsec_versions.specs.Views.{range_of};
 
     ghost Value = { Range };

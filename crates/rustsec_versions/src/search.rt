@@ -1,17 +1,19 @@
 //! Searches sorted gaps by halving.
 
+pub(crate) mod steps;
+
 ghost use Rattle.std.specs.Prelude.{◌≡◌, ◌<◌, ◌≤◌, ◌+◌, ◌-◌, ◌^◌, ℕ, false, length, slice_index_or, true};
 ghost use Rattle.std.specs.List.{list_any};
-ghost use Rattle.rustsec_versions.specs.Between.{AreInTurn, EachLaterBegins};
-ghost use Rattle.rustsec_versions.specs.Interval.{Interval, holds, is_after, is_before};
-ghost use Rattle.rustsec_versions.specs.Ranges.{has_bound};
+ghost use Rattle.rustsec_versions.specs.ranges.Between.{AreInTurn, EachLaterBegins};
+ghost use Rattle.rustsec_versions.specs.interval.Interval.{Interval, holds, is_after, is_before};
+ghost use Rattle.rustsec_versions.specs.ranges.Ranges.{has_bound};
 
-use crate::gap::Gap;
 use crate::interval::Bound;
-use crate::steps::{Sought, Steps};
+use crate::ranges::gap::Gap;
+use crate::search::steps::{Sought, Steps};
 
 /// Returns whether a version is after the start of a gap.
-fn is_begun(gap: &Gap, version: &Sought<'_>, steps: &mut Steps) -> bool
+fn is_after_start(gap: &Gap, version: &Sought<'_>, steps: &mut Steps) -> bool
     ensures answer { result ≡ is_after gap.now.start version.now }
     ensures least { has_bound gap.now.start ≡ true → steps.old < 2 ^ 64 - 1 → steps.old < steps.new }
     ensures count { steps.new ≤ steps.old + 1 }
@@ -26,7 +28,7 @@ fn is_begun(gap: &Gap, version: &Sought<'_>, steps: &mut Steps) -> bool
 }
 
 /// Returns whether a version is before the end of a gap.
-fn is_open(gap: &Gap, version: &Sought<'_>, steps: &mut Steps) -> bool
+fn is_before_end(gap: &Gap, version: &Sought<'_>, steps: &mut Steps) -> bool
     ensures answer { result ≡ is_before gap.now.end version.now }
     ensures count { steps.new ≤ steps.old + 1 }
     ensures rises { steps.old ≤ steps.new }
@@ -40,7 +42,7 @@ fn is_open(gap: &Gap, version: &Sought<'_>, steps: &mut Steps) -> bool
 }
 
 /// Returns the number of gaps at the front of the list whose start is before a version (as `partition_point` does).
-fn begun(gaps: &[Gap], version: &Sought<'_>, steps: &mut Steps) -> usize
+fn partition_point(gaps: &[Gap], version: &Sought<'_>, steps: &mut Steps) -> usize
     requires turn { AreInTurn gaps.now }
     requires starts { EachLaterBegins gaps.now }
     ensures within { result ≤ length gaps.now }
@@ -59,7 +61,7 @@ fn begun(gaps: &[Gap], version: &Sought<'_>, steps: &mut Steps) -> usize
     let mut high = gaps.len();
     while low < high {
         let middle = low + (high - low) / 2;
-        if is_begun(&gaps[middle], version, steps) {
+        if is_after_start(&gaps[middle], version, steps) {
             low = middle + 1;
         } else {
             high = middle;
@@ -80,9 +82,9 @@ pub(crate) fn in_gaps(gaps: &[Gap], version: &Sought<'_>, steps: &mut Steps) -> 
     ensures rises { steps.old ≤ steps.new }
     ensures stays { steps.old ≡ 2 ^ 64 - 1 → steps.new ≡ 2 ^ 64 - 1 }
 {
-    let begun = begun(gaps, version, steps);
-    if begun == 0 {
+    let partition_point = partition_point(gaps, version, steps);
+    if partition_point == 0 {
         return false;
     }
-    is_open(&gaps[begun - 1], version, steps)
+    is_before_end(&gaps[partition_point - 1], version, steps)
 }

@@ -3,24 +3,25 @@
 ghost use Rattle.std.specs.Prelude.{◌≡◌, ◌<◌, ◌+◌, ◌-◌, ◌^◌, ◌≤◌, ◌∷◌, ℕ, IfErr, IfOk, List, OnErr, OnOk, false, is_some, length, map, true};
 ghost use Rattle.std.specs.Cmp.{partial_equiv_from_equiv};
 ghost use Rattle.semver.specs.Identifiers.{parts_of};
-ghost use Rattle.rustsec_versions.specs.Between.{AreGapsOf};
+ghost use Rattle.rustsec_versions.specs.ranges.Between.{AreGapsOf};
 ghost use Rattle.rustsec_versions.specs.Equality.{lists_eq, lists_equiv};
 ghost use Rattle.rustsec_versions.specs.EqualityLaws.{lists_decides};
 ghost use Rattle.rustsec_error.specs.Failure.{IsMemory, IsRefusal};
-ghost use Rattle.rustsec_versions.specs.Lists.{Lists, accepted, accepted_apart, affected, no_lists};
-ghost use Rattle.rustsec_versions.specs.Precedence.{version_order, with_build};
-ghost use Rattle.rustsec_versions.specs.Ranges.{Range, SameInEachList};
-ghost use Rattle.rustsec_versions.specs.AcceptedRanges.{AreMergedRanges, AreRangesOf, HasBinaryDigits, HasUnboundedInterval};
+ghost use Rattle.rustsec_versions.specs.acceptance.Lists.{Lists, accepted, accepted_apart, affected, no_lists};
+ghost use Rattle.rustsec_versions.specs.order.Precedence.{version_order, with_build};
+ghost use Rattle.rustsec_versions.specs.ranges.Ranges.{Range, SameInEachList};
+ghost use Rattle.rustsec_versions.specs.ranges.AcceptedRanges.{AreMergedRanges, AreRangesOf, HasBinaryDigits, HasUnboundedInterval};
 ghost use Rattle.rustsec_versions.specs.Views.{comparators_of, lists_of};
 
-use crate::gap::{Gap, gaps};
-use crate::marked::{by_start, marked_intervals};
-use crate::merge::merged_intervals;
-use crate::overlaps::overlap_refused;
+use crate::acceptance::apart::accepted_as_unaffected;
+use crate::acceptance::merge::merged_intervals;
+use crate::acceptance::overlaps::overlap_refused;
+use crate::acceptance::tagged::{by_start, tagged_intervals};
+use crate::ranges::gap::{Gap, gaps};
 use crate::ranges::{OsvRange, ranges_of};
-use crate::requirements::Requirements;
+use crate::requirement::requirements::Requirements;
 use crate::search::in_gaps;
-use crate::steps::{Sought, Steps};
+use crate::search::steps::{Sought, Steps};
 use rustsec_error::{Error, ErrorKind, Result};
 use rustsec_values::{ExactClone, ExactEq};
 use semver::{Version, VersionReq};
@@ -37,8 +38,8 @@ pub struct Versions {
 }
 
 impl Model for Versions {
-    ghost use Rattle.rustsec_versions.specs.Between.{AreGapsOf};
-    ghost use Rattle.rustsec_versions.specs.Lists.{Lists};
+    ghost use Rattle.rustsec_versions.specs.ranges.Between.{AreGapsOf};
+    ghost use Rattle.rustsec_versions.specs.acceptance.Lists.{Lists};
 
     ghost Value = { Lists };
 
@@ -53,7 +54,7 @@ fn gaps_of(alloc: Global, patched: &Requirements, unaffected: &Requirements) -> 
     ensures err { IfErr result (IsRefusal ErrorKind.BadParam
         (accepted (record { patched = patched.now; unaffected = unaffected.now }) ≡ false)) }
 {
-    let all = marked_intervals(alloc, patched, unaffected)?;
+    let all = tagged_intervals(alloc, patched, unaffected)?;
     let sorted = by_start(alloc, &all)?;
     match merged_intervals(alloc, &sorted)? {
         Some(intervals) => {
@@ -71,7 +72,7 @@ impl Versions {
     ///
     /// `BadParam` if a requirement is not admissible or two clash, with a message that shows the
     /// requirement or the two; else `OutOfMemory`.
-    #[tactic(auto, using(crate::proofs::Agreement::same_accepted, crate::proofs::Clashes::accepted_if_apart))]
+    #[tactic(auto, using(crate::proofs::lemmas::ranges::Agreement::same_accepted, crate::proofs::lemmas::acceptance::Clashes::accepted_if_apart))]
     pub fn new(
         alloc: Global,
         patched: Vec<VersionReq>,
@@ -163,8 +164,26 @@ impl Versions {
         in_gaps(&self.gaps, &Sought::new(version), steps)
     }
 
+    /// Returns whether no two requirements overlap, whichever lists they are in. Here patched ones may overlap one
+    /// another; the Rust crate refuses those.
+    ///
+    /// # Errors
+    ///
+    /// Out of memory.
+    pub fn are_apart(&self, alloc: Global) -> std::result::Result<bool, AllocError>
+        ensures ok { IfOk result (λ b. b ≡ accepted_apart self.now) }
+
+        // With one patched requirement at most the answer takes no memory.
+        ensures none { OnErr result (1 < length self.now.patched) }
+    {
+        if self.patched.as_slice().len() <= 1 {
+            return Ok(true);
+        }
+        accepted_as_unaffected(alloc, self)
+    }
+
     /// Returns the ranges that the requirements leave.
-    #[tactic(auto, using(crate::proofs::Agreement::some_gap))]
+    #[tactic(auto, using(crate::proofs::lemmas::ranges::Agreement::some_gap))]
     pub(crate) fn ranges(&self, alloc: Global) -> Result<Vec<OsvRange>>
         ensures ok { IfOk result (λ v. AreRangesOf self.now v.items) }
         ensures none { OnErr result (¬ HasUnboundedInterval self.now) }

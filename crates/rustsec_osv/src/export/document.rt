@@ -4,9 +4,9 @@ ghost use Rattle.std.specs.Prelude.{◌≡◌, ◌⊎◌, ◌++◌, ◌∷◌, �
 ghost use Rattle.semver.specs.Parse.{Parts};
 ghost use Rattle.rustsec_texts.specs.Licenses.{license_name};
 ghost use Rattle.rustsec_error.specs.Failure.{IsRefusal};
-ghost use Rattle.rustsec_versions.specs.Lists.{affected};
-ghost use Rattle.rustsec_versions.specs.Precedence.{IsVersion};
-ghost use Rattle.rustsec_versions.specs.AcceptedRanges.{HasUnboundedInterval};
+ghost use Rattle.rustsec_versions.specs.acceptance.Lists.{affected};
+ghost use Rattle.rustsec_versions.specs.order.Precedence.{IsVersion};
+ghost use Rattle.rustsec_versions.specs.ranges.AcceptedRanges.{HasUnboundedInterval};
 ghost use Rattle.rustsec_osv.specs.DocumentCodec.{AreEventsValid, IsReferenceAgain, document_tree, read_document};
 ghost use Rattle.rustsec_advisory.specs.Advisory.{IsAdvisory};
 ghost use Rattle.rustsec_osv.specs.Events.{events_say};

@@ -4,10 +4,10 @@ ghost use Rattle.std.specs.Prelude.{◌≡◌, ◌++◌, IfErr, IfOk, OnOk, map,
 ghost use Rattle.semver.specs.Identifiers.{parts_of};
 ghost use Rattle.semver.specs.Parse.{Parts};
 ghost use Rattle.rustsec_error.specs.Failure.{IsRefusal};
-ghost use Rattle.rustsec_versions.specs.Lists.{affected};
-ghost use Rattle.rustsec_versions.specs.Precedence.{IsVersion};
-ghost use Rattle.rustsec_versions.specs.Requirement.{least_of};
-ghost use Rattle.rustsec_versions.specs.AcceptedRanges.{HasUnboundedInterval};
+ghost use Rattle.rustsec_versions.specs.acceptance.Lists.{affected};
+ghost use Rattle.rustsec_versions.specs.order.Precedence.{IsVersion};
+ghost use Rattle.rustsec_versions.specs.requirement.Requirement.{least_of};
+ghost use Rattle.rustsec_versions.specs.ranges.AcceptedRanges.{HasUnboundedInterval};
 ghost use Rattle.rustsec_osv.specs.EventCodec.{IsRangeAgain};
 ghost use Rattle.rustsec_osv.specs.DocumentEvents.{event_of};
 ghost use Rattle.rustsec_osv.specs.Events.{beginning, events_of, events_of_range, events_say};

@@ -4,7 +4,7 @@ use crate::lists::push_yanked_list;
 use crate::page_text;
 use rustsec_advisory::Advisory;
 use rustsec_check::{Check, Finding, IgnoredPair, Update, Yanked};
-use rustsec_check_output::Written;
+use rustsec_check_output::{Dated, Written};
 use rustsec_database::Database;
 use rustsec_folders::SourceFile;
 use rustsec_lock::Lockfile;
@@ -301,7 +301,7 @@ struct Case<'a> {
 /// Returns whether a case is written as the row above says.
 fn is_case_written<'c, 'a>(
     alloc: Global,
-    database: &'c Database,
+    database: &'c Dated<'c>,
     lockfile: &'c Lockfile,
     entries: &'c [Ignored],
     case: &'c Case<'a>,
@@ -343,7 +343,8 @@ fn is_written_of(
     let Some(case) = whole_case(alloc, loaded.as_slice(), packages)? else {
         return Ok(false);
     };
-    is_case_written(alloc, database, lockfile, entries, &case)
+    let dated = Dated::new(database);
+    is_case_written(alloc, &dated, lockfile, entries, &case)
 }
 
 /// Returns whether the whole is written as the row above says.

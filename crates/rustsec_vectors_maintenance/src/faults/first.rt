@@ -11,7 +11,7 @@ pub(super) const FAULTS: &[Fault] = &[
         lines: "@: refused: refused: I/O operation failed\n",
         remarks: r#"{"fault":true,"kind":"refused","text":"refused: I/O operation failed"}"#,
         is_twice: false,
-        notes: &[],
+        notes: &["rustsec_audit: I/O operation failed: the folders fail\n"],
     },
     Fault {
         text: "```toml\n[advisory]\nid = \"$\"\npackage = \"~\"\ndate = \"2001-02-03\"\nurl = 1\n\n[versions]\npatched = [\">= 1.0.0\"]\n```\n\n# T\n\nD\n",

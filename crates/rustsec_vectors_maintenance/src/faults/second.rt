@@ -205,12 +205,14 @@ pub(super) const FAULTS: &[Fault] = &[
         ],
     },
     Fault {
-        text: "```toml\n[advisory]\nid = \"$\"\npackage = \"~\"\ndate = \"2001-02-03\"\n\n[versions]\npatched = [\">= 1.0.0\"]\n```\n\n# T\n\nD\n",
+        text: "```toml\n[advisory]\nid = \"$\"\npackage = \"~\"\ndate = \"2001-02-03\"\n\n[versions]\npatched = [\">= 1.0.0\"]\n```\n\nT\n\nD\n",
         named: Named::Own,
-        is_read: false,
-        lines: "@: refused: refused: I/O operation failed\n",
-        remarks: r#"{"fault":true,"kind":"refused","text":"refused: I/O operation failed"}"#,
+        is_read: true,
+        lines: "@: refused: refused: parse error\n",
+        remarks: r#"{"fault":true,"kind":"refused","text":"refused: parse error"}"#,
         is_twice: false,
-        notes: &[],
+        notes: &[
+            "rustsec_audit: parse error: error parsing @: line 11, column 1: no title below the front matter ",
+        ],
     },
 ];

@@ -102,7 +102,15 @@ const WRONG_KINDS: &[(&str, &str)] = &[
     ),
     (
         "[target]\nos = [1, \"linx\"]",
-        "line 2, column 1: key `os` in [target]: found integer `1`, expected a string",
+        "line 2, column 7: key `os` in [target]: found integer `1`, expected a string",
+    ),
+    (
+        "[output]\ndeny = [\n  \"unsound\", # one\n  2,\n]",
+        "line 4, column 3: key `deny` in [output]: found integer `2`, expected a string",
+    ),
+    (
+        "[advisories]\ninformational_warnings = [\"unsound\", 1]",
+        "line 2, column 38: key `informational_warnings` in [advisories]: found integer `1`, expected a string",
     ),
     (
         "[database]\nfetch = \"yes\"",
@@ -186,11 +194,11 @@ const UNKNOWN_WORDS: &[(&str, &str)] = &[
     ),
     (
         "[output]\ndeny = [\"vulnerabilities\"]",
-        "line 2, column 1: key `deny` in [output]: unknown word `vulnerabilities`, expected `warnings`, `unmaintained`, `unsound` or `yanked`",
+        "line 2, column 9: key `deny` in [output]: unknown word `vulnerabilities`, expected `warnings`, `unmaintained`, `unsound` or `yanked`",
     ),
     (
         "[output]\ndeny = [\"warnings\", \"unsond\"]",
-        "line 2, column 1: key `deny` in [output]: unknown word `unsond`, expected `warnings`, `unmaintained`, `unsound` or `yanked`; did you mean `unsound`?",
+        "line 2, column 21: key `deny` in [output]: unknown word `unsond`, expected `warnings`, `unmaintained`, `unsound` or `yanked`; did you mean `unsound`?",
     ),
     (
         "[output]\nformat = \"sarif\"",
@@ -206,7 +214,11 @@ const UNKNOWN_WORDS: &[(&str, &str)] = &[
     ),
     (
         "[target]\nos = [\"linux\", \"macosx\"]",
-        "line 2, column 1: key `os` in [target]: no system has the name `macosx`, expected a name such as `linux`; did you mean `macos`?",
+        "line 2, column 16: key `os` in [target]: no system has the name `macosx`, expected a name such as `linux`; did you mean `macos`?",
+    ),
+    (
+        "[target]\narch = [\n    \"x86_64\",\n    \"quux\",\n]",
+        "line 4, column 5: key `arch` in [target]: no architecture has the name `quux`, expected a name such as `x86_64`",
     ),
     (
         "[packages]\nsource = \"al\"",

@@ -1,6 +1,6 @@
 use Rattle.std.proofs.Common.{◌≡◌, ◌∙◌, ◌<◌, None, Some, ap, option_map, refl, rules, subst, sym}
 use Rattle.semver.specs.Identifiers.{parts_of}
-use Rattle.rustsec_versions.specs.Ranges.{Range}
+use Rattle.rustsec_versions.specs.ranges.Ranges.{Range}
 use Rattle.rustsec_check.specs.LeastFree.{holding}
 use Rattle.rustsec_check.proofs.Sweep.{IsUpTo, fewer-left, free, left, never, start, up}
 use Rattle.rustsec_check.proofs.update.sweep.Goals as goal

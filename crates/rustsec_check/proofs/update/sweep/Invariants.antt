@@ -1,5 +1,5 @@
 use Rattle.semver.specs.Identifiers.{parts_of}
-use Rattle.rustsec_versions.specs.Precedence.{IsVersion}
+use Rattle.rustsec_versions.specs.order.Precedence.{IsVersion}
 use Rattle.rustsec_check.specs.LeastFree.{HaveValidFixes}
 use Rattle.rustsec_check.proofs.Sweep.{IsUpTo, left}
 use Rattle.rustsec_check.proofs.update.sweep.Given as goal

@@ -1,7 +1,7 @@
 use Rattle.std.proofs.Common.{◌≡◌, map, take}
 use Rattle.serde_json.specs.Data.{string}
 use Rattle.serde_json.specs.View.{view}
-use Rattle.rustsec_versions.specs.RequirementText.{requirement_text}
+use Rattle.rustsec_versions.specs.requirement.RequirementText.{requirement_text}
 use Rattle.rustsec_versions.specs.Views.{comparators_of}
 use Rattle.rustsec_check_output.proofs.object.requirements_tree.Given as goal
 

@@ -1,5 +1,5 @@
 use Rattle.std.proofs.Common.{map}
-use Rattle.rustsec_commands.proofs.Once.{one-output-of}
+use Rattle.rustsec_commands.proofs.lemmas.Once.{one-output-of}
 use Rattle.rustsec_commands.proofs.commands.run_over.Goals as goal
 
 pub returns-in-Ok-clause-once : goal.returns-in-Ok-clause-once

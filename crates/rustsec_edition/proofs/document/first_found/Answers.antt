@@ -1,7 +1,6 @@
 use Rattle.std.proofs.Common.{◌≡◌, ◌∙◌, ◌==◌, ◌+◌, ◌-◌, arith, false, length, suc, sym, true}
 use Rattle.std.proofs.lemmas.Grind.{common_steps}
 use Rattle.rustsec_edition.proofs.Forms.{no_more, no_room, none_first, one_more, some_first}
-use Rattle.rustsec_edition.specs.Forms.{form_at}
 use Rattle.rustsec_edition.proofs.document.first_found.Goals as goal
 
 pub returns-then-not-branch : goal.returns-then-not-branch

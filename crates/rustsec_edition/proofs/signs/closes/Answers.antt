@@ -1,4 +1,4 @@
-use Rattle.std.proofs.Common.{◌≡◌, ◌∙◌, ◌==◌, ◌+◌, ◌-◌, None, arith, false, is_some, length, rules, suc, sym, true}
+use Rattle.std.proofs.Common.{◌≡◌, ◌∙◌, ◌==◌, ◌+◌, ◌-◌, None, arith, false, is_some, length, suc, sym, true}
 use Rattle.std.proofs.lemmas.Grind.{common_steps}
 use Rattle.rustsec_edition.specs.Forms.{form_at}
 use Rattle.rustsec_edition.proofs.Closing.{a_form, all_closed, is_none, no_room, no_text, one_more}

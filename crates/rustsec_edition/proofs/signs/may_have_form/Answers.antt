@@ -1,12 +1,12 @@
-use Rattle.std.proofs.Common.{◌∙◌, sym}
-use Rattle.rustsec_edition.proofs.Clean.{none_left, none_without_sign, sign_more}
+use Rattle.std.proofs.Common.{◌≡◌, ◌∙◌, ℕ, List, false, subst, sym}
+use Rattle.std.proofs.lemmas.Result.{IfOk-weaker}
+use Rattle.rustsec_edition.specs.Signs.{has_sign_byte}
+use Rattle.rustsec_edition.proofs.Clean.{no_signs, none_without_sign}
 use Rattle.rustsec_edition.proofs.signs.may_have_form.Goals as goal
 
-pub bytes-preserved : goal.bytes-preserved
-bytes-preserved c =
-    let byte = c.byte_at-byte.ensures in
-    c.bytes.invariant ∙ sign_more c.bytes.earlier c.bytes.before c.args.document.now c.bytes.at c.byte_at-byte.result c.bytes-test.true byte
-    (sym c.is_sign.ensures ∙ c.if-is_sign.false) (rw byte (sym c.in_ok-stays_open.ensures ∙ c.if-branch.false))
-
 pub returns : goal.returns
-returns c = λ _. none_without_sign c.args.document.now (c.bytes.invariant ∙ none_left c.args.document.now c.bytes.at _ _ c.bytes-test.false)
+returns c =
+    let document = c.args.document.now in
+    let bytes = subst (λ (d : List ℕ). has_sign_byte 0 0 d ≡ false) c.as_bytes.ensures.value (sym c.has_sign_byte.ensures ∙ c.if-has_sign_byte.false) in
+    IfOk-weaker c.has_open_brace.result _ _ (λ b is. λ h. none_without_sign document (no_signs 0 0 document bytes (sym is ∙ h)))
+    c.has_open_brace.ensures

@@ -8,7 +8,7 @@ use Rattle.std.specs.declared.cmp.Ordering.{Ordering}
 use Rattle.std.proofs.lemmas.Fn.{always_returns_same}
 use Rattle.std.proofs.lemmas.List.Sorted.{ranks_by}
 use Rattle.std.proofs.lemmas.Result.{on_ok_weaker}
-use Rattle.rustsec_versions.proofs.PrecedenceLaws.{total}
+use Rattle.rustsec_versions.proofs.lemmas.order.PrecedenceLaws.{total}
 use Rattle.rustsec_osv_evaluation.specs.Event.{event_view, version_of}
 use Rattle.rustsec_osv_evaluation.proofs.range.sort.Goals as goal
 use denote.Param.Members.{Mut}

@@ -1,6 +1,6 @@
 use Rattle.std.proofs.Common.{◌∙◌}
 use Rattle.semver.specs.Identifiers.{parts_of}
-use Rattle.rustsec_versions.specs.Precedence.{is_below}
+use Rattle.rustsec_versions.specs.order.Precedence.{is_below}
 use Rattle.rustsec_page.proofs.Mapped.{kept_map}
 use Rattle.rustsec_page.proofs.cuts.place.Goals as goal
 

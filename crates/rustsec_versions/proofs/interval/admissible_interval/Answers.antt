@@ -2,11 +2,11 @@ use Rattle.std.proofs.Common.{◌≡◌, Bool, Ok, Err, Some, None, true, false,
 use Rattle.std.specs.Prelude.{IfErr, IfOk, OnErr, OnOk, Result}
 use Rattle.rustsec_values.specs.Reading.{only_if}
 use Rattle.rustsec_error.specs.Failure.{Failure, IsRefusal}
-use Rattle.rustsec_versions.specs.Interval.{Interval}
+use Rattle.rustsec_versions.specs.interval.Interval.{Interval}
 use Rattle.rustsec_versions.specs.Views.{comparators_of}
 use Rattle.rustsec_error.specs.declared.error.ErrorKind.{ErrorKind}
 use Rattle.rustsec_error.proofs.Refusals.{refused_by}
-use Rattle.rustsec_versions.proofs.Sound.{interval_of-stated}
+use Rattle.rustsec_versions.proofs.lemmas.requirement.Sound.{interval_of-stated}
 use Rattle.rustsec_versions.proofs.interval.admissible_interval.Goals as goal
 
 made_under : (r : Result Interval Failure) (b : Bool) (i : Interval) → IfOk r (λ x. x ≡ i) → OnOk r (b ≡ true)
@@ -25,15 +25,15 @@ none_under P (Err e) b i h = λ p. rw h refl
 
 pub returns-clause-ok : goal.returns-clause-ok
 returns-clause-ok c =
-    let made = interval_of-stated (comparators_of c.args.req.now) _ c.in_ok-start.ensures.ok (sym (c.if-not-is_start.ensures)) (sym (c.if-not-is_end.ensures)) in
+    let made = interval_of-stated (comparators_of c.args.req.now) _ c.in_ok-start.ensures.ok (sym (c.if-not-start_cut_exists.ensures)) (sym (c.if-not-end_cut_exists.ensures)) in
     rw made (made_under _ _ _ c.new.ensures.ok c.new.ensures.in_order)
 
 pub returns-clause-err : goal.returns-clause-err
 returns-clause-err c =
-    let made = interval_of-stated (comparators_of c.args.req.now) _ c.in_ok-start.ensures.ok (sym (c.if-not-is_start.ensures)) (sym (c.if-not-is_end.ensures)) in
+    let made = interval_of-stated (comparators_of c.args.req.now) _ c.in_ok-start.ensures.ok (sym (c.if-not-start_cut_exists.ensures)) (sym (c.if-not-end_cut_exists.ensures)) in
     rw made (refused_under _ _ _ _ c.new.ensures.err)
 
 pub returns-clause-none : goal.returns-clause-none
 returns-clause-none c =
-    let made = interval_of-stated (comparators_of c.args.req.now) _ c.in_ok-start.ensures.ok (sym (c.if-not-is_start.ensures)) (sym (c.if-not-is_end.ensures)) in
+    let made = interval_of-stated (comparators_of c.args.req.now) _ c.in_ok-start.ensures.ok (sym (c.if-not-start_cut_exists.ensures)) (sym (c.if-not-end_cut_exists.ensures)) in
     rw made (none_under _ _ _ _ c.new.ensures.refused)

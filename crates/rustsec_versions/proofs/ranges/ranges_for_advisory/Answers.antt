@@ -1,5 +1,5 @@
-use Rattle.rustsec_versions.proofs.Agreement.{all-cuts, kept-alone, kept-apart, kept-empty, kept-order}
-use Rattle.rustsec_versions.proofs.LeastAbove.{successor-least}
+use Rattle.rustsec_versions.proofs.lemmas.ranges.Agreement.{all-cuts, kept-alone, kept-apart, kept-empty, kept-order}
+use Rattle.rustsec_versions.proofs.lemmas.order.LeastAbove.{successor-least}
 use Rattle.rustsec_versions.proofs.ranges.ranges_for_advisory.Goals as goal
 
 pub returns-clause-ranges : goal.returns-clause-ranges

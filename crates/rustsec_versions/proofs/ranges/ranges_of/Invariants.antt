@@ -1,5 +1,5 @@
 use Rattle.std.proofs.Common.{◌≡◌, map, take}
-use Rattle.rustsec_versions.specs.Gaps.{cut}
+use Rattle.rustsec_versions.specs.ranges.Gaps.{cut}
 use Rattle.rustsec_versions.proofs.ranges.ranges_of.Given as goal
 
 -- the ranges of the gaps so far

@@ -1,4 +1,4 @@
-use Rattle.std.proofs.Common.{◌∙◌, ◌<◌, length, ap, cond, nat_eq, not, refl, subst, sym}
+use Rattle.std.proofs.Common.{◌≡◌, ◌∙◌, ◌<◌, length, ap, cond, false, nat_eq, not, refl, rules, subst, sym}
 use Rattle.std.specs.Cmp.Lexicographic.{pointwise}
 use Rattle.std.specs.List.{list_any}
 use Rattle.rustsec_database.specs.Indexes.{shown}
@@ -60,3 +60,17 @@ returns-in_ok-insert_first-in-None-clause-slots c = λ name.
     let view = ap (λ m. shown m.entries) c.get_mut.follows.holds-at-none ∙ c.self.view_is in
     c.in_ok-insert_first-in-None.ensures.ok name
     ∙ (λ i. cond (pointwise nat_eq c.args.key.now name) (with_slot c.args.slot (sym none i)) (slots_at name (view i)))
+
+pub returns-in_err-fresh-in-Some-clause-none : goal.returns-in_err-fresh-in-Some-clause-none
+returns-in_err-fresh-in-Some-clause-none c =
+    let found = found-slots c.args.key.now c.self.inside.slots c.args.self.now c.in-Some.slots.now c.self.view_is c.in-Some.ensures.value in
+    let none : list_any (nat_eq c.args.slot) (slots_at c.args.key.now c.args.self.now) ≡ false =
+    ap (list_any (nat_eq c.args.slot)) found ∙ c.in_err-fresh-in-Some.ensures.none in
+    search (rules, none)
+
+pub returns-in_err-insert_first-in-None-clause-none : goal.returns-in_err-insert_first-in-None-clause-none
+returns-in_err-insert_first-in-None-clause-none c =
+    let found = no-slots c.args.key.now c.self.inside.slots c.args.self.now c.self.view_is c.in-None.ensures.value in
+    let none : list_any (nat_eq c.args.slot) (slots_at c.args.key.now c.args.self.now) ≡ false =
+    ap (list_any (nat_eq c.args.slot)) found in
+    search (rules, none)

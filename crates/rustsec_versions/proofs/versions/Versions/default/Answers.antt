@@ -1,6 +1,6 @@
 use Rattle.std.proofs.Common.{◌∙◌, sym}
 use Rattle.std.proofs.lemmas.Bool.{false≢true}
-use Rattle.rustsec_versions.proofs.Clashes.{accepted-none}
+use Rattle.rustsec_versions.proofs.lemmas.acceptance.Clashes.{accepted-none}
 use Rattle.rustsec_error.proofs.Refusals.{only_memory}
 use Rattle.rustsec_versions.proofs.versions.Versions.default.Goals as goal
 

@@ -1,16 +1,16 @@
 use Rattle.std.proofs.Common.{◌≡◌, ◌+◌, ◌++◌, ◌≤◌, ◌^◌, ◌∙◌, ◌∷◌, ℕ, zero, suc, ap, arith, length, map, sym}
 use Rattle.std.specs.List.{list_any}
-use Rattle.rustsec_versions.specs.Interval.{holds}
+use Rattle.rustsec_versions.specs.interval.Interval.{holds}
 use Rattle.std.proofs.Math.ListN.{length-map}
 use Rattle.std.proofs.lemmas.List.Sorted.{IsPermutation-refl}
 use Rattle.semver.specs.Identifiers.{parts_of}
-use Rattle.rustsec_versions.specs.AcceptedRanges.{HasBinaryDigits}
-use Rattle.rustsec_versions.specs.Between.{AreGapsOf}
-use Rattle.rustsec_versions.specs.Gaps.{cut}
-use Rattle.rustsec_versions.specs.Ranges.{whole}
-use Rattle.rustsec_versions.proofs.Agreement.{kept-length, kept-order}
-use Rattle.rustsec_versions.proofs.Clashes.{affected-build}
-use Rattle.rustsec_versions.proofs.Halving.{digits-least, first-begins, later-begin}
+use Rattle.rustsec_versions.specs.ranges.AcceptedRanges.{HasBinaryDigits}
+use Rattle.rustsec_versions.specs.ranges.Between.{AreGapsOf}
+use Rattle.rustsec_versions.specs.ranges.Gaps.{cut}
+use Rattle.rustsec_versions.specs.ranges.Ranges.{whole}
+use Rattle.rustsec_versions.proofs.lemmas.ranges.Agreement.{kept-length, kept-order}
+use Rattle.rustsec_versions.proofs.lemmas.acceptance.Clashes.{affected-build}
+use Rattle.rustsec_versions.proofs.lemmas.search.Halving.{digits-least, first-begins, later-begin}
 use Rattle.rustsec_versions.proofs.versions.Versions.is_vulnerable_counted.Goals as goal
 
 pub in_gaps-requires-clause-turn : goal.in_gaps-requires-clause-turn

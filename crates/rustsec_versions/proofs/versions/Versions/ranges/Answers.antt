@@ -1,7 +1,7 @@
 use Rattle.std.proofs.Common.{rules, subst, sym}
-use Rattle.rustsec_versions.specs.Between.{AreGapsOf}
-use Rattle.rustsec_versions.specs.Lists.{Lists}
-use Rattle.rustsec_versions.proofs.Agreement.{some_gap}
+use Rattle.rustsec_versions.specs.ranges.Between.{AreGapsOf}
+use Rattle.rustsec_versions.specs.acceptance.Lists.{Lists}
+use Rattle.rustsec_versions.proofs.lemmas.ranges.Agreement.{some_gap}
 use Rattle.rustsec_versions.proofs.versions.Versions.ranges.Goals as goal
 
 pub returns-in_err-ranges-clause-none : goal.returns-in_err-ranges-clause-none

@@ -1,0 +1,3 @@
+-- Words that name no command, and options word by word.
+pub mod OptionWords
+pub mod Unknown

@@ -1,0 +1,2 @@
+-- The lines of an input, one after the other.
+pub mod Turns

@@ -1,0 +1,90 @@
+//! The command `affected`: which versions the requirements leave affected.
+
+ghost use Rattle.rustsec_commands.specs.declared.fault.Fault.TheVariants as fault;
+ghost use Rattle.std.specs.Prelude.{◌≡◌, ◌≢◌, IfErr, IfOk, IfSome, OnOk, flat_map, map, string_bytes};
+ghost use Rattle.std.specs.Io.KnownBytes.{Appends, Keeps};
+ghost use Rattle.semver.specs.Identifiers.{parts_of};
+ghost use Rattle.rustsec_commands.specs.Output.{affected_output, verdict, verdicts};
+
+use crate::error_output::refused_output;
+use crate::fault::Fault;
+use crate::input::read::read_all;
+use crate::input::{self, Input, InputKind};
+use crate::output::{Output, malformed_output};
+use rustsec_error::ErrorKind;
+use rustsec_versions::Versions;
+use semver::Version;
+use std::alloc::{AllocError, Global};
+use std::fmt::Write as _;
+use std::io::{Read, Write};
+
+/// Returns a line for each version, which says whether it is affected.
+fn verdict_lines(
+    alloc: Global,
+    lists: &Versions,
+    versions: &[Version],
+) -> Result<String, AllocError>
+    ensures { IfOk result (λ t. string_bytes t ≡ flat_map (verdict lists.now) (map parts_of versions.now)) }
+{
+    let mut text = String::new(alloc);
+    for version in versions {
+        if lists.is_vulnerable(version) {
+            writeln!(text, "{version} affected")?;
+        } else {
+            writeln!(text, "{version} not affected")?;
+        }
+    }
+    Ok(text)
+}
+
+/// Makes the output of `affected` for an input without a malformed line.
+fn verdicts(alloc: Global, parsed: Input) -> Result<Output, AllocError>
+    ensures { IfOk result (λ o. o ≡ verdicts parsed) }
+{
+    let Input {
+        patched,
+        unaffected,
+        versions,
+    } = parsed;
+    match Versions::new(alloc, patched, unaffected) {
+        Ok(lists) => Ok(Output::new(verdict_lines(alloc, &lists, &versions)?, 0)),
+        Err(e) if e.kind() == ErrorKind::OutOfMemory => Err(AllocError),
+        Err(e) => refused_output(alloc, &e),
+    }
+}
+
+/// Makes the output of `affected` for an input.
+pub fn affected_output(alloc: Global, input: &[u8]) -> Result<Output, AllocError>
+    ensures { IfOk result (λ o. o ≡ affected_output input.now) }
+{
+    match input::parse(alloc, InputKind::Verdicts, input)? {
+        Ok(parsed) => verdicts(alloc, parsed),
+        Err(place) => malformed_output(alloc, input, place),
+    }
+}
+
+/// Makes the output of `affected` for all that a reader has left.
+pub(crate) fn affected_of<R: Read>(alloc: Global, input: &mut R) -> Result<Output, Fault>
+    ensures ok { IfOk result (λ o. IfSome (R.remaining input.old) (λ bytes. o ≡ affected_output bytes)) }
+    ensures err { IfErr result (λ e. e ≢ fault.Write) }
+{
+    let bytes = read_all(alloc, input)?;
+    Ok(affected_output(alloc, &bytes)?)
+}
+
+/// Carries out `affected`: reads all there is, and writes a line for each version that the input names. The
+/// whole text is made before the first write. Returns the status: 0, or 2 if a line is malformed or the
+/// requirements are not accepted.
+///
+/// # Errors
+///
+/// `Memory` or `Read`, with nothing written; or `Write`, after which it is unspecified how much was
+/// written.
+pub fn answer<R: Read, W: Write>(alloc: Global, input: &mut R, output: &mut W) -> Result<u8, Fault>
+    ensures status { IfOk result (λ s. IfSome (R.remaining input.old) (λ bytes. s ≡ (affected_output bytes).status)) }
+    ensures text { OnOk result (IfSome (R.remaining input.old) (λ bytes.
+        Appends (W.contents output.old) (W.contents output.new) (affected_output bytes).text)) }
+    ensures kept { IfErr result (λ e. e ≢ fault.Write → Keeps (W.contents output.old) (W.contents output.new)) }
+{
+    affected_of(alloc, input)?.write(output)
+}

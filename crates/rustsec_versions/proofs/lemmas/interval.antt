@@ -1,0 +1,3 @@
+-- Laws of bounds and intervals.
+pub mod Bounds
+pub mod Cuts

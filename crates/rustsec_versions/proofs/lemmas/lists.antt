@@ -1,0 +1,4 @@
+-- Laws of lists.
+pub mod Compared
+pub mod Contained
+pub mod Shuffled

@@ -1,0 +1,2 @@
+-- The binary search among gaps.
+pub mod Halving

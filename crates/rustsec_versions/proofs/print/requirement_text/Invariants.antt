@@ -1,8 +1,0 @@
-use Rattle.std.proofs.Common.{◌≡◌, ◌++◌, drop, map, string_bytes}
-use Rattle.semver.specs.Identifiers.{comparator_view}
-use Rattle.rustsec_versions.specs.RequirementText.{more_text, requirement_text}
-use Rattle.rustsec_versions.proofs.print.requirement_text.Given as goal
-
-abbrev pub invariant-loop-c : goal.invariant-loop-c
-invariant-loop-c l =
-    string_bytes l.text ++ more_text (map comparator_view (drop l.c-index l.others)) ≡ requirement_text (map comparator_view l.req.comparators.items)

@@ -1,0 +1,4 @@
+-- Which lists of requirements are accepted, and which intervals are merged.
+pub mod Lists
+pub mod Merged
+pub mod Sweep

@@ -1,0 +1,4 @@
+-- Intervals of versions.
+pub mod Apart
+pub mod Interval
+pub mod IntervalText

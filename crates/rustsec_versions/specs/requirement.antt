@@ -1,0 +1,3 @@
+-- Requirements: the intervals that they state, and their texts.
+pub mod Requirement
+pub mod RequirementText
