@@ -1,50 +1,50 @@
 //! Whether requirements are accepted with each one as an unaffected one, so that no two may overlap.
 
-ghost use Rattle.std.specs.Prelude.{◌≡◌, ◌++◌, IfOk, OnOk, map};
-ghost use Rattle.rustsec_versions.specs.acceptance.Lists.{accepted_apart};
-ghost use Rattle.rustsec_versions.specs.Views.{comparators_of};
+ghost use Rattle.std.specs.Prelude.{◌≡◌, ◌++◌, IfErr, IfOk, OnOk, false, true};
+ghost use Rattle.rustsec_error.specs.Failure.{IsRefusal};
+ghost use Rattle.rustsec_versions.specs.acceptance.Lists.{Lists, accepted, accepted_apart, all_admissible};
+ghost use Rattle.rustsec_versions.specs.acceptance.Sweep.{all_tagged, tagged};
 
+use crate::acceptance::merge::merged_intervals;
+use crate::acceptance::tagged::{TaggedInterval, add_tagged, by_start};
 use crate::versions::Versions;
-use rustsec_error::ErrorKind;
-use semver::VersionReq;
+use rustsec_error::{ErrorKind, Result};
 use std::alloc::{AllocError, Global};
 
-/// Returns an equal requirement.
-fn copy_of(requirement: &VersionReq) -> Result<VersionReq, AllocError>
-    ensures { IfOk result (λ r. comparators_of r ≡ comparators_of requirement.now) }
+/// Returns the intervals of the requirements of both lists, each one as that of an unaffected requirement.
+fn unaffected_intervals<'a>(
+    alloc: Global,
+    versions: &'a Versions,
+) -> Result<Vec<TaggedInterval<'a>>>
+    ensures ok { IfOk result (λ v. v.items ≡ tagged false (versions.now.patched ++ versions.now.unaffected)) }
+    ensures admissible { OnOk result (all_admissible (versions.now.patched ++ versions.now.unaffected) ≡ true) }
+    ensures err { IfErr result (IsRefusal ErrorKind.BadParam (all_admissible (versions.now.patched ++ versions.now.unaffected) ≡ false)) }
 {
-    let copy = requirement.clone()?;
-    Ok(copy)
+    let mut intervals = Vec::new(alloc);
+    add_tagged(alloc, versions.patched(), false, &mut intervals)?;
+    add_tagged(alloc, versions.unaffected(), false, &mut intervals)?;
+    Ok(intervals)
 }
 
-/// Appends copies of the requirements of a list.
-fn push_copies(all: &mut Vec<VersionReq>, list: &[VersionReq]) -> Result<(), AllocError>
-    ensures { OnOk result (map comparators_of all.new.items ≡ map comparators_of all.old.items ++ map comparators_of list.now) }
+/// Returns whether lists with these intervals are accepted.
+fn are_clear(alloc: Global, intervals: &[TaggedInterval]) -> std::result::Result<bool, AllocError>
+    ensures { (ls : Lists) → all_admissible (ls.patched ++ ls.unaffected) ≡ true → intervals.now ≡ all_tagged ls
+        → IfOk result (λ b. b ≡ accepted ls) }
 {
-    for requirement in list {
-        let copy = copy_of(requirement)?;
-        all.push(copy)?;
-    }
-    Ok(())
-}
-
-/// Returns copies of the patched requirements, and after them of the unaffected ones.
-fn all_of(alloc: Global, versions: &Versions) -> Result<Vec<VersionReq>, AllocError>
-    ensures { IfOk result (λ v. map comparators_of v.items ≡ versions.now.patched ++ versions.now.unaffected) }
-{
-    let mut all = Vec::new(alloc);
-    push_copies(&mut all, versions.patched())?;
-    push_copies(&mut all, versions.unaffected())?;
-    Ok(all)
+    let sorted = by_start(alloc, intervals)?;
+    let merged = merged_intervals(alloc, &sorted)?;
+    Ok(merged.is_some())
 }
 
 /// Returns whether lists of requirements are accepted with each requirement as an unaffected one.
-pub(crate) fn accepted_as_unaffected(alloc: Global, versions: &Versions) -> Result<bool, AllocError>
+pub(crate) fn accepted_as_unaffected(
+    alloc: Global,
+    versions: &Versions,
+) -> std::result::Result<bool, AllocError>
     ensures { IfOk result (λ b. b ≡ accepted_apart versions.now) }
 {
-    let all = all_of(alloc, versions)?;
-    match Versions::new(alloc, Vec::new(alloc), all) {
-        Ok(_) => Ok(true),
+    match unaffected_intervals(alloc, versions) {
+        Ok(intervals) => are_clear(alloc, &intervals),
         Err(e) => match e.kind() {
             ErrorKind::BadParam => Ok(false),
             _ => Err(AllocError),

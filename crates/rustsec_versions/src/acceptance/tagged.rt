@@ -33,7 +33,7 @@ impl<'a> Model for TaggedInterval<'a> {
 }
 
 /// Appends the interval of each requirement of one list.
-fn add_tagged<'a>(
+pub(crate) fn add_tagged<'a>(
     alloc: Global,
     reqs: &'a [VersionReq],
     is_patched: bool,

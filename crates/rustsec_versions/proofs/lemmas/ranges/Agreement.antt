@@ -139,6 +139,14 @@ module _ (ls : Lists) (all : all_admissible (ls.patched ++ ls.unaffected) ≡ tr
       in_turn = gaps-in_turn _ walk-row;
     }
 
+  -- the sweep finds no two that clash exactly if the lists are accepted
+  pub sweep-accepted : is_some (all_swept (map (λ x. x.now) xs)) ≡ accepted ls
+  sweep-accepted = decided (all_swept (map (λ x. x.now) xs)) refl
+    where
+      decided : (o : Option (List TaggedInterval)) → all_swept (map (λ x. x.now) xs) ≡ o → is_some o ≡ accepted ls
+      decided None e = sym (sweep-refused e)
+      decided (Some ms) e = sym (same-clear ∙ (walk-swept ms e).clear)
+
 -- ---- what the ranges of accepted lists give
 
 module _ (ls : Lists) where
