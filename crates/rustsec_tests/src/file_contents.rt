@@ -1,8 +1,9 @@
 //! The contents of files are kept unchanged: byte order marks, line ends, and files of more than a megabyte.
 
 use rustsec_advisory::Advisory;
+use rustsec_command_fixtures::writes;
 use rustsec_error::ErrorKind;
-use rustsec_fixtures::{VALID, changed, kind_of, writes};
+use rustsec_fixtures::{VALID, changed, kind_of};
 use std::alloc::Global;
 use std::fmt::Write as _;
 use std::fs;

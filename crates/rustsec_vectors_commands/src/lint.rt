@@ -2,7 +2,8 @@
 
 use crate::outputs::expect_outputs;
 use rustsec_advisory::linter::{self, ErrorKind, Linter};
-use rustsec_fixtures::{INVALID, INVALID_ERRORS, VALID, changed, writes};
+use rustsec_command_fixtures::writes;
+use rustsec_fixtures::{INVALID, INVALID_ERRORS, VALID, changed};
 use std::alloc::Global;
 use std::fs;
 use std::process::Abort;

@@ -1,7 +1,8 @@
 //! The command `osv`, over files that a test writes.
 
 use crate::outputs::expect_outputs;
-use rustsec_fixtures::{SHORT, SHORT_DOCUMENT, changed, writes};
+use rustsec_command_fixtures::writes;
+use rustsec_fixtures::{SHORT, SHORT_DOCUMENT, changed};
 use std::fs;
 use std::rt::Files;
 use std::test::Fail;

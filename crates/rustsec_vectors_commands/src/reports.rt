@@ -1,8 +1,8 @@
 //! Reports: which pairs they list, their JSON trees, and what of them applies to compiled programs.
 
 use rustsec_advisory::Affected;
+use rustsec_command_fixtures::warning_lines;
 use rustsec_database::{Database, SourceFile};
-use rustsec_fixtures::warning_lines;
 use rustsec_lock::package::{Name, Package};
 use rustsec_lock::platforms::OS;
 use rustsec_lock::{Lockfile, Severity};

@@ -3,7 +3,8 @@
 use crate::folders::output_over;
 use crate::numbers::{REQUIREMENTS, numbered, occurrences};
 use rustsec_check::least_free;
-use rustsec_fixtures::{Holds, SHORT, changed, lists, version, writes};
+use rustsec_command_fixtures::writes;
+use rustsec_fixtures::{Holds, SHORT, changed, lists, version};
 use rustsec_versions::{Versions, ranges_for_advisory};
 use std::alloc::Global;
 use std::process::Abort;
