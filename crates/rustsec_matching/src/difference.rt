@@ -80,8 +80,9 @@ fn first_difference(requirement: &VersionReq, interval: &UnaffectedRange) -> Opt
 
 /// Returns a release that the interval of a requirement holds and `VersionReq::matches` does not match, or the other way
 /// round, if any. Such a requirement does not mean here what it means to Cargo: `<= 2` ends at 2.0.0 here, while
-/// Cargo's matching takes each version of major number 2. Only comparators with `>`, `<=` or `=` and without a patch
-/// number are read differently.
+/// Cargo's matching takes each version of major number 2. Of releases, only comparators with `>`, `<=` or `=` and
+/// without a patch number are read differently. Cargo's matching also leaves out most pre-releases, which are not
+/// compared here.
 ///
 /// # Errors
 ///

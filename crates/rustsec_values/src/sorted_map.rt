@@ -103,6 +103,9 @@ impl<K: Ord + Drop, V: Drop> SortedMap<K, V> {
     pub fn insert(&mut self, key: K, value: V) -> Result<(), AllocError>
         ensures ok { OnOk result (self.new ≡ insert_entry K.cmp self.old key value) }
         ensures err { OnErr result (self.new ≡ self.old) }
+
+        // A key that is there takes no memory.
+        ensures none { OnErr result (lookup (is_at (K.cmp key)) self.old ≡ None) }
     {
         self.map.insert(key, value)?;
         Ok(())
