@@ -1,5 +1,5 @@
-//! Further tests of all crates, besides the worked examples: the messages of errors and notes, tables of small texts,
-//! readers and writers that fail, and samples of the Rust crate's program. Expected values come from outside here too.
+//! Further tests of the crates below commands, besides the worked examples: the messages of errors, tables of small
+//! texts, readers that fail. Expected values come from outside here too.
 #![tactic(auto)]
 
 #[cfg(test)]
@@ -13,33 +13,19 @@ mod cvss;
 #[cfg(test)]
 mod fake_files;
 #[cfg(test)]
-mod file_contents;
-#[cfg(test)]
 mod function_paths;
 #[cfg(test)]
 mod ids;
 #[cfg(test)]
-mod lint_notes;
-#[cfg(test)]
-mod lint_places;
-#[cfg(test)]
-mod lint_warnings;
-#[cfg(test)]
-mod notes;
-#[cfg(test)]
 mod opened_folders;
 #[cfg(test)]
 mod osv_refusals;
-#[cfg(test)]
-mod paths;
 #[cfg(test)]
 mod readings;
 #[cfg(test)]
 mod refusal_messages;
 #[cfg(test)]
 mod refused_requirements;
-#[cfg(test)]
-mod sampled_commands;
 #[cfg(test)]
 mod scores;
 #[cfg(test)]
