@@ -20,7 +20,8 @@ mod pieces;
 mod ranked;
 mod section;
 mod style;
-#[cfg(test)]
-mod tests;
 
+pub use crate::links::push_linked;
+pub use crate::lists::push_yanked_list;
 pub use crate::page::page_text;
+pub use crate::pieces::push_content;

@@ -23,9 +23,13 @@ fn push_link(text: &mut String, address: &str, words: &str) -> Result<(), AllocE
     push_item(text, Item::LinkEnd)
 }
 
-/// Appends a text that links to an address, if the address begins with `https://`.
+/// Appends a text, escaped for HTML, that links to an address if the address begins with `https://`.
+///
+/// # Errors
+///
+/// Out of memory.
 #[tactic(auto, unfolding(crate::specs::Links::linked))]
-pub(crate) fn push_linked(text: &mut String, address: &str, words: &str) -> Result<(), AllocError>
+pub fn push_linked(text: &mut String, address: &str, words: &str) -> Result<(), AllocError>
     ensures { OnOk result (string_bytes text.new ≡ string_bytes text.old ++ text_of (linked address.now words.now)) }
 {
     if address.starts_with("https://") {

@@ -53,8 +53,12 @@ fn push_all_yanked(
 }
 
 /// Appends the section of yanked packages.
+///
+/// # Errors
+///
+/// Out of memory.
 #[tactic(auto, unfolding(crate::specs::Lists::yanked_list))]
-pub(crate) fn push_yanked_list(
+pub fn push_yanked_list(
     alloc: Global,
     text: &mut String,
     packages: &[Package],

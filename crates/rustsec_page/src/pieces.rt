@@ -68,9 +68,13 @@ pub(crate) fn push_drawing(text: &mut String, part: Drawing) -> Result<(), Alloc
     Ok(())
 }
 
-/// Appends a text.
+/// Appends a text, escaped for HTML.
+///
+/// # Errors
+///
+/// Out of memory.
 #[tactic(auto, unfolding(crate::specs::Pieces::bytes_of))]
-pub(crate) fn push_content(text: &mut String, words: &str) -> Result<(), AllocError>
+pub fn push_content(text: &mut String, words: &str) -> Result<(), AllocError>
     ensures { OnOk result (string_bytes text.new ≡ string_bytes text.old ++ text_of (content words.now ∷ [])) }
 {
     push_escaped(text, words)?;

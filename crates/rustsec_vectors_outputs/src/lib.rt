@@ -1,5 +1,5 @@
-//! Worked examples of what a check and an explanation are written as: text, JSON, logs of SARIF, Markdown. Expected texts
-//! are written by hand.
+//! Worked examples of what a check and an explanation are written as: text, JSON, logs of SARIF, Markdown, HTML. Expected
+//! texts are written by hand.
 #![tactic(auto)]
 
 #[cfg(test)]
@@ -12,5 +12,9 @@ mod explanations;
 mod markdown;
 #[cfg(test)]
 mod markdown_escaped;
+#[cfg(test)]
+mod page;
+#[cfg(test)]
+mod page_texts;
 #[cfg(test)]
 mod sarif;

@@ -1,7 +1,6 @@
 //! Rows of hostile texts and addresses.
 
-use crate::links::push_linked;
-use crate::pieces::push_content;
+use rustsec_page::{push_content, push_linked};
 use std::alloc::Global;
 use std::process::Abort;
 use std::test::Fail;

@@ -1,7 +1,5 @@
 //! The page of a check of three packages, written by hand.
 
-use crate::lists::push_yanked_list;
-use crate::page_text;
 use rustsec_advisory::Advisory;
 use rustsec_check::{Check, Finding, IgnoredPair, Update, Yanked};
 use rustsec_check_output::{Dated, Written};
@@ -9,6 +7,7 @@ use rustsec_database::Database;
 use rustsec_folders::SourceFile;
 use rustsec_lock::Lockfile;
 use rustsec_lock::package::Package;
+use rustsec_page::{page_text, push_yanked_list};
 use rustsec_policy::{Ignored, Policy};
 use rustsec_texts::WarningKind;
 use rustsec_values::Text;

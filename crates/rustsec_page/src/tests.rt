@@ -1,4 +1,0 @@
-//! Tests of the page.
-
-mod texts;
-mod whole;
