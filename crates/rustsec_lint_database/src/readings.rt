@@ -53,9 +53,19 @@ fn words(
     )
 }
 
+/// Returns whether Cargo's matching may read a requirement differently: whether it has a comparator with `>`, `<=` or `=`
+/// and without a patch number. If not, `find_difference` finds nothing.
+fn may_differ(requirement: &VersionReq) -> bool {
+    requirement.comparators.iter().any(|it| it.patch.is_none()
+        && matches!(it.op, Op::Greater | Op::LessEq | Op::Exact))
+}
+
 /// Returns a note on a requirement of accepted versions, which is admissible, if Cargo's matching reads it differently: how
 /// it is read here, and a release that shows the difference.
 fn reading_of(alloc: Global, requirement: &VersionReq) -> Result<Option<String>, AllocError> {
+    if !may_differ(requirement) {
+        return Ok(None);
+    }
     match find_difference(alloc, requirement) {
         Ok(Some(found)) => Ok(Some(words(alloc, requirement, &found)?)),
         Ok(None) => Ok(None),
