@@ -1,11 +1,11 @@
 //! Advisories with a description of a megabyte, and with thousands of affected functions.
 
 use crate::folders::output_over;
+use crate::lists::{printed, read_document};
 use crate::numbers::{FUNCTIONS, MEGABYTE, numbered, occurrences};
 use rustsec_advisory::{Advisory, Linter};
 use rustsec_fixtures::{Holds, VALID, changed};
 use rustsec_osv::OsvAdvisory;
-use serde_json::Value;
 use std::alloc::Global;
 use std::test::Fail;
 
@@ -58,16 +58,14 @@ fn lint_errors(alloc: Global, text: &str) -> Result<usize, Fail> {
 fn document(alloc: Global, text: &str) -> Result<String, Fail> {
     let advisory = Advisory::from_str(alloc, text)?;
     let document = OsvAdvisory::from_rustsec(alloc, advisory, MODIFIED)?;
-    let value = document.to_value(alloc)?;
-    Ok(value.to_string(alloc)?)
+    printed(alloc, &document)
 }
 
 /// Returns whether a copy of a document that is read prints as the document was.
 fn prints_again(alloc: Global, document: &str) -> Result<bool, Fail> {
-    let tree = Value::from_str(alloc, document)?;
-    let read = OsvAdvisory::from_value(alloc, &tree)?;
+    let read = read_document(alloc, document)?;
     let copy = read.clone(alloc)?;
-    let printed = copy.to_value(alloc)?.to_string(alloc)?;
+    let printed = printed(alloc, &copy)?;
     Ok(printed.as_str() == document)
 }
 
@@ -89,20 +87,40 @@ fn commands_answer(alloc: Global, file: &str, document: &str) -> Result<bool, Fa
     Ok(is_written && prints_again(alloc, document)?)
 }
 
+/// Returns whether a document has the long description.
+fn has_description(alloc: Global, document: &str) -> Result<bool, Fail> {
+    let description = description(alloc)?;
+    let member = format!(in alloc; "\"details\":\"{description}\"")?;
+    Ok(occurrences(document, &member) == 1)
+}
+
 /// Returns whether the document of the advisory with the long description has that description.
 fn description_is_exported(alloc: Global) -> Result<bool, Fail> {
     let text = described(alloc)?;
-    let description = description(alloc)?;
-    let member = format!(in alloc; "\"details\":\"{description}\"")?;
     let document = document(alloc, &text)?;
-    Ok(occurrences(&document, &member) == 1 && commands_answer(alloc, &text, &document)?)
+    Ok(has_description(alloc, &document)? && commands_answer(alloc, &text, &document)?)
+}
+
+/// Returns whether the advisory with a text has no lint error, and these sizes.
+fn has_sizes(
+    alloc: Global,
+    text: &str,
+    description: usize,
+    functions: usize,
+) -> Result<bool, Fail> {
+    let is_clean = lint_errors(alloc, text)? == 0;
+    Ok(is_clean && sizes(alloc, text)? == (description, functions, true))
+}
+
+/// Returns whether that holds for the advisory with the long description.
+fn description_has_size(alloc: Global) -> Result<bool, Fail> {
+    let text = described(alloc)?;
+    has_sizes(alloc, &text, MEGABYTE + 3, 1)
 }
 
 #[test]
 fn a_description_of_a_megabyte(rt: HostRuntime) -> Result<(), Fail> {
-    let text = described(rt.alloc())?;
-    assert!(rt; sizes(rt.alloc(), &text)? == (MEGABYTE + 3, 1, true));
-    assert!(rt; lint_errors(rt.alloc(), &text)? == 0);
+    assert!(rt; description_has_size(rt.alloc())?);
     assert!(rt; description_is_exported(rt.alloc())?);
     Ok(())
 }
@@ -115,11 +133,15 @@ fn functions_are_exported(alloc: Global) -> Result<bool, Fail> {
     Ok(count == FUNCTIONS as usize && commands_answer(alloc, &text, &document)?)
 }
 
+/// Returns whether the advisory with thousands of functions has no lint error, and all of them.
+fn functions_are_read(alloc: Global) -> Result<bool, Fail> {
+    let text = with_functions(alloc)?;
+    has_sizes(alloc, &text, DESCRIPTION.len(), FUNCTIONS as usize)
+}
+
 #[test]
 fn thousands_of_functions(rt: HostRuntime) -> Result<(), Fail> {
-    let text = with_functions(rt.alloc())?;
-    assert!(rt; sizes(rt.alloc(), &text)? == (DESCRIPTION.len(), FUNCTIONS as usize, true));
-    assert!(rt; lint_errors(rt.alloc(), &text)? == 0);
+    assert!(rt; functions_are_read(rt.alloc())?);
     assert!(rt; functions_are_exported(rt.alloc())?);
     Ok(())
 }

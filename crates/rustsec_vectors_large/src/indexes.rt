@@ -1,5 +1,6 @@
 //! An index of a registry with many versions of a package.
 
+use crate::files::BASE;
 use crate::numbers::numbered;
 use rustsec_error::ErrorKind;
 use rustsec_fixtures::{Failing, Holds, MemoryFolders, Paths};
@@ -33,23 +34,28 @@ fn index_of<'a>(alloc: Global, file: &'a str) -> Result<Vec<(&'a str, Holds<'a>)
     Ok(rows)
 }
 
-/// Returns the counts for a thousand versions of a package, all of them yanked by the last entry of their number.
-fn counts_of_versions(alloc: Global) -> Result<(usize, usize), Fail> {
-    let lockfile = numbered(
-        alloc,
-        VERSIONS,
-        "[[package]]\nname = \"base\"\nversion = \"0.0.@\"\n\
-        source = \"registry+https://github.com/rust-lang/crates.io-index\"\n",
-    )?;
+/// Returns the file of a thousand versions of a package, all of them yanked by the last entry of their number.
+fn index_file(alloc: Global) -> Result<String, Fail> {
     let kept = numbered(alloc, VERSIONS, "{\"name\":\"base\",\"vers\":\"0.0.@\"}\n")?;
     let yanked = numbered(
         alloc,
         VERSIONS,
         "{\"name\":\"base\",\"vers\":\"0.0.@\",\"yanked\":true}\n",
     )?;
-    let file = format!(in alloc; "{kept}{yanked}")?;
-    let rows = index_of(alloc, &file)?;
-    counts_in(alloc, &rows, &lockfile)
+    Ok(format!(in alloc; "{kept}{yanked}")?)
+}
+
+/// Returns the counts for a lockfile by an index with one file.
+fn counts_by(alloc: Global, file: &str, lockfile: &str) -> Result<(usize, usize), Fail> {
+    let rows = index_of(alloc, file)?;
+    counts_in(alloc, &rows, lockfile)
+}
+
+/// Returns the counts for a thousand versions of a package.
+fn counts_of_versions(alloc: Global) -> Result<(usize, usize), Fail> {
+    let lockfile = numbered(alloc, VERSIONS, BASE)?;
+    let file = index_file(alloc)?;
+    counts_by(alloc, &file, &lockfile)
 }
 
 #[test]

@@ -8,6 +8,8 @@ mod descriptions;
 #[cfg(test)]
 mod differences;
 #[cfg(test)]
+mod errors;
+#[cfg(test)]
 mod files;
 #[cfg(test)]
 mod folders;

@@ -74,27 +74,48 @@ fn thousands_of_yanked_packages(rt: HostRuntime) -> Result<(), Fail> {
     Ok(())
 }
 
+/// Returns the vulnerability of the first package of a lockfile by the advisory with a text.
+pub(crate) fn vulnerability_in(
+    alloc: Global,
+    lockfile: &Lockfile,
+    text: &str,
+) -> Result<Vulnerability, Fail> {
+    let package = lockfile.packages.get(0).ok_or("no package")?;
+    let advisory = Advisory::from_str(alloc, text)?;
+    Ok(Vulnerability::new(alloc, &advisory, package)?)
+}
+
 /// Returns the command that updates the packages of a lockfile, by the advisory `SHORT`.
 fn command_for(alloc: Global, lockfile: Lockfile) -> Result<FixCommand, Fail> {
-    let advisory = Advisory::from_str(alloc, SHORT)?;
-    let package = lockfile.packages.get(0).ok_or("no package")?;
-    let vulnerability = Vulnerability::new(alloc, &advisory, package)?;
+    let vulnerability = vulnerability_in(alloc, &lockfile, SHORT)?;
     let fixer = Fixer::new(lockfile, None, None);
     Ok(fixer.get_fix_command(alloc, &vulnerability, false)?)
 }
 
-/// Returns whether the command names thousands of versions of a package, each once and in order.
-fn names_thousands(alloc: Global) -> Result<bool, Fail> {
-    let template = "[[package]]\nname = \"base\"\nversion = \"0.0.@\"\n";
-    let text = numbered(alloc, PACKAGES, template)?;
-    let command = command_for(alloc, Lockfile::from_str(alloc, &text)?)?;
+/// Returns the words of a command, each before a space.
+fn words_of(alloc: Global, command: &FixCommand) -> Result<String, Fail> {
     let mut words = String::new(alloc);
     for word in command.words.as_slice() {
         words.push_str(word.as_str())?;
         words.push_str(" ")?;
     }
-    let wanted = numbered(alloc, PACKAGES, "base#0.0.@ ")?;
-    let wanted = wanted.replace(alloc, "#", "@")?;
+    Ok(words)
+}
+
+/// Returns the words of the command that updates thousands of versions of a package.
+fn words_for_thousands(alloc: Global) -> Result<String, Fail> {
+    let template = "[[package]]\nname = \"base\"\nversion = \"0.0.@\"\n";
+    let text = numbered(alloc, PACKAGES, template)?;
+    let lockfile = Lockfile::from_str(alloc, &text)?;
+    let command = command_for(alloc, lockfile)?;
+    words_of(alloc, &command)
+}
+
+/// Returns whether the command names thousands of versions of a package, each once and in order.
+fn names_thousands(alloc: Global) -> Result<bool, Fail> {
+    let words = words_for_thousands(alloc)?;
+    let wanted = numbered(alloc, PACKAGES, "base$0.0.@ ")?;
+    let wanted = wanted.replace(alloc, "$", "@")?;
     Ok(words.strip_prefix("update ") == Some(wanted.as_str()))
 }
 
@@ -102,6 +123,18 @@ fn names_thousands(alloc: Global) -> Result<bool, Fail> {
 fn thousands_of_packages_to_update(rt: HostRuntime) -> Result<(), Fail> {
     assert!(rt; names_thousands(rt.alloc())?);
     Ok(())
+}
+
+/// Reads a document.
+pub(crate) fn read_document(alloc: Global, text: &str) -> Result<OsvAdvisory, Fail> {
+    let tree = Value::from_str(alloc, text)?;
+    Ok(OsvAdvisory::from_value(alloc, &tree)?)
+}
+
+/// Returns a document as it prints.
+pub(crate) fn printed(alloc: Global, document: &OsvAdvisory) -> Result<String, Fail> {
+    let tree = document.to_value(alloc)?;
+    Ok(tree.to_string(alloc)?)
 }
 
 /// Returns an OSV document of the crate `base` with hundreds of ranges of affected versions, the greatest first.
@@ -115,8 +148,7 @@ pub(crate) fn document(alloc: Global) -> Result<OsvAdvisory, Fail> {
     let text = format!(in alloc;
         "{{\"details\":\"\",\"id\":\"x\",\"modified\":\"\",\"published\":\"\",\"summary\":\"\",\"affected\":[{{\"database_specific\":{{}},\"package\":{{\"ecosystem\":\"crates.io\",\"name\":\"base\"}},\"ranges\":[{{\"type\":\"SEMVER\",\"events\":[{events}]}}]}}]}}"
     )?;
-    let tree = Value::from_str(alloc, &text)?;
-    Ok(OsvAdvisory::from_value(alloc, &tree)?)
+    read_document(alloc, &text)
 }
 
 /// Returns whether a document calls a version of the crate `base` affected.
@@ -130,12 +162,17 @@ fn calls_affected(alloc: Global, document: &OsvAdvisory, version: &str) -> Resul
     Ok(is_affected(alloc, document, &question)?)
 }
 
-/// Returns whether the version in the middle of the last range is affected, and the one that ends it is not.
-fn is_evaluated(alloc: Global) -> Result<bool, Fail> {
-    let document = document(alloc)?;
+/// Returns whether a document calls the version in the middle of the last range affected, and not the one that ends it.
+fn ends_last_range(alloc: Global, document: &OsvAdvisory) -> Result<bool, Fail> {
     let inside = format!(in alloc; "{RANGES}.1.5")?;
     let end = format!(in alloc; "{RANGES}.2.0")?;
-    Ok(calls_affected(alloc, &document, &inside)? && !calls_affected(alloc, &document, &end)?)
+    Ok(calls_affected(alloc, document, &inside)? && !calls_affected(alloc, document, &end)?)
+}
+
+/// Returns whether the document with hundreds of ranges does so.
+fn is_evaluated(alloc: Global) -> Result<bool, Fail> {
+    let document = document(alloc)?;
+    ends_last_range(alloc, &document)
 }
 
 #[test]

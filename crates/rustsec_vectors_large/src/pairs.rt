@@ -110,14 +110,29 @@ fn listed(
     Ok((report.vulnerabilities.list.len(), warnings))
 }
 
+/// Returns the lockfile of this many packages.
+fn lockfile(alloc: Global, packages: u32) -> Result<Lockfile, Fail> {
+    let text = numbered(alloc, packages, BASE)?;
+    Ok(Lockfile::from_str(alloc, &text)?)
+}
+
+/// Returns whether the report that ignores an ID lists as many as a row wants.
+fn are_listed(
+    alloc: Global,
+    database: &Database,
+    lockfile: &Lockfile,
+    row: &Row<'_>,
+) -> Result<bool, Fail> {
+    let settings = settings(alloc, row.ignored)?;
+    Ok(listed(alloc, database, lockfile, &settings)? == row.listed)
+}
+
 /// Returns whether each package gives a pair, and the report lists as many as a row wants.
 fn is_wanted(alloc: Global, row: &Row<'_>) -> Result<bool, Fail> {
     let database = database(alloc, row.line)?;
-    let lockfile = Lockfile::from_str(alloc, &numbered(alloc, row.packages, BASE)?)?;
-    let settings = settings(alloc, row.ignored)?;
+    let lockfile = lockfile(alloc, row.packages)?;
     let found = pair_count(alloc, &database, &lockfile)?;
-    let listed = listed(alloc, &database, &lockfile, &settings)?;
-    Ok(found == row.packages as usize && listed == row.listed)
+    Ok(found == row.packages as usize && are_listed(alloc, &database, &lockfile, row)?)
 }
 
 #[test]

@@ -2,12 +2,12 @@
 //! refuses a short text.
 
 use crate::numbers::LONG;
-use rustsec::database::Database;
+use rustsec::database::{Database, Query};
 use rustsec_advisory::Address;
 use rustsec_error::{ErrorKind, FromText};
 use rustsec_fixtures::{VALID, changed, kind_of};
 use rustsec_folders::SourceFile;
-use rustsec_lock::package::Name;
+use rustsec_lock::package::{Name, Package};
 use rustsec_lock::platforms::{Arch, OS};
 use rustsec_lock::{Cvss, Lockfile, SourceId};
 use rustsec_texts::{
@@ -148,7 +148,34 @@ fn loaded(alloc: Global, more: &str) -> Result<std::result::Result<usize, ErrorK
     })
 }
 
-/// Returns whether a lockfile of a package with a long name, version and source is read, and has each of them.
+/// Returns whether a query for a package asks for its name, its version and its source.
+fn is_asked(alloc: Global, package: &Package) -> Result<bool, Fail> {
+    let query = Query::new(alloc).package(alloc, package)?;
+    Ok(
+        query.asked_name() == Some(&package.name)
+            && query.asked_version() == Some(&package.version)
+            && query.asked_source() == package.source.as_ref(),
+    )
+}
+
+/// Returns whether a package has a source with this text.
+fn is_from(package: &Package, source: &str) -> bool {
+    match &package.source {
+        Some(found) => source.ends_with(found.url()),
+        None => false,
+    }
+}
+
+/// Returns whether the first package of a lockfile prints as a text, is from a source, and is asked for.
+fn is_first(alloc: Global, lockfile: &str, shown: &str, source: &str) -> Result<bool, Fail> {
+    let lockfile = Lockfile::from_str(alloc, lockfile)?;
+    let package = lockfile.packages.get(0).ok_or("no package")?;
+    let found = format!(in alloc; "{} {}", package.name, package.version)?;
+    Ok(found.as_str() == shown && is_from(package, source) && is_asked(alloc, package)?)
+}
+
+/// Returns whether a lockfile of a package with a long name, version and source is read, and a query asks for each of
+/// them.
 fn long_package_is_read(alloc: Global) -> Result<bool, Fail> {
     let name = long(alloc, "b", "a")?;
     let version = long(alloc, "1.2.3-", "a")?;
@@ -156,11 +183,8 @@ fn long_package_is_read(alloc: Global) -> Result<bool, Fail> {
     let text = format!(in alloc;
         "[[package]]\nname = \"{name}\"\nversion = \"{version}\"\nsource = \"{source}\"\n"
     )?;
-    let lockfile = Lockfile::from_str(alloc, &text)?;
-    let package = lockfile.packages.get(0).ok_or("no package")?;
-    let shown = format!(in alloc; "{} {}", package.name, package.version)?;
-    let expected = format!(in alloc; "{name} {version}")?;
-    Ok(shown == expected && source.ends_with(package.source.as_ref().ok_or("no source")?.url()))
+    let shown = format!(in alloc; "{name} {version}")?;
+    is_first(alloc, &text, &shown, &source)
 }
 
 #[test]

@@ -129,3 +129,23 @@ fn expect_escaped<R: Abort>(rt: &R, alloc: Global) -> Result<(), Fail> {
 fn markdown_escapes(rt: HostRuntime) -> Result<(), Fail> {
     expect_escaped(&rt, rt.alloc())
 }
+
+/// How many characters a long text has.
+const LONG: usize = 65536;
+
+/// Returns whether a long text of one character, with a line at its end, is written as the character is written.
+fn long_is_escaped(alloc: Global, character: &str, written: &str) -> Result<bool, Fail> {
+    let text = character.repeat(alloc, LONG)?;
+    let text = format!(in alloc; "{text}|")?;
+    let wanted = written.repeat(alloc, LONG)?;
+    let found = markdown_escaped(alloc, &text)?;
+    Ok(found.strip_suffix("&#124;") == Some(wanted.as_str()))
+}
+
+#[test]
+fn markdown_escapes_of_long_texts(rt: HostRuntime) -> Result<(), Fail> {
+    assert!(rt; long_is_escaped(rt.alloc(), "a", "a")?);
+    assert!(rt; long_is_escaped(rt.alloc(), "<", "&#60;")?);
+    assert!(rt; long_is_escaped(rt.alloc(), "@", "&#8288;&#64;&#8288;")?);
+    Ok(())
+}
