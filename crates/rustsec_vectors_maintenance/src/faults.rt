@@ -26,8 +26,6 @@ pub(crate) struct Fault {
     pub text: &'static str,
     /// Whose ID is in it.
     pub named: Named,
-    /// Whether it can be read.
-    pub is_read: bool,
     /// The lines about it, with marks: `@` for the path, `#` for the ID, `!` for the path of the file before it, `%` for
     /// the collection of the folder.
     pub lines: &'static str,
@@ -35,12 +33,29 @@ pub(crate) struct Fault {
     pub remarks: &'static str,
     /// Whether it has the ID of the file before it.
     pub is_twice: bool,
-    /// Parts of the notes about it, with marks as above; each has a line if the file can be read.
+    /// Parts of the notes about it, with marks as above; each has a line, unless the file cannot be read.
     pub notes: &'static [&'static str],
 }
 
-/// Returns what is wrong with the file of a number: with one of 25 files, each of these in turn.
+/// The number of the file that cannot be read.
+pub(crate) const UNREAD: u32 = 1000;
+
+/// A file that cannot be read. Its text has no other fault.
+const UNREADABLE: Fault = Fault {
+    text: "```toml\n[advisory]\nid = \"$\"\npackage = \"~\"\ndate = \"2001-02-03\"\n\n[versions]\npatched = [\">= 1.0.0\"]\n```\n\n# T\n\nD\n",
+    named: Named::Own,
+    lines: "@: refused: refused: I/O operation failed\n",
+    remarks: r#"{"fault":true,"kind":"refused","text":"refused: I/O operation failed"}"#,
+    is_twice: false,
+    notes: &["rustsec_audit: I/O operation failed: the folders fail\n"],
+};
+
+/// Returns what is wrong with the file of a number: one cannot be read, and with one of 25 files it is each of the other
+/// faults in turn.
 pub(crate) fn fault_of(number: u32) -> Option<&'static Fault> {
+    if number == UNREAD {
+        return Some(&UNREADABLE);
+    }
     if number % 25 != 7 {
         return None;
     }

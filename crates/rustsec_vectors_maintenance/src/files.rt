@@ -1,6 +1,6 @@
-//! A database of a thousand files in memory. Forty of them have a fault.
+//! A database of a thousand files in memory. Forty of them have a fault, and one more cannot be read.
 
-use crate::faults::{Named, fault_of};
+use crate::faults::{Named, UNREAD, fault_of};
 use rustsec_files::path;
 use rustsec_fixtures::Holds;
 use rustsec_folders::SourceFile;
@@ -87,7 +87,7 @@ fn file_of(alloc: Global, number: u32) -> Result<SourceFile, Fail> {
     })
 }
 
-/// Returns the files of the database, in order. The texts of those that cannot be read are there too.
+/// Returns the files of the database, in order. The text of the one that cannot be read is there too.
 pub(crate) fn files(alloc: Global) -> Result<Vec<SourceFile>, Fail> {
     let mut files = Vec::new(alloc);
     for number in NUMBERS {
@@ -127,15 +127,7 @@ pub(crate) fn make_listings(alloc: Global, files: &[SourceFile]) -> Result<Listi
     Ok(Listings { base, std })
 }
 
-/// Returns whether the file of a number can be read.
-fn is_read(number: u32) -> bool {
-    match fault_of(number) {
-        Some(fault) => fault.is_read,
-        None => true,
-    }
-}
-
-/// Returns what each path of the database holds. The files that cannot be read are left out.
+/// Returns what each path of the database holds. The file that cannot be read is left out.
 pub(crate) fn rows<'a>(
     alloc: Global,
     files: &'a [SourceFile],
@@ -147,7 +139,7 @@ pub(crate) fn rows<'a>(
     rows.push(("db/crates", Holds::Entries(&[("base", true)])))?;
     rows.push(("db/rust", Holds::Entries(&[("std", true)])))?;
     for (file, number) in files.iter().zip(NUMBERS) {
-        if is_read(number) {
+        if number != UNREAD {
             rows.push((file.path.as_str(), Holds::Text(file.text.as_str())))?;
         }
     }

@@ -2,6 +2,7 @@
 //! that leave gaps. Inputs and expected answers are both made from the numbers of the requirements.
 
 use crate::answers::{append_for, writes};
+use crate::upstream::remarks_on;
 use rustsec_fixtures::{Holds, SHORT, SHORT_DOCUMENT, changed};
 use std::alloc::Global;
 use std::str;
@@ -183,5 +184,26 @@ fn documents_answer(alloc: Global) -> Result<bool, Fail> {
 #[test]
 fn documents_of_hundreds_of_requirements(rt: HostRuntime) -> Result<(), Fail> {
     assert!(rt; documents_answer(rt.alloc())?);
+    Ok(())
+}
+
+/// Returns how many remarks of the kind `upstream` there are on the advisory: none, since its intervals are disjoint.
+fn remarks_on_disjoint(alloc: Global) -> Result<usize, Fail> {
+    let text = advisory(alloc)?;
+    remarks_on(alloc, &text)
+}
+
+/// Returns how many there are if one more patched requirement overlaps the last one.
+fn remarks_on_overlap(alloc: Global) -> Result<usize, Fail> {
+    let text = advisory(alloc)?;
+    let last = format!(in alloc; "patched = [\">={REQUIREMENTS}.4.0\",")?;
+    let text = changed(alloc, &text, "patched = [", &last)?;
+    remarks_on(alloc, &text)
+}
+
+#[test]
+fn remarks_on_hundreds_of_requirements(rt: HostRuntime) -> Result<(), Fail> {
+    assert!(rt; remarks_on_disjoint(rt.alloc())? == 0);
+    assert!(rt; remarks_on_overlap(rt.alloc())? == 1);
     Ok(())
 }

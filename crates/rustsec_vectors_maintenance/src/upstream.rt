@@ -22,12 +22,17 @@ const ROWS: &[Row] = &[
     ),
 ];
 
+/// Returns how many remarks there are on the advisory with a text.
+pub(crate) fn remarks_on(alloc: Global, text: &str) -> Result<usize, Fail> {
+    let advisory = Advisory::from_str(alloc, text)?;
+    let remarks = upstream_remarks(alloc, &advisory)?;
+    Ok(remarks.len())
+}
+
 /// Returns how many remarks there are on the advisory with a row's text.
 fn remarks_of(alloc: Global, row: &Row) -> Result<usize, Fail> {
     let text = changed(alloc, VALID, row.0, row.1)?;
-    let advisory = Advisory::from_str(alloc, text.as_str())?;
-    let remarks = upstream_remarks(alloc, &advisory)?;
-    Ok(remarks.len())
+    remarks_on(alloc, &text)
 }
 
 /// Checks each row.

@@ -5,18 +5,16 @@ use super::{Fault, Named};
 /// The faults, in the order in which files have them.
 pub(super) const FAULTS: &[Fault] = &[
     Fault {
-        text: "```toml\n[advisory]\nid = \"$\"\npackage = \"~\"\ndate = \"2001-02-03\"\n\n[versions]\npatched = [\">= 1.0.0\"]\n```\n\n# T\n\nD\n",
+        text: "```toml\n[advisory]\nid = \"$\"\npackage = \"~\"\ndate = \"2001-02-03\"\nrelated = [\"CVE-2001-0002\"]\nreferences = [\n  \"https://example.com/\",\n]\nwithdrawn = \"2001-13-01\"\n\n[versions]\npatched = [\">= 1.0.0\"]\n```\n\n# T\n\nD\n",
         named: Named::Own,
-        is_read: false,
-        lines: "@: refused: refused: I/O operation failed\n",
-        remarks: r#"{"fault":true,"kind":"refused","text":"refused: I/O operation failed"}"#,
+        lines: "@: refused: refused: parse error\n",
+        remarks: r#"{"fault":true,"kind":"refused","text":"refused: parse error"}"#,
         is_twice: false,
-        notes: &["rustsec_audit: I/O operation failed: the folders fail\n"],
+        notes: &["rustsec_audit: parse error: error parsing @: line 10, column "],
     },
     Fault {
         text: "```toml\n[advisory]\nid = \"$\"\npackage = \"~\"\ndate = \"2001-02-03\"\nurl = 1\n\n[versions]\npatched = [\">= 1.0.0\"]\n```\n\n# T\n\nD\n",
         named: Named::Own,
-        is_read: true,
         lines: "@: refused: refused: parse error\n",
         remarks: r#"{"fault":true,"kind":"refused","text":"refused: parse error"}"#,
         is_twice: false,
@@ -25,7 +23,6 @@ pub(super) const FAULTS: &[Fault] = &[
     Fault {
         text: "```toml\n[advisory]\nid = \"$\"\npackage = \"~\"\ndate = \"2001-02-03\"\nkeywords = [\"a\", \"b\"]\ncategories = [\"nope\"]\n\n[versions]\npatched = [\">= 1.0.0\"]\n```\n\n# T\n\nD\n",
         named: Named::Own,
-        is_read: true,
         lines: "@: lint: invalid value `nope` for key `category` in [advisory]: unknown category\n",
         remarks: r#"{"fault":true,"kind":"lint","text":"invalid value `nope` for key `category` in [advisory]: unknown category"}"#,
         is_twice: false,
@@ -36,7 +33,6 @@ pub(super) const FAULTS: &[Fault] = &[
     Fault {
         text: "```toml\n[advisory]\n# One.\n# Two.\nid = \"$\"\npackage = \"~\"\ndate = \"2001-02-03\"\nlicense = \"MPL-2.0\"\n\n[versions]\npatched = [\">= 1.0.0\"]\n```\n\n# T\n\nD\n",
         named: Named::Own,
-        is_read: true,
         lines: "@: lint: invalid value `MPL-2.0` for key `license` in [advisory]: Unknown license\n",
         remarks: r#"{"fault":true,"kind":"lint","text":"invalid value `MPL-2.0` for key `license` in [advisory]: Unknown license"}"#,
         is_twice: false,
@@ -47,7 +43,6 @@ pub(super) const FAULTS: &[Fault] = &[
     Fault {
         text: "```toml\n[advisory]\n\n# One.\nid = \"$\"\npackage = \"~\"\ndate = \"2001-02-03\"\n\n[versions]\npatched = [\">= 1.0.0\"]\n```\n\n# T\n\nD\n",
         named: Named::Other,
-        is_read: true,
         lines: "@: misplaced: another file name, expected `#.md`\n",
         remarks: r#"{"fault":true,"kind":"misplaced","text":"another file name, expected `#.md`"}"#,
         is_twice: false,
@@ -56,7 +51,6 @@ pub(super) const FAULTS: &[Fault] = &[
     Fault {
         text: "```toml\n[advisory]\n# One.\nid = \"$\"\npackage = \"other\"\ndate = \"2001-02-03\"\n\n[versions]\npatched = [\">= 1.0.0\"]\n```\n\n# T\n\nD\n",
         named: Named::Own,
-        is_read: true,
         lines: "@: misplaced: another folder, expected `other`, the package\n",
         remarks: r#"{"fault":true,"kind":"misplaced","text":"another folder, expected `other`, the package"}"#,
         is_twice: false,
@@ -65,7 +59,6 @@ pub(super) const FAULTS: &[Fault] = &[
     Fault {
         text: "```toml\n[advisory]\n\n\n\nid = \"$\"\npackage = \"~\"\ndate = \"2001-02-03\"\ncollection = \"rust\"\n\n[versions]\npatched = [\">= 1.0.0\"]\n```\n\n# T\n\nD\n",
         named: Named::Own,
-        is_read: true,
         lines: "@: lint: malformed content in [advisory]: collection shouldn't be explicit; inferred by location\n@: misplaced: another `collection` in [advisory], expected `%`\n",
         remarks: r#"{"fault":true,"kind":"lint","text":"malformed content in [advisory]: collection shouldn't be explicit; inferred by location"},{"fault":true,"kind":"misplaced","text":"another `collection` in [advisory], expected `%`"}"#,
         is_twice: false,
@@ -77,7 +70,6 @@ pub(super) const FAULTS: &[Fault] = &[
     Fault {
         text: "```toml\n[advisory]\n# One.\n# Two.\n# Three.\nid = \"$\"\npackage = \"~\"\ndate = \"2001-02-03\"\n\n[versions]\npatched = [\">= 1.0.0\"]\n```\n\n# T\n\nD\n",
         named: Named::Before,
-        is_read: true,
         lines: "@: misplaced: another file name, expected `#.md`\n@: twice: the ID of !\n",
         remarks: r#"{"fault":true,"kind":"misplaced","text":"another file name, expected `#.md`"}"#,
         is_twice: true,
@@ -89,7 +81,6 @@ pub(super) const FAULTS: &[Fault] = &[
     Fault {
         text: "```toml\n[advisory]\nid = \"$\"\npackage = \"~\"\ndate = \"2001-02-03\"\n\n[versions]\nunaffected = [\"< 0.5.0\"]\npatched = [\">= 1.0.0\", \">= 2.0.0\"]\n```\n\n# T\n\nD\n",
         named: Named::Own,
-        is_read: true,
         lines: "@: upstream: the Rust crate refuses patched requirements that overlap\n",
         remarks: r#"{"fault":^,"kind":"upstream","text":"the Rust crate refuses patched requirements that overlap"}"#,
         is_twice: false,
@@ -100,7 +91,6 @@ pub(super) const FAULTS: &[Fault] = &[
     Fault {
         text: "```toml\n[advisory]\nid = \"$\"\npackage = \"~\"\ndate = \"2001-02-03\"\nkeywords = []\nsource = \"registry+base\"\n\n[versions]\npatched = [\">= 1.0.0\"]\n```\n\n# T\n\nD\n",
         named: Named::Own,
-        is_read: true,
         lines: "@: upstream: the Rust crate refuses a `source` whose address is not a URL\n",
         remarks: r#"{"fault":^,"kind":"upstream","text":"the Rust crate refuses a `source` whose address is not a URL"}"#,
         is_twice: false,
@@ -111,7 +101,6 @@ pub(super) const FAULTS: &[Fault] = &[
     Fault {
         text: "```toml\n[advisory]\n# One.\nid = \"$\"\npackage = \"~\"\ndate = \"2001-02-03\"\nkeyword = [\"a\"]\n\n[versions]\npatched = [\">= 1.0.0\"]\n```\n\n# T\n\nD\n",
         named: Named::Own,
-        is_read: true,
         lines: "@: lint: invalid key `keyword` in [advisory]\n",
         remarks: r#"{"fault":true,"kind":"lint","text":"invalid key `keyword` in [advisory]"}"#,
         is_twice: false,
@@ -120,7 +109,6 @@ pub(super) const FAULTS: &[Fault] = &[
     Fault {
         text: "```toml\n[advisory]\nid = \"$\"\npackage = \"~\"\ndate = \"2001-02-03\"\n\n[versions]\npatched = []\n\nfixed = []\n```\n\n# T\n\nD\n",
         named: Named::Own,
-        is_read: true,
         lines: "@: lint: invalid key `fixed` in [versions]\n",
         remarks: r#"{"fault":true,"kind":"lint","text":"invalid key `fixed` in [versions]"}"#,
         is_twice: false,
@@ -129,7 +117,6 @@ pub(super) const FAULTS: &[Fault] = &[
     Fault {
         text: "```toml\n[advisory]\nid = \"$\"\npackage = \"~\"\ndate = \"2001-02-03\"\n\n[affected]\nos = [\"linux\"]\nplatform = \"any\"\n\n[versions]\npatched = [\">= 1.0.0\"]\n```\n\n# T\n\nD\n",
         named: Named::Own,
-        is_read: true,
         lines: "@: lint: invalid key `platform` in [affected]\n",
         remarks: r#"{"fault":true,"kind":"lint","text":"invalid key `platform` in [affected]"}"#,
         is_twice: false,
@@ -138,7 +125,6 @@ pub(super) const FAULTS: &[Fault] = &[
     Fault {
         text: "```toml\n[advisory]\nid = \"$\"\npackage = \"~\"\ndate = \"2001-02-03\"\n\n[versions]\npatched = [\">= 1.0.0\"]\n\n[affect]\nos = []\n```\n\n# T\n\nD\n",
         named: Named::Own,
-        is_read: true,
         lines: "@: lint: invalid key `affect` in toplevel\n",
         remarks: r#"{"fault":true,"kind":"lint","text":"invalid key `affect` in toplevel"}"#,
         is_twice: false,
@@ -147,7 +133,6 @@ pub(super) const FAULTS: &[Fault] = &[
     Fault {
         text: "```toml\n[advisory]\n# One.\n\n# Two.\nid = \"$\"\npackage = \"~\"\ndate = \"2002-02-03\"\n\n[versions]\npatched = [\">= 1.0.0\"]\n```\n\n# T\n\nD\n",
         named: Named::Own,
-        is_read: true,
         lines: "@: lint: invalid value `\"#\"` for key `id` in [advisory]: year in advisory ID does not match date\n",
         remarks: r##"{"fault":true,"kind":"lint","text":"invalid value `\"#\"` for key `id` in [advisory]: year in advisory ID does not match date"}"##,
         is_twice: false,
@@ -158,7 +143,6 @@ pub(super) const FAULTS: &[Fault] = &[
     Fault {
         text: "```toml\n[advisory]\n# One.\nid = \"X$\"\npackage = \"~\"\ndate = \"2001-02-03\"\n\n[versions]\npatched = [\">= 1.0.0\"]\n```\n\n# T\n\nD\n",
         named: Named::Own,
-        is_read: true,
         lines: "@: lint: invalid value `\"X#\"` for key `id` in [advisory]: unknown advisory ID type\n@: misplaced: another file name, expected `X#.md`\n",
         remarks: r#"{"fault":true,"kind":"lint","text":"invalid value `\"X#\"` for key `id` in [advisory]: unknown advisory ID type"},{"fault":true,"kind":"misplaced","text":"another file name, expected `X#.md`"}"#,
         is_twice: false,
@@ -170,7 +154,6 @@ pub(super) const FAULTS: &[Fault] = &[
     Fault {
         text: "```toml\n[advisory]\nid = \"RUSTSEC-0000-0000\"\npackage = \"~\"\ndate = \"2001-02-03\"\n\n[versions]\npatched = [\">= 1.0.0\"]\n```\n\n# T\n\nD\n",
         named: Named::Own,
-        is_read: true,
         lines: "@: lint: invalid value `\"RUSTSEC-0000-0000\"` for key `id` in [advisory]: advisory ID draft status does not match file name\n@: misplaced: another file name, expected `RUSTSEC-0000-0000.md`\n",
         remarks: r#"{"fault":true,"kind":"lint","text":"invalid value `\"RUSTSEC-0000-0000\"` for key `id` in [advisory]: advisory ID draft status does not match file name"},{"fault":true,"kind":"misplaced","text":"another file name, expected `RUSTSEC-0000-0000.md`"}"#,
         is_twice: false,
@@ -182,7 +165,6 @@ pub(super) const FAULTS: &[Fault] = &[
     Fault {
         text: "```toml\n[advisory]\nid = \"$\"\npackage = \"~\"\ndate = \"2001-02-03\"\naliases = [\"CVE-2001-0001\"]\nrelated = []\nurl = \"http://example.com/\"\n\n[versions]\npatched = [\">= 1.0.0\"]\n```\n\n# T\n\nD\n",
         named: Named::Own,
-        is_read: true,
         lines: "@: lint: invalid value `\"http://example.com/\"` for key `url` in [advisory]: URL must start with https://\n",
         remarks: r#"{"fault":true,"kind":"lint","text":"invalid value `\"http://example.com/\"` for key `url` in [advisory]: URL must start with https://"}"#,
         is_twice: false,
@@ -193,7 +175,6 @@ pub(super) const FAULTS: &[Fault] = &[
     Fault {
         text: "```toml\n[advisory]\nid = \"$\"\npackage = \"~\"\ndate = \"2001-02-03\"\ninformational = \"unsond\"\n\n[versions]\npatched = [\">= 1.0.0\"]\n```\n\n# T\n\nD\n",
         named: Named::Own,
-        is_read: true,
         lines: "@: lint: invalid value `unsond` for key `informational` in [advisory]: unknown informational advisory type\n",
         remarks: r#"{"fault":true,"kind":"lint","text":"invalid value `unsond` for key `informational` in [advisory]: unknown informational advisory type"}"#,
         is_twice: false,
@@ -204,7 +185,6 @@ pub(super) const FAULTS: &[Fault] = &[
     Fault {
         text: "```toml\n[advisory]\nid = \"$\"\npackage = \"~\"\ndate = \"2001-02-03\"\n\n[affected.functions]\n\"~::f\" = [\"*\"]\n\"other::f\" = [\"*\"]\n\n[versions]\npatched = [\">= 1.0.0\"]\n```\n\n# T\n\nD\n",
         named: Named::Own,
-        is_read: true,
         lines: "@: lint: invalid value `other::f` for key `functions` in [affected]: function path must start with crate name\n",
         remarks: r#"{"fault":true,"kind":"lint","text":"invalid value `other::f` for key `functions` in [affected]: function path must start with crate name"}"#,
         is_twice: false,

@@ -7,7 +7,6 @@ pub(super) const FAULTS: &[Fault] = &[
     Fault {
         text: "```toml\n[advisory]\nid = \"$\"\npackage = \"~\"\ndate = \"2001-02-03\"\nkeywords = [\n  \"a\",\n  \"b\",\n]\nyanked = true\n\n[versions]\npatched = [\">= 1.0.0\"]\n```\n\n# T\n\nD\n",
         named: Named::Own,
-        is_read: true,
         lines: "@: lint: malformed content in [metadata]: Field `yanked` is deprecated, use `withdrawn` field instead\n",
         remarks: r#"{"fault":true,"kind":"lint","text":"malformed content in [metadata]: Field `yanked` is deprecated, use `withdrawn` field instead"}"#,
         is_twice: false,
@@ -18,7 +17,6 @@ pub(super) const FAULTS: &[Fault] = &[
     Fault {
         text: "```toml\n[advisory]\n# One.\nid = \"$\"\npackage = \"~\"\ndate = \"2001-02-30\"\n\n[versions]\npatched = [\">= 1.0.0\"]\n```\n\n# T\n\nD\n",
         named: Named::Own,
-        is_read: true,
         lines: "@: refused: refused: parse error\n",
         remarks: r#"{"fault":true,"kind":"refused","text":"refused: parse error"}"#,
         is_twice: false,
@@ -27,7 +25,6 @@ pub(super) const FAULTS: &[Fault] = &[
     Fault {
         text: "```toml\n[advisory]\nid = \"$\"\npackage = \"~\"\n\n[versions]\npatched = [\">= 1.0.0\"]\n```\n\n# T\n\nD\n",
         named: Named::Own,
-        is_read: true,
         lines: "@: refused: refused: parse error\n",
         remarks: r#"{"fault":true,"kind":"refused","text":"refused: parse error"}"#,
         is_twice: false,
@@ -36,7 +33,6 @@ pub(super) const FAULTS: &[Fault] = &[
     Fault {
         text: "```toml\n[advisory]\nid = \"$\"\npackage = \"~\"\ndate = \"2001-02-03\"\ntitle_of = \n\n[versions]\npatched = [\">= 1.0.0\"]\n```\n\n# T\n\nD\n",
         named: Named::Own,
-        is_read: true,
         lines: "@: refused: refused: parse error\n",
         remarks: r#"{"fault":true,"kind":"refused","text":"refused: parse error"}"#,
         is_twice: false,
@@ -45,7 +41,6 @@ pub(super) const FAULTS: &[Fault] = &[
     Fault {
         text: "```toml\n[advisory]\nid = \"$\"\npackage = \"~\"\ndate = \"2001-02-03\"\n\n[versions]\npatched = [\">= 1.0.0\", \">= 1.x.y\"]\n```\n\n# T\n\nD\n",
         named: Named::Own,
-        is_read: true,
         lines: "@: refused: refused: parse error\n",
         remarks: r#"{"fault":true,"kind":"refused","text":"refused: parse error"}"#,
         is_twice: false,
@@ -54,7 +49,6 @@ pub(super) const FAULTS: &[Fault] = &[
     Fault {
         text: "```toml\n[advisory]\nid = \"$\"\npackage = \"~\"\ndate = \"2001-02-03\"\nkeywords = []\n\nkeywords = []\n\n[versions]\npatched = [\">= 1.0.0\"]\n```\n\n# T\n\nD\n",
         named: Named::Own,
-        is_read: true,
         lines: "@: refused: refused: parse error\n",
         remarks: r#"{"fault":true,"kind":"refused","text":"refused: parse error"}"#,
         is_twice: false,
@@ -63,7 +57,6 @@ pub(super) const FAULTS: &[Fault] = &[
     Fault {
         text: "```toml\n# One.\n[advisory]\nid = \"$\"\npackage = \"~\"\ndate = \"2001-02-03\"\n\n[versions]\npatched = [\">= 1.0.0\"]\n```\n\n# T\n\nD\n",
         named: Named::Own,
-        is_read: true,
         lines: "@: refused: refused: parse error\n",
         remarks: r#"{"fault":true,"kind":"refused","text":"refused: parse error"}"#,
         is_twice: false,
@@ -72,7 +65,6 @@ pub(super) const FAULTS: &[Fault] = &[
     Fault {
         text: "```toml\n[advisory]\n# One.\n# Two.\n# Three.\nid = \"$\"\npackage = \"~\"\ndate = \"2001-02-03\"\naliases = \"CVE-2001-0001\"\n\n[versions]\npatched = [\">= 1.0.0\"]\n```\n\n# T\n\nD\n",
         named: Named::Own,
-        is_read: true,
         lines: "@: refused: refused: parse error\n",
         remarks: r#"{"fault":true,"kind":"refused","text":"refused: parse error"}"#,
         is_twice: false,
@@ -81,7 +73,6 @@ pub(super) const FAULTS: &[Fault] = &[
     Fault {
         text: "```toml\n[advisory]\nid = \"$\"\npackage = \"~\"\ndate = \"2001-02-03\"\n\n[affected]\narch = [\"x86\"]\nos = [\"plan10\"]\n\n[versions]\npatched = [\">= 1.0.0\"]\n```\n\n# T\n\nD\n",
         named: Named::Own,
-        is_read: true,
         lines: "@: refused: refused: parse error\n",
         remarks: r#"{"fault":true,"kind":"refused","text":"refused: parse error"}"#,
         is_twice: false,
@@ -90,7 +81,6 @@ pub(super) const FAULTS: &[Fault] = &[
     Fault {
         text: "```toml\n[advisory]\nid = \"$\"\npackage = \"~\"\ndate = \"2001-02-03\"\nkeywords = [\"\\x61\"]\n\n[versions]\npatched = [\">= 1.0.0\"]\n```\n\n# T\n\nD\n",
         named: Named::Own,
-        is_read: true,
         lines: "@: upstream: the Rust crate refuses an escape `\\e` or `\\x` (TOML 1.1)\n",
         remarks: r#"{"fault":^,"kind":"upstream","text":"the Rust crate refuses an escape `\\e` or `\\x` (TOML 1.1)"}"#,
         is_twice: false,
@@ -101,7 +91,6 @@ pub(super) const FAULTS: &[Fault] = &[
     Fault {
         text: "```toml\n[advisory]\nid = \"$\"\npackage = \"~\"\ndate = \"2001-02-03\"\n\n[affected]\nfunctions = { \"~::f\" = [\"*\"], }\n\n[versions]\npatched = [\">= 1.0.0\"]\n```\n\n# T\n\nD\n",
         named: Named::Own,
-        is_read: true,
         lines: "@: upstream: the Rust crate refuses a comma at the end of an inline table (TOML 1.1)\n",
         remarks: r#"{"fault":^,"kind":"upstream","text":"the Rust crate refuses a comma at the end of an inline table (TOML 1.1)"}"#,
         is_twice: false,
@@ -112,7 +101,6 @@ pub(super) const FAULTS: &[Fault] = &[
     Fault {
         text: "```toml\n[advisory]\nid = \"$\"\npackage = \"~\"\ndate = \"2001-02-03\"\n\n[affected]\nfunctions = {\n\"~::f\" = [\"*\"] }\n\n[versions]\npatched = [\">= 1.0.0\"]\n```\n\n# T\n\nD\n",
         named: Named::Own,
-        is_read: true,
         lines: "@: upstream: the Rust crate refuses a line feed in an inline table (TOML 1.1)\n",
         remarks: r#"{"fault":^,"kind":"upstream","text":"the Rust crate refuses a line feed in an inline table (TOML 1.1)"}"#,
         is_twice: false,
@@ -123,7 +111,6 @@ pub(super) const FAULTS: &[Fault] = &[
     Fault {
         text: "```toml\n[advisory]\nid = \"$\"\npackage = \"~\"\ndate = \"2001-02-03\"\n\n[versions]\npatched = []\nfrom = 07:32\n```\n\n# T\n\nD\n",
         named: Named::Own,
-        is_read: true,
         lines: "@: lint: invalid key `from` in [versions]\n@: upstream: the Rust crate refuses a time without seconds (TOML 1.1)\n",
         remarks: r#"{"fault":true,"kind":"lint","text":"invalid key `from` in [versions]"},{"fault":^,"kind":"upstream","text":"the Rust crate refuses a time without seconds (TOML 1.1)"}"#,
         is_twice: false,
@@ -135,7 +122,6 @@ pub(super) const FAULTS: &[Fault] = &[
     Fault {
         text: "```toml\n[advisory]\nid = \"$\"\npackage = \"~\"\ndate = \"2001-02-03\"\nsource = \"registry+https://a b.example/\"\n\n[versions]\npatched = [\n  \">= 1.0.0\",\n  \"^1.5.0\",\n]\n```\n\n# T\n\nD\n",
         named: Named::Own,
-        is_read: true,
         lines: "@: upstream: the Rust crate refuses patched requirements that overlap\n@: upstream: the Rust crate refuses a `source` whose address is not a URL\n",
         remarks: r#"{"fault":^,"kind":"upstream","text":"the Rust crate refuses patched requirements that overlap"},{"fault":^,"kind":"upstream","text":"the Rust crate refuses a `source` whose address is not a URL"}"#,
         is_twice: false,
@@ -147,7 +133,6 @@ pub(super) const FAULTS: &[Fault] = &[
     Fault {
         text: "```toml\n[advisory]\n# One.\nid = \"$\"\npackage = \"other\"\ndate = \"2001-02-03\"\ncategories = [\"one\", \"crypto-failure\", \"two\"]\n\n[versions]\npatched = []\npatch = []\n```\n\n# T\n\nD\n",
         named: Named::Own,
-        is_read: true,
         lines: "@: lint: invalid value `one` for key `category` in [advisory]: unknown category\n@: lint: invalid value `two` for key `category` in [advisory]: unknown category\n@: lint: invalid key `patch` in [versions]\n@: misplaced: another folder, expected `other`, the package\n",
         remarks: r#"{"fault":true,"kind":"lint","text":"invalid value `one` for key `category` in [advisory]: unknown category"},{"fault":true,"kind":"lint","text":"invalid value `two` for key `category` in [advisory]: unknown category"},{"fault":true,"kind":"lint","text":"invalid key `patch` in [versions]"},{"fault":true,"kind":"misplaced","text":"another folder, expected `other`, the package"}"#,
         is_twice: false,
@@ -161,7 +146,6 @@ pub(super) const FAULTS: &[Fault] = &[
     Fault {
         text: "```toml\n[advisory]\n# One.\n\n\n\nid = \"$\"\npackage = \"~\"\ndate = \"2001-02-03\"\ncvss = \"CVSS:3.1/AV:X\"\n\n[versions]\npatched = [\">= 1.0.0\"]\n```\n\n# T\n\nD\n",
         named: Named::Own,
-        is_read: true,
         lines: "@: refused: refused: parse error\n",
         remarks: r#"{"fault":true,"kind":"refused","text":"refused: parse error"}"#,
         is_twice: false,
@@ -170,7 +154,6 @@ pub(super) const FAULTS: &[Fault] = &[
     Fault {
         text: "```toml\n[advisory]\nid = \"$\"\npackage = \"~\"\ndate = \"2001-02-03\"\ncollection = \"crates\"\n\n[versions]\npatched = [\">= 1.0.0\"]\n```\n\n# T\n\nD\n",
         named: Named::Own,
-        is_read: true,
         lines: "@: lint: malformed content in [advisory]: collection shouldn't be explicit; inferred by location\n@: misplaced: another `collection` in [advisory], expected `%`\n",
         remarks: r#"{"fault":true,"kind":"lint","text":"malformed content in [advisory]: collection shouldn't be explicit; inferred by location"},{"fault":true,"kind":"misplaced","text":"another `collection` in [advisory], expected `%`"}"#,
         is_twice: false,
@@ -182,7 +165,6 @@ pub(super) const FAULTS: &[Fault] = &[
     Fault {
         text: "```toml\n[advisory]\n# One.\n# Two.\nid = \"$\"\npackage = \"other\"\ndate = \"2001-02-03\"\n\n[versions]\npatched = [\">= 1.0.0\"]\n```\n\n# T\n\nD\n",
         named: Named::Before,
-        is_read: true,
         lines: "@: misplaced: another file name, expected `#.md`\n@: misplaced: another folder, expected `other`, the package\n@: twice: the ID of !\n",
         remarks: r#"{"fault":true,"kind":"misplaced","text":"another file name, expected `#.md`"},{"fault":true,"kind":"misplaced","text":"another folder, expected `other`, the package"}"#,
         is_twice: true,
@@ -195,7 +177,6 @@ pub(super) const FAULTS: &[Fault] = &[
     Fault {
         text: "```toml\n[advisory]\nid = \"$\"\npackage = \"~\"\ndate = \"2001-02-03\"\nlicense = \"MIT\"\nurl = \"https://example.com/\"\n\n[versions]\npatched = [\"^1\", \">= 1.2\"]\n```\n\n# T\n\nD\n",
         named: Named::Own,
-        is_read: true,
         lines: "@: lint: invalid value `MIT` for key `license` in [advisory]: Unknown license\n@: upstream: the Rust crate refuses patched requirements that overlap\n",
         remarks: r#"{"fault":true,"kind":"lint","text":"invalid value `MIT` for key `license` in [advisory]: Unknown license"},{"fault":^,"kind":"upstream","text":"the Rust crate refuses patched requirements that overlap"}"#,
         is_twice: false,
@@ -207,7 +188,6 @@ pub(super) const FAULTS: &[Fault] = &[
     Fault {
         text: "```toml\n[advisory]\nid = \"$\"\npackage = \"~\"\ndate = \"2001-02-03\"\n\n[versions]\npatched = [\">= 1.0.0\"]\n```\n\nT\n\nD\n",
         named: Named::Own,
-        is_read: true,
         lines: "@: refused: refused: parse error\n",
         remarks: r#"{"fault":true,"kind":"refused","text":"refused: parse error"}"#,
         is_twice: false,

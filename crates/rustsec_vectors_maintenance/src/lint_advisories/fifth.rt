@@ -25,6 +25,7 @@ None.
         status: 2,
         written: "refused: parse error\n",
         notes: &["line 7, column "],
+        help: &[],
     },
     Row {
         path: "RUSTSEC-2022-9151.md",
@@ -46,6 +47,7 @@ None.
         status: 0,
         written: "",
         notes: &["warning: line 9: the Rust crate refuses patched requirements that overlap"],
+        help: &[],
     },
     Row {
         path: "RUSTSEC-2022-9152.md",
@@ -77,6 +79,7 @@ None.
         status: 0,
         written: "",
         notes: &["warning: line 12: the Rust crate refuses patched requirements that overlap"],
+        help: &[],
     },
     Row {
         path: "RUSTSEC-2022-9153.md",
@@ -102,6 +105,7 @@ None.
         notes: &[
             "warning: line 8: the Rust crate refuses a comma at the end of an inline table (TOML 1.1)",
         ],
+        help: &[],
     },
     Row {
         path: "RUSTSEC-2022-9154.md",
@@ -122,6 +126,7 @@ None.
         status: 0,
         written: "",
         notes: &["warning: line 5: the Rust crate refuses an escape `\\e` or `\\x` (TOML 1.1)"],
+        help: &[],
     },
     Row {
         path: "RUSTSEC-2022-9155.md",
@@ -148,6 +153,7 @@ None.
         notes: &[
             "warning: line 8: the Rust crate refuses a line feed in an inline table (TOML 1.1)",
         ],
+        help: &[],
     },
     Row {
         path: "RUSTSEC-2022-9156.md",
@@ -173,6 +179,7 @@ Cargo reads them differently.
             "warning: line 9: `>4` is read as `>4.0.0`: 4.0.1 is held, though Cargo's matching does not hold it",
             "warning: line 10: `<=2` is read as `<=2.0.0`: 2.0.1 is not held, though Cargo's matching holds it",
         ],
+        help: &[],
     },
     Row {
         path: "RUSTSEC-2022-9157.md",
@@ -198,6 +205,9 @@ Cargo reads it differently.
         notes: &[
             "line 5: invalid value `file-disclosur` for key `category` in [advisory]: unknown category",
             "warning: line 8: `=1.0` is read as `=1.0.0`: 1.0.1 is not held, though Cargo's matching holds it",
+        ],
+        help: &[
+            "`file-disclosure`, `format-injection`, `malicious`, `memory-corruption`, `memory-exposure`, `privilege-escalation`, `thread-safety`; did you mean `file-disclosure`?\n",
         ],
     },
 ];

@@ -1,6 +1,6 @@
 //! Advisories in the style of real ones, what `lint` writes about each, and the lines that its notes name.
 
-use super::Row;
+use super::{ADVISORY_KEYS, CATEGORIES, LICENSES, Row};
 
 /// The rows.
 pub(super) const ROWS: &[Row<'static>] = &[
@@ -31,6 +31,7 @@ This was fixed by adding a hostname check.
         status: 0,
         written: "",
         notes: &[],
+        help: &[],
     },
     Row {
         path: "RUSTSEC-2017-9102.md",
@@ -56,6 +57,7 @@ bytes (`\r` or `\n`).
         notes: &[
             "line 6: invalid value `\"http://example.com/siphon/wiki/2017\"` for key `url` in [advisory]: URL must start with https://",
         ],
+        help: &[],
     },
     Row {
         path: "RUSTSEC-2018-9103.md",
@@ -92,6 +94,7 @@ inconsistent state.
         notes: &[
             "line 6: invalid value `code-exec` for key `category` in [advisory]: unknown category",
         ],
+        help: &[CATEGORIES],
     },
     Row {
         path: "RUSTSEC-2018-9105.md",
@@ -126,6 +129,9 @@ Limit the depth of the input.
         notes: &[
             "line 15: invalid value `tokenrings::de::from_slice` for key `functions` in [affected]: function path must start with crate name",
         ],
+        help: &[
+            "function path must start with crate name; the package is `tokenring`, with `_` for `-`\n",
+        ],
     },
     Row {
         path: "CVE-2019-99543.md",
@@ -148,6 +154,7 @@ A pointer outlives the buffer that it points into.
         status: 0,
         written: "",
         notes: &[],
+        help: &[],
     },
     Row {
         path: "RUSTSEC-2019-9107.md",
@@ -171,6 +178,9 @@ A length field of a frame is trusted.
         notes: &[
             "line 3: invalid value `\"RUSTSEC-2019-9107\"` for key `id` in [advisory]: year in advisory ID does not match date",
         ],
+        help: &[
+            "`\"RUSTSEC-2019-9107\"` for key `id` in [advisory]: year in advisory ID does not match date; the date is 2020-01-22\n",
+        ],
     },
     Row {
         path: "LULZSEC-2019-0001.md",
@@ -193,6 +203,7 @@ Nothing to see.
         notes: &[
             "line 3: invalid value `\"LULZSEC-2019-0001\"` for key `id` in [advisory]: unknown advisory ID type",
         ],
+        help: &["unknown advisory ID type\n"],
     },
     Row {
         path: "RUSTSEC-2019-9109.md",
@@ -227,6 +238,9 @@ slicky_deque::print("%s");
         notes: &[
             "line 8: invalid value `unsund` for key `informational` in [advisory]: unknown informational advisory type",
         ],
+        help: &[
+            "unknown informational advisory type; known: `notice`, `unmaintained`, `unsound`; did you mean `unsound`?\n",
+        ],
     },
     Row {
         path: "RUSTSEC-2019-9110.md",
@@ -252,6 +266,7 @@ Safe Rust code can implement a malfunctioning function and cause type confusion.
         notes: &[
             "line 8: invalid value `GPL-3.0` for key `license` in [advisory]: Unknown license",
         ],
+        help: &[LICENSES],
     },
     Row {
         path: "GHSA-7q3m-cv2x-9w8f.md",
@@ -274,6 +289,7 @@ See above.
         status: 0,
         written: "",
         notes: &[],
+        help: &[],
     },
     Row {
         path: "RUSTSEC-2020-9112.md",
@@ -301,6 +317,7 @@ Possible alternatives:
         status: 1,
         written: "invalid key `obsolete` in [advisory]\n",
         notes: &["line 6: invalid key `obsolete` in [advisory]"],
+        help: &[ADVISORY_KEYS],
     },
     Row {
         path: "RUSTSEC-2020-9113.md",
@@ -326,5 +343,6 @@ The layout is not guaranteed.
         status: 0,
         written: "",
         notes: &[],
+        help: &[],
     },
 ];

@@ -1,6 +1,6 @@
 //! Advisories in the style of real ones, what `lint` writes about each, and the lines that its notes name.
 
-use super::Row;
+use super::{ADVISORY_KEYS, CATEGORIES, Row};
 
 /// The rows.
 pub(super) const ROWS: &[Row<'static>] = &[
@@ -31,6 +31,7 @@ A key may be quoted.
             "line 7: invalid value `slow` for key `category` in [advisory]: unknown category",
             "line 6: invalid value `\"http://example.com/\"` for key `url` in [advisory]: URL must start with https://",
         ],
+        help: &[CATEGORIES, "URL must start with https://\n"],
     },
     Row {
         path: "RUSTSEC-2020-9138.md",
@@ -58,6 +59,7 @@ All in one line.
         status: 1,
         written: "invalid key `affects` in [advisory]\n",
         notes: &["line 7: invalid key `affects` in [advisory]"],
+        help: &[ADVISORY_KEYS],
     },
     Row {
         path: "RUSTSEC-2023-9139.md",
@@ -104,6 +106,7 @@ All keys are known.
         status: 0,
         written: "",
         notes: &[],
+        help: &[],
     },
     Row {
         path: "RUSTSEC-2024-9140.md",
@@ -126,6 +129,7 @@ Nothing is wrong here either.
         status: 0,
         written: "",
         notes: &[],
+        help: &[],
     },
     Row {
         path: "RUSTSEC-2021-9141.md",
@@ -146,6 +150,7 @@ None.
         status: 2,
         written: "refused: parse error\n",
         notes: &["line 5, column "],
+        help: &[],
     },
     Row {
         path: "RUSTSEC-2021-9142.md",
@@ -168,6 +173,7 @@ None.
         status: 2,
         written: "refused: parse error\n",
         notes: &["line 7, column "],
+        help: &[],
     },
     Row {
         path: "RUSTSEC-2021-9143.md",
@@ -189,6 +195,7 @@ None.
         status: 2,
         written: "refused: parse error\n",
         notes: &["line 8, column "],
+        help: &[],
     },
     Row {
         path: "RUSTSEC-2021-9144.md",
@@ -210,6 +217,7 @@ None.
         status: 2,
         written: "refused: parse error\n",
         notes: &["line 8, column "],
+        help: &[],
     },
     Row {
         path: "RUSTSEC-2021-9145.md",
@@ -232,6 +240,7 @@ None.
         status: 2,
         written: "refused: parse error\n",
         notes: &["line 7, column "],
+        help: &[],
     },
     Row {
         path: "RUSTSEC-2021-9146.md",
@@ -256,6 +265,7 @@ None.
         status: 2,
         written: "refused: parse error\n",
         notes: &["line 9, column "],
+        help: &[],
     },
     Row {
         path: "RUSTSEC-2021-9147.md",
@@ -276,6 +286,7 @@ None.
         status: 2,
         written: "refused: parse error\n",
         notes: &["line 5, column "],
+        help: &[],
     },
     Row {
         path: "RUSTSEC-2021-9148.md",
@@ -300,6 +311,7 @@ None.
         status: 2,
         written: "refused: parse error\n",
         notes: &["line 9, column "],
+        help: &[],
     },
     Row {
         path: "RUSTSEC-2021-9149.md",
@@ -321,5 +333,6 @@ None.
         status: 2,
         written: "refused: parse error\n",
         notes: &["line 9, column "],
+        help: &[],
     },
 ];

@@ -1,6 +1,6 @@
 //! Advisories in the style of real ones, what `lint` writes about each, and the lines that its notes name.
 
-use super::Row;
+use super::{CATEGORIES, Row};
 
 /// The rows.
 pub(super) const ROWS: &[Row<'static>] = &[
@@ -34,6 +34,7 @@ This is a data race.
         notes: &[
             "line 5: invalid value `thread-saftey` for key `category` in [advisory]: unknown category",
         ],
+        help: &["`privilege-escalation`, `thread-safety`; did you mean `thread-safety`?\n"],
     },
     Row {
         path: "RUSTSEC-2021-9115.md",
@@ -68,6 +69,9 @@ Among others:
         notes: &[
             "line 14: invalid value `xcb::xproto::change_property` for key `functions` in [affected]: function path must start with crate name",
         ],
+        help: &[
+            "function path must start with crate name; the package is `xcbx`, with `_` for `-`\n",
+        ],
     },
     Row {
         path: "RUSTSEC-2021-9116.md",
@@ -95,6 +99,10 @@ See `Drain`.
         notes: &[
             "line 8: invalid value `fuzzing` for key `category` in [advisory]: unknown category",
             "line 10: malformed content in [advisory]: collection shouldn't be explicit; inferred by location",
+        ],
+        help: &[
+            CATEGORIES,
+            "collection shouldn't be explicit; inferred by location\n",
         ],
     },
     Row {
@@ -124,6 +132,7 @@ The buffer was too short.
         status: 1,
         written: "invalid key `platform` in [affected]\n",
         notes: &["line 12: invalid key `platform` in [affected]"],
+        help: &["invalid key `platform` in [affected]; known: `arch`, `os`, `functions`\n"],
     },
     Row {
         path: "RUSTSEC-2021-9118.md",
@@ -146,6 +155,7 @@ Overflow.
         status: 1,
         written: "invalid key `yanked` in [versions]\n",
         notes: &["line 10: invalid key `yanked` in [versions]"],
+        help: &["invalid key `yanked` in [versions]; known: `patched`, `unaffected`\n"],
     },
     Row {
         path: "RUSTSEC-2021-9119.md",
@@ -177,6 +187,9 @@ Requests are smuggled.
         status: 1,
         written: "invalid key `affected_functions` in toplevel\n",
         notes: &["line 14: invalid key `affected_functions` in toplevel"],
+        help: &[
+            "invalid key `affected_functions` in toplevel; known: `advisory`, `affected`, `versions`\n",
+        ],
     },
     Row {
         path: "RUSTSEC-2021-9120.md",
@@ -205,6 +218,7 @@ Unix-like operating systems may segfault.
         status: 0,
         written: "",
         notes: &[],
+        help: &[],
     },
     Row {
         path: "RUSTSEC-2022-9121.md",
@@ -231,6 +245,7 @@ patched = [">= 0.8.7"]
         notes: &[
             "line 9: malformed content in [metadata]: Field `yanked` is deprecated, use `withdrawn` field instead",
         ],
+        help: &["use `withdrawn` field instead\n"],
     },
     Row {
         path: "RUSTSEC-2022-9122.md",
@@ -258,6 +273,7 @@ The number of repetitions was not limited.
         status: 0,
         written: "",
         notes: &[],
+        help: &[],
     },
     Row {
         path: "RUSTSEC-0000-0000.md",
@@ -283,6 +299,7 @@ Race of links.
         status: 0,
         written: "",
         notes: &[],
+        help: &[],
     },
     Row {
         path: "RUSTSEC-2023-9018.md",
@@ -309,6 +326,7 @@ Race of links.
         notes: &[
             "line 3: invalid value `\"RUSTSEC-0000-0000\"` for key `id` in [advisory]: advisory ID draft status does not match file name",
         ],
+        help: &["advisory ID draft status does not match file name\n"],
     },
     Row {
         path: "RUSTSEC-2023-9125.md",
@@ -344,5 +362,6 @@ unaffected = ["< 1.7.0"]
         notes: &[
             "line 6: invalid value `\"ftp://example.com/tokenio\"` for key `url` in [advisory]: URL must start with https://",
         ],
+        help: &["URL must start with https://\n"],
     },
 ];

@@ -1,6 +1,6 @@
 //! Advisories in the style of real ones, what `lint` writes about each, and the lines that its notes name.
 
-use super::Row;
+use super::{ADVISORY_KEYS, CATEGORIES, LICENSES, Row};
 
 /// The rows.
 pub(super) const ROWS: &[Row<'static>] = &[
@@ -30,6 +30,7 @@ See the changes.
         status: 0,
         written: "",
         notes: &[],
+        help: &[],
     },
     Row {
         path: "RUSTSEC-2023-9127.md",
@@ -63,6 +64,7 @@ The bundled library is old.
             "line 6: invalid value `arbitrary-code-execution` for key `category` in [advisory]: unknown category",
             "line 11: invalid value `CC-BY-SA-4.0` for key `license` in [advisory]: Unknown license",
         ],
+        help: &[CATEGORIES, LICENSES],
     },
     Row {
         path: "RUSTSEC-2023-9128.md",
@@ -88,6 +90,7 @@ Use `std`.
         status: 1,
         written: "invalid key `functions_list` in [affected]\n",
         notes: &["line 10: invalid key `functions_list` in [affected]"],
+        help: &["invalid key `functions_list` in [affected]; known: `arch`, `os`, `functions`\n"],
     },
     Row {
         path: "RUSTSEC-2024-9129.md",
@@ -118,6 +121,7 @@ A loop does not end.
         status: 0,
         written: "",
         notes: &[],
+        help: &[],
     },
     Row {
         path: "RUSTSEC-2024-9130.md",
@@ -146,6 +150,10 @@ LLVM inserts a branch.
             "line 5: invalid value `side-channel` for key `category` in [advisory]: unknown category",
             "line 10: invalid value `curves25519::backend::sub` for key `functions` in [affected]: function path must start with crate name",
         ],
+        help: &[
+            CATEGORIES,
+            "function path must start with crate name; the package is `curves-25519`, with `_` for `-`\n",
+        ],
     },
     Row {
         path: "RUSTSEC-2024-9131.md",
@@ -172,6 +180,7 @@ patched = [">= 0.63.0"]
         status: 1,
         written: "invalid key `severity` in [advisory]\n",
         notes: &["line 8: invalid key `severity` in [advisory]"],
+        help: &[ADVISORY_KEYS],
     },
     Row {
         path: "RUSTSEC-2024-9132.md",
@@ -200,6 +209,10 @@ source = "x"
         notes: &[
             "line 7: invalid key `informational_kind` in [advisory]",
             "line 12: invalid key `metadata` in toplevel",
+        ],
+        help: &[
+            ADVISORY_KEYS,
+            "invalid key `metadata` in toplevel; known: `advisory`, `affected`, `versions`\n",
         ],
     },
     Row {
@@ -233,6 +246,9 @@ In `ring_buffer_two`.
         notes: &[
             "line 15: invalid value `ring_buffer::aead::quic::HeaderProtectionKey::new_mask` for key `functions` in [affected]: function path must start with crate name",
         ],
+        help: &[
+            "function path must start with crate name; the package is `ring-buffer-two`, with `_` for `-`\n",
+        ],
     },
     Row {
         path: "RUSTSEC-2025-9134.md",
@@ -256,6 +272,9 @@ On the last day of the year.
         notes: &[
             "line 3: invalid value `\"RUSTSEC-2025-9134\"` for key `id` in [advisory]: year in advisory ID does not match date",
         ],
+        help: &[
+            "`\"RUSTSEC-2025-9134\"` for key `id` in [advisory]: year in advisory ID does not match date; the date is 2024-12-31\n",
+        ],
     },
     Row {
         path: "TALOS-2020-1053.md",
@@ -277,6 +296,9 @@ Read it there.
         written: "invalid value `\"TALOS-2020-1053\"` for key `id` in [advisory]: year in advisory ID does not match date\n",
         notes: &[
             "line 3: invalid value `\"TALOS-2020-1053\"` for key `id` in [advisory]: year in advisory ID does not match date",
+        ],
+        help: &[
+            "`\"TALOS-2020-1053\"` for key `id` in [advisory]: year in advisory ID does not match date; the date is 2021-02-03\n",
         ],
     },
     Row {
@@ -326,6 +348,16 @@ Each key is wrong.
             "line 17: invalid value `other::a` for key `functions` in [affected]: function path must start with crate name",
             "line 24: invalid key `notes` in toplevel",
             "line 22: invalid key `fixed` in [versions]",
+        ],
+        help: &[
+            CATEGORIES,
+            LICENSES,
+            "invalid key `colour` in [advisory]; known: `id`, `package`, `date`,",
+            "`\"RUSTSEC-2022-9136\"` for key `id` in [advisory]: year in advisory ID does not match date; the date is 2021-12-24\n",
+            "unknown informational advisory type; known: `notice`, `unmaintained`, `unsound`\n",
+            "function path must start with crate name; the package is `multi-fault`, with `_` for `-`\n",
+            "invalid key `notes` in toplevel; known: `advisory`, `affected`, `versions`\n",
+            "invalid key `fixed` in [versions]; known: `patched`, `unaffected`\n",
         ],
     },
 ];
