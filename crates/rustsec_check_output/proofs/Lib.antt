@@ -1,4 +1,6 @@
+pub mod JsonTexts
 pub mod Latest
 pub mod NoFloats
 pub mod Pieces
 pub mod Places
+pub mod PlainTexts

@@ -52,11 +52,6 @@ sourced_tree p = object_of (sourced_entries p)
 abbrev pub packages_at : List PackageValue → List ℕ → List PackageValue
 packages_at packages places = filter_map (slice_get packages) places
 
--- the tree of a package that may be missing, which only helps proofs
-abbrev pub known_trees : Option PackageValue → List Data
-known_trees None = []
-known_trees (Some p) = named_tree p ∷ []
-
 -- the packages at some places, by their names and versions
 abbrev pub places_tree : List PackageValue → List ℕ → Data
 places_tree packages places = list_tree named_tree (packages_at packages places)

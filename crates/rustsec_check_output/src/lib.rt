@@ -1,29 +1,28 @@
-//! What is written of a check: its JSON tree, and its text for people.
+//! What is written of a check: its JSON tree on one line, and its text for people.
 #![tactic(auto)]
 
-mod advisory_tree;
+mod advisory_json;
 mod block;
 mod blocks;
-mod database_tree;
+mod check_json;
 mod dated;
-mod finding_tree;
-mod ignored_tree;
+mod finding_json;
+mod ignored_json;
 mod lines;
-mod many;
-mod object;
-mod package_tree;
+mod list_json;
+mod package_json;
+mod part;
+mod quoted;
 mod rank;
+mod rating;
 mod text;
-mod tree;
 mod tree_lines;
-mod update_tree;
+mod update_json;
 mod written;
 mod yanked_block;
-mod yanked_tree;
+mod yanked_json;
 
 pub use crate::dated::Dated;
-pub use crate::many::{many_tree, refused_tree};
 pub use crate::text::check_text;
-pub use crate::tree::check_tree;
 pub use crate::tree_lines::{check_line, many_line, refused_line};
 pub use crate::written::Written;

@@ -3,7 +3,7 @@
 ghost use Rattle.std.specs.Prelude.{◌≡◌};
 ghost use Rattle.rustsec_check_output.specs.CheckText.{is_above, is_of, rank_of, rank_place, rank_with, rated, ranks};
 
-use crate::advisory_tree::severity_of;
+use crate::rating::severity_of;
 use rustsec_check::Finding;
 use rustsec_lock::Severity;
 use rustsec_texts::WarningKind;

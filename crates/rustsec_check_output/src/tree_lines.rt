@@ -1,26 +1,16 @@
 //! Writes the JSON trees of checks, each on one line.
 
-ghost use Rattle.std.specs.Prelude.{◌≡◌, IfErr, IfOk, false, string_bytes};
-ghost use Rattle.serde_json.specs.View.{view};
-ghost use Rattle.serde_json.specs.Written.{has_float};
+ghost use Rattle.std.specs.Prelude.{◌≡◌, ◌++◌, IfErr, IfOk, OnOk, string_bytes};
 ghost use Rattle.rustsec_error.specs.Failure.{IsMemory};
+ghost use Rattle.rustsec_check_output.specs.CheckJson.{many_json, refused_json};
 ghost use Rattle.rustsec_check_output.specs.CheckTree.{check_tree, many_tree, refused_tree, tree_line};
 
-use crate::many::{many_tree, refused_tree};
-use crate::tree::check_tree;
+use crate::check_json::push_check;
+use crate::part::{First, Key, push_first, push_key};
+use crate::quoted::push_quoted;
 use crate::written::Written;
 use rustsec_error::{ErrorKind, Result};
-use serde_json::Value;
 use std::alloc::{AllocError, Global};
-
-/// Returns the text of a tree on one line, with a line feed at its end.
-fn tree_line(alloc: Global, tree: &Value) -> std::result::Result<String, AllocError>
-    ensures { IfOk result (λ t. has_float (view tree.now) ≡ false → string_bytes t ≡ tree_line (view tree.now)) }
-{
-    let mut text = tree.to_string(alloc)?;
-    text.push_str("\n")?;
-    Ok(text)
-}
 
 /// Returns the JSON tree of a check on one line, with a line feed at its end.
 ///
@@ -31,9 +21,28 @@ pub fn check_line(alloc: Global, written: &Written<'_, '_>) -> Result<String>
     ensures ok { IfOk result (λ t. string_bytes t ≡ tree_line (check_tree written.now)) }
     ensures err { IfErr result IsMemory }
 {
-    let tree = check_tree(alloc, written)?;
-    let line = tree_line(alloc, &tree)?;
+    let mut line = String::new(alloc);
+    push_check(alloc, &mut line, written)?;
+    line.push_str("\n")?;
     Ok(line)
+}
+
+/// Appends the line for a lockfile of many that was checked.
+#[tactic(auto, unfolding(crate::specs::CheckJson::many_json))]
+fn push_many(
+    alloc: Global,
+    line: &mut String,
+    path: &str,
+    written: &Written<'_, '_>,
+) -> std::result::Result<(), AllocError>
+    ensures { OnOk result (string_bytes line.new ≡ string_bytes line.old ++ many_json path.now written.now) }
+{
+    push_first(line, First::Check)?;
+    push_check(alloc, line, written)?;
+    push_key(line, Key::Lockfile)?;
+    push_quoted(alloc, line, path)?;
+    line.push_str("}\n")?;
+    Ok(())
 }
 
 /// Returns the line for a lockfile of many that was checked: an object with the tree of the check at `check` and the
@@ -46,9 +55,27 @@ pub fn many_line(alloc: Global, path: &str, written: &Written<'_, '_>) -> Result
     ensures ok { IfOk result (λ t. string_bytes t ≡ tree_line (many_tree path.now (check_tree written.now))) }
     ensures err { IfErr result IsMemory }
 {
-    let tree = many_tree(alloc, path, written)?;
-    let line = tree_line(alloc, &tree)?;
+    let mut line = String::new(alloc);
+    push_many(alloc, &mut line, path, written)?;
     Ok(line)
+}
+
+/// Appends the line for a lockfile of many that was refused.
+#[tactic(auto, unfolding(crate::specs::CheckJson::refused_json))]
+fn push_refused(
+    alloc: Global,
+    line: &mut String,
+    path: &str,
+    kind: ErrorKind,
+) -> std::result::Result<(), AllocError>
+    ensures { OnOk result (string_bytes line.new ≡ string_bytes line.old ++ refused_json path.now kind) }
+{
+    push_first(line, First::Lockfile)?;
+    push_quoted(alloc, line, path)?;
+    push_key(line, Key::Refused)?;
+    push_quoted(alloc, line, kind.text())?;
+    line.push_str("}\n")?;
+    Ok(())
 }
 
 /// Returns the line for a lockfile of many that was refused: an object with the path of the lockfile at `lockfile` and
@@ -61,7 +88,7 @@ pub fn refused_line(alloc: Global, path: &str, kind: ErrorKind) -> Result<String
     ensures ok { IfOk result (λ t. string_bytes t ≡ tree_line (refused_tree path.now kind)) }
     ensures err { IfErr result IsMemory }
 {
-    let tree = refused_tree(alloc, path, kind)?;
-    let line = tree_line(alloc, &tree)?;
+    let mut line = String::new(alloc);
+    push_refused(alloc, &mut line, path, kind)?;
     Ok(line)
 }

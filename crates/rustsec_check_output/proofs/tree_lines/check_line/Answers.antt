@@ -1,10 +1,10 @@
-use Rattle.std.proofs.Common.{◌∙◌, ap}
-use Rattle.serde_json.specs.Written.{has_float}
-use Rattle.rustsec_check_output.specs.CheckTree.{tree_line}
-use Rattle.rustsec_check_output.proofs.NoFloats.{check_plain}
+use Rattle.std.proofs.Common.{◌∙◌, ◌++◌, ap, codes, sym}
+use Rattle.rustsec_check_output.specs.CheckJson.{check_json}
+use Rattle.rustsec_check_output.proofs.JsonTexts.{check_is}
 use Rattle.rustsec_check_output.proofs.tree_lines.check_line.Goals as goal
 
 pub returns-clause-ok : goal.returns-clause-ok
 returns-clause-ok c =
-    let is = c.in_ok-tree.ensures.ok in
-    c.in_ok-line.ensures (ap has_float is ∙ check_plain c.args.written.now) ∙ ap tree_line is
+    let w = c.args.written.now in
+    c.in_ok-push_str.ensures.bytes
+    ∙ ap (λ t. t ++ codes "\n") (c.in_ok-push_check.ensures ∙ (ap (λ t. t ++ check_json w) c.new-line.ensures.bytes ∙ sym (check_is w)))

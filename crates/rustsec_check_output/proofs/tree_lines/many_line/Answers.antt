@@ -1,10 +1,10 @@
-use Rattle.std.proofs.Common.{◌∙◌, ap}
-use Rattle.serde_json.specs.Written.{has_float}
-use Rattle.rustsec_check_output.specs.CheckTree.{tree_line}
-use Rattle.rustsec_check_output.proofs.NoFloats.{many_plain}
+use Rattle.std.proofs.Common.{◌∙◌, ◌++◌, ap}
+use Rattle.rustsec_check_output.specs.CheckJson.{many_json}
+use Rattle.rustsec_check_output.proofs.JsonTexts.{many_is}
 use Rattle.rustsec_check_output.proofs.tree_lines.many_line.Goals as goal
 
 pub returns-clause-ok : goal.returns-clause-ok
 returns-clause-ok c =
-    let is = c.in_ok-tree.ensures.ok in
-    c.in_ok-line.ensures (ap has_float is ∙ many_plain c.args.path.now c.args.written.now) ∙ ap tree_line is
+    let path = c.args.path.now in
+    let w = c.args.written.now in
+    c.in_ok-push_many.ensures ∙ (ap (λ t. t ++ many_json path w) c.new-line.ensures.bytes ∙ many_is path w)
