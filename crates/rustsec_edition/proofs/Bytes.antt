@@ -1,6 +1,5 @@
--- The signs of a document, byte by byte and piece by piece.
-use Rattle.std.proofs.Common.{◌≡◌, ◌∙◌, ◌==◌, ◌&&◌, ◌||◌, ◌+◌, ◌-◌, ◌<◌, ◌≤◌, ℕ, zero, suc, Bool, true, false, List, [], ◌∷◌, ap, arith, drop, drop-drop, drop_of_length-le, get_or, length, not, refl, take, true≢false}
-use Rattle.std.specs.List.{list_any}
+-- The signs of a document, byte by byte and brace by brace.
+use Rattle.std.proofs.Common.{◌≡◌, ◌≢◌, ◌∙◌, ◌==◌, ◌&&◌, ◌||◌, ◌+◌, ◌<◌, ◌≤◌, ℕ, zero, suc, Bool, true, false, List, [], ◌∷◌, ap, arith, drop, drop_of_length-le, eq-eqb, get_or, length, not, refl, true≢false}
 use Rattle.std.proofs.lemmas.List.{at_drop_more}
 use Rattle.toml_parser.specs.Lexical.{left_brace}
 use Rattle.rustsec_edition.specs.Signs.{closes, has_open_brace, has_sign_byte, is_sign}
@@ -43,14 +42,14 @@ byte_end found earlier before bytes i h = rw (drop_of_length-le bytes h) (or_las
 -- ---- each left brace
 
 brace_step : (bytes : List ℕ) (i : ℕ) → i < length bytes
-    → has_open_brace (drop i bytes) ≡ ((get_or bytes i 0 == left_brace && not (closes 100 [] 0 (drop i bytes))) || has_open_brace (drop (suc i) bytes))
+    → has_open_brace (drop i bytes) ≡ ((get_or bytes i 0 == left_brace && not (closes 100 [] (drop i bytes))) || has_open_brace (drop (suc i) bytes))
 unfolding has_open_brace
 brace_step [] i lt = elim lt [ ]
 brace_step (b ∷ bs) zero lt = refl
 brace_step (b ∷ bs) (suc i) lt = brace_step bs i (grind (arith, lt))
 
 pub brace_more : (bytes : List ℕ) (i : ℕ) → i < length bytes
-    → has_open_brace (drop i bytes) ≡ ((get_or bytes i 0 == left_brace && not (closes 100 [] 0 (drop i bytes))) || has_open_brace (drop (i + 1) bytes))
+    → has_open_brace (drop i bytes) ≡ ((get_or bytes i 0 == left_brace && not (closes 100 [] (drop i bytes))) || has_open_brace (drop (i + 1) bytes))
 brace_more bytes i lt =
     let next : i + 1 ≡ suc i = omega arith in
     rw next (brace_step bytes i lt)
@@ -59,20 +58,25 @@ brace_more bytes i lt =
 no_open : (a x rest : Bool) → a ≡ false → ((a && x) || rest) ≡ rest
 no_open a x rest h = rw h refl
 
-no_brace : (n : ℕ) (bytes : List ℕ) → list_any (λ b. b == left_brace) (take n bytes) ≡ false → has_open_brace bytes ≡ has_open_brace (drop n bytes)
+-- no left brace comes before an index
+pub no_brace : (k : ℕ) (bytes : List ℕ) → ((i : ℕ) → i < k → get_or bytes i 0 ≢ left_brace) → has_open_brace bytes ≡ has_open_brace (drop k bytes)
 unfolding has_open_brace
 no_brace zero bytes h = refl
-no_brace (suc n) [] h = refl
-no_brace (suc n) (b ∷ bs) h =
-    no_open (b == left_brace) _ (has_open_brace bs) (or_first (b == left_brace) _ h) ∙ no_brace n bs (or_second (b == left_brace) _ h)
+no_brace (suc k) [] h = refl
+no_brace (suc k) (b ∷ bs) h =
+    let here : b ≢ left_brace = h 0 (omega arith) in
+    let other : (b == left_brace) ≡ false = grind (arith, here) in
+    no_open (b == left_brace) _ (has_open_brace bs) other ∙ no_brace k bs (λ i lt. h (suc i) (omega arith))
 
--- a piece without a left brace
-pub no_brace_between : (bytes : List ℕ) (from to : ℕ) → from ≤ to → list_any (λ b. b == left_brace) (take (to - from) (drop from bytes)) ≡ false
-    → has_open_brace (drop from bytes) ≡ has_open_brace (drop to bytes)
-no_brace_between bytes from to h none =
-    let end : from + (to - from) ≡ to = omega (arith, h) in
-    no_brace (to - from) (drop from bytes) none ∙ ap has_open_brace (drop-drop (to - from) from bytes ∙ ap (λ n. drop n bytes) end)
-
-pub no_brace_left : (bytes : List ℕ) (i : ℕ) → length bytes ≤ i → has_open_brace (drop i bytes) ≡ false
+pub no_brace_left : (bytes : List ℕ) → ((i : ℕ) → i < length bytes → get_or bytes i 0 ≢ left_brace) → has_open_brace bytes ≡ false
 unfolding has_open_brace
-no_brace_left bytes i h = rw (drop_of_length-le bytes h) refl
+no_brace_left bytes h =
+    let all : length bytes ≤ length bytes = omega arith in
+    no_brace (length bytes) bytes h ∙ rw (drop_of_length-le bytes all) refl
+
+-- the first left brace of a text
+pub first_brace : (bytes : List ℕ) (k : ℕ) → k < length bytes → get_or bytes k 0 ≡ left_brace → ((i : ℕ) → i < k → get_or bytes i 0 ≢ left_brace)
+    → has_open_brace bytes ≡ (not (closes 100 [] (drop k bytes)) || has_open_brace (drop (k + 1) bytes))
+first_brace bytes k lt is before =
+    no_brace k bytes before
+    ∙ (brace_more bytes k lt ∙ ap (λ t. (t && not (closes 100 [] (drop k bytes))) || has_open_brace (drop (k + 1) bytes)) (eq-eqb (get_or bytes k 0) left_brace is))

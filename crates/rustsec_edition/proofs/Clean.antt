@@ -1,21 +1,20 @@
 -- A document without signs has no form.
-use Rattle.std.proofs.Common.{◌≡◌, ◌≢◌, ◌∙◌, ◌==◌, ◌&&◌, ◌||◌, ◌-◌, ℕ, zero, suc, Bool, true, false, if◌then◌else◌, List, [], ◌∷◌, ◌++◌, Option, None, Some, ap, append-nil, append_assoc, arith, inl, inr, is_some, length, not, refl, slice_index, sym, take, true≢false}
+use Rattle.std.proofs.Common.{◌≡◌, ◌∙◌, ◌==◌, ◌&&◌, ◌||◌, ◌-◌, ℕ, zero, suc, Bool, true, false, if◌then◌else◌, List, [], ◌∷◌, ◌++◌, Option, None, Some, ap, append-nil, append_assoc, arith, inl, inr, length, not, refl, slice_index, sym, take, true≢false}
 use Rattle.std.specs.Char.{is_digit}
 use Rattle.std.proofs.lemmas.Bool.{cases_Bool}
 use Rattle.toml_parser.specs.Lexical.{backslash, colon, first, left_brace, left_bracket, right_brace, right_bracket, line_feed}
 use Rattle.rustsec_places.specs.Places.{after_token, next_token, up_to}
-use Rattle.rustsec_edition.specs.Forms.{after_bracket, first_form, first_from, form_at, has_line_feed_after, has_new_escape, is_in_table, is_last_comma, is_new_string, is_short_time, last}
-use Rattle.rustsec_edition.specs.Signs.{closes, has_open_brace, has_sign_byte, is_sign}
+use Rattle.rustsec_edition.specs.Forms.{after_bracket, first_form, first_from, form_at, has_line_feed_after, has_new_escape, is_in_table, is_last_comma, is_new_string, is_short_time, is_table_end, is_table_split, last}
+use Rattle.rustsec_edition.specs.Signs.{breaks_table, closes, has_open_brace, has_sign_byte, is_sign}
 use Rattle.rustsec_edition.specs.declared.form.NewForm.{NewForm}
 use Rattle.rustsec_edition.specs.declared.form.NewForm.TheVariants as form
 use Rattle.rustsec_edition.proofs.Bytes.{or_first, or_second}
-use Rattle.rustsec_edition.proofs.Closing.{is_none}
 use Rattle.rustsec_edition.proofs.Suffixes.{at_next_token, at_start}
 
 -- whether a text has a sign at its front, after these two bytes: as a byte, or a left brace whose brackets do not close
 abbrev pub sign_at : ℕ → ℕ → List ℕ → Bool
 sign_at earlier before text =
-    is_sign earlier before (first text) || (first text == left_brace && not (closes 100 [] 0 text))
+    is_sign earlier before (first text) || (first text == left_brace && not (closes 100 [] text))
 
 -- whether a text that comes after these two bytes has a sign
 unfoldable pub has_sign : ℕ → ℕ → List ℕ → Bool
@@ -39,7 +38,7 @@ parts earlier before b bs h = grind arith
 clean_tail : (b : ℕ) (bs : List ℕ) → IsClean (b ∷ bs) → IsClean bs
 clean_tail b bs (earlier, (before, h)) = (before, (b, (parts earlier before b bs h).1))
 
-front : (earlier before b : ℕ) (bs : List ℕ) → is_sign earlier before b ≡ false → (b == left_brace && not (closes 100 [] 0 (b ∷ bs))) ≡ false
+front : (earlier before b : ℕ) (bs : List ℕ) → is_sign earlier before b ≡ false → (b == left_brace && not (closes 100 [] (b ∷ bs))) ≡ false
     → has_sign earlier before (b ∷ bs) ≡ has_sign before b bs
 unfolding has_sign
 front earlier before b bs h k = rw (h, k) refl
@@ -49,8 +48,8 @@ pub no_signs : (earlier before : ℕ) (text : List ℕ) → has_sign_byte earlie
 unfolding has_sign has_sign_byte has_open_brace
 no_signs earlier before [] h k = refl
 no_signs earlier before (b ∷ bs) h k =
-    front earlier before b bs (or_first (is_sign earlier before b) _ h) (or_first (b == left_brace && not (closes 100 [] 0 (b ∷ bs))) _ k)
-    ∙ no_signs before b bs (or_second (is_sign earlier before b) _ h) (or_second (b == left_brace && not (closes 100 [] 0 (b ∷ bs))) _ k)
+    front earlier before b bs (or_first (is_sign earlier before b) _ h) (or_first (b == left_brace && not (closes 100 [] (b ∷ bs))) _ k)
+    ∙ no_signs before b bs (or_second (is_sign earlier before b) _ h) (or_second (b == left_brace && not (closes 100 [] (b ∷ bs))) _ k)
 
 first_false : (a b : Bool) → a ≡ false → (a && b) ≡ false
 first_false a b h = rw h refl
@@ -190,19 +189,6 @@ all_false : {A : Type 0} (a b c d : Bool) (w x y z : A) → a ≡ false → b �
     → (if a then Some w else if b then Some x else if c then Some y else if d then Some z else None) ≡ None
 all_false a b c d w x y z e f g h = rw (e, f, g, h) refl
 
-all_but_last : {A : Type 0} (a b c : Bool) (w x y z : A) → a ≡ false → b ≡ false → c ≡ false
-    → (if a then Some w else if b then Some x else if c then Some y else if true then Some z else None) ≡ Some z
-all_but_last a b c w x y z e f g = rw (e, f, g) refl
-
-some_none : {A : Type 0} (x : A) → Some x ≢ None
-some_none x h = absurd (true≢false (ap is_some h))
-
--- the last test does not pass
-last_false : {A : Type 0} (a b c d : Bool) (w x y z : A) → (if a then Some w else if b then Some x else if c then Some y else if d then Some z else None) ≡ None
-    → a ≡ false → b ≡ false → c ≡ false → d ≡ false
-last_false a b c false w x y z h e f g = refl
-last_false a b c true w x y z h e f g = absurd (some_none z (sym (all_but_last a b c w x y z e f g) ∙ h))
-
 no_string : (text : List ℕ) → IsClean text → is_new_string text ≡ false
 no_string text h = and_false _ _ (no_escape (length text - length (after_token text)) text h)
 
@@ -214,59 +200,65 @@ no_form brackets before text h k other =
     let later = brace_at open_then (length open_then - 1) (brace_after (first text) brackets k other) in
     all_false _ _ _ _ form.Time form.Escape form.Comma form.LineFeed (no_time before text h) (no_string text h) (first_false _ _ now) (first_false _ _ later)
 
--- a left brace, outside of a table, if it shows no form without more brackets around
-no_form_brace : (brackets : List ℕ) (before : ℕ) (bs : List ℕ) → IsClean (left_brace ∷ bs) → NoBrace brackets → form_at [] 0 (left_brace ∷ bs) ≡ None
+-- a left brace, outside of a table, if no line feed follows it
+no_form_brace : (brackets : List ℕ) (before : ℕ) (bs : List ℕ) → IsClean (left_brace ∷ bs) → NoBrace brackets → breaks_table [] (left_brace ∷ bs) ≡ false
     → form_at brackets before (left_brace ∷ bs) ≡ None
-no_form_brace brackets before bs h k none =
+no_form_brace brackets before bs h k whole =
     let text = left_brace ∷ bs in
     let now = brace_at brackets (length brackets - 1) k in
-    let feed : has_line_feed_after text ≡ false = last_false _ _ _ _ form.Time form.Escape form.Comma form.LineFeed none (no_time 0 text h) (no_string text h) refl in
+    let feed : has_line_feed_after text ≡ false = or_second (is_table_end [] text) (is_table_split [] text) whole in
     all_false _ _ _ _ form.Time form.Escape form.Comma form.LineFeed (no_time before text h) (no_string text h) (first_false _ _ now) (and_false _ _ feed)
+
+-- a token that keeps each table whole
+no_form_whole : (brackets : List ℕ) (before : ℕ) (text : List ℕ) → IsClean text → breaks_table brackets text ≡ false → form_at brackets before text ≡ None
+no_form_whole brackets before text h whole =
+    all_false _ _ _ _ form.Time form.Escape form.Comma form.LineFeed (no_time before text h) (no_string text h)
+    (or_first (is_table_end brackets text) (is_table_split brackets text) whole) (or_second (is_table_end brackets text) (is_table_split brackets text) whole)
 
 -- ---- the tokens of a table
 
 -- what closes, up to the right bracket of the outermost one
-Inside : List ℕ → ℕ → List ℕ → Type 0
-Inside [] before text = Unit
-Inside (c ∷ cs) before text = (k : ℕ) × (closes k (c ∷ cs) before text ≡ true)
+Inside : List ℕ → List ℕ → Type 0
+Inside [] text = Unit
+Inside (c ∷ cs) text = (k : ℕ) × (closes k (c ∷ cs) text ≡ true)
 
-form_false : (a f z r : Bool) → (if a || f then false else if z then true else r) ≡ true → f ≡ false
-form_false a false z r h = refl
-form_false true true z r h = absurd (true≢false (sym h))
-form_false false true z r h = absurd (true≢false (sym h))
+broken_false : (a b z r : Bool) → (if a || b then false else if z then true else r) ≡ true → b ≡ false
+broken_false a false z r h = refl
+broken_false true true z r h = absurd (true≢false (sym h))
+broken_false false true z r h = absurd (true≢false (sym h))
 
-next_true : (a f z r : Bool) → (if a || f then false else if z then true else r) ≡ true → z ≡ false → r ≡ true
-next_true true f z r h k = absurd (true≢false (sym h))
+next_true : (a b z r : Bool) → (if a || b then false else if z then true else r) ≡ true → z ≡ false → r ≡ true
+next_true true b z r h k = absurd (true≢false (sym h))
 next_true false true z r h k = absurd (true≢false (sym h))
 next_true false false true r h k = absurd (true≢false k)
 next_true false false false r h k = h
 
-closes_form : (k : ℕ) (brackets : List ℕ) (before : ℕ) (text : List ℕ) → closes (suc k) brackets before text ≡ true → form_at brackets before text ≡ None
+closes_whole : (k : ℕ) (brackets text : List ℕ) → closes (suc k) brackets text ≡ true → breaks_table brackets text ≡ false
 unfolding closes
-closes_form k brackets before text h = is_none _ (form_false (length text == 0) (is_some (form_at brackets before text)) (length (after_bracket (first text) brackets) == 0)
-    (closes k (after_bracket (first text) brackets) (last (up_to (next_token text) text)) (next_token text)) h)
+closes_whole k brackets text h =
+    broken_false (length text == 0) (breaks_table brackets text) (length (after_bracket (first text) brackets) == 0)
+    (closes k (after_bracket (first text) brackets) (next_token text)) h
 
-inside : (k : ℕ) (brackets : List ℕ) (before : ℕ) (text : List ℕ) → ((length brackets == 0) ≡ false → closes k brackets before text ≡ true) → Inside brackets before text
+inside : (k : ℕ) (brackets text : List ℕ) → ((length brackets == 0) ≡ false → closes k brackets text ≡ true) → Inside brackets text
 unfolding Inside
-inside k [] before text h = tt
-inside k (c ∷ cs) before text h =
+inside k [] text h = tt
+inside k (c ∷ cs) text h =
     let some : (length (c ∷ cs) == 0) ≡ false = grind arith in
     (k, h some)
 
-closes_next : (k : ℕ) (brackets : List ℕ) (before : ℕ) (text : List ℕ) → closes (suc k) brackets before text ≡ true
-    → Inside (after_bracket (first text) brackets) (last (up_to (next_token text) text)) (next_token text)
+closes_next : (k : ℕ) (brackets text : List ℕ) → closes (suc k) brackets text ≡ true → Inside (after_bracket (first text) brackets) (next_token text)
 unfolding closes
-closes_next k brackets before text h = inside k _ _ _ (next_true (length text == 0) (is_some (form_at brackets before text)) _ _ h)
+closes_next k brackets text h = inside k _ _ (next_true (length text == 0) (breaks_table brackets text) _ _ h)
 
-nothing_closes : (brackets : List ℕ) (before : ℕ) (text : List ℕ) → closes 0 brackets before text ≡ false
+nothing_closes : (brackets text : List ℕ) → closes 0 brackets text ≡ false
 unfolding closes
-nothing_closes brackets before text = refl
+nothing_closes brackets text = refl
 
 -- ---- the document
 
 -- the tokens from one on show no form: these brackets are open before it, and in them those of a table
 NoForms : ℕ → List ℕ → List ℕ → Type 0
-NoForms n bs cs = (before : ℕ) (text : List ℕ) → IsClean text → NoBrace bs → Inside cs before text → first_from n (bs ++ cs) before text ≡ None
+NoForms n bs cs = (before : ℕ) (text : List ℕ) → IsClean text → NoBrace bs → Inside cs text → first_from n (bs ++ cs) before text ≡ None
 
 step : (n : ℕ) (brackets more : List ℕ) (before : ℕ) (text : List ℕ) → form_at brackets before text ≡ None → after_bracket (first text) brackets ≡ more
     → first_from n more (last (up_to (next_token text) text)) (next_token text) ≡ None → first_from (suc n) brackets before text ≡ None
@@ -279,10 +271,11 @@ step n brackets more before text none is rest =
 
 in_table : (n : ℕ) (bs : List ℕ) (c : ℕ) (cs : List ℕ) → ((ds : List ℕ) → NoForms n bs ds) → NoForms (suc n) bs (c ∷ cs)
 unfolding NoForms Inside
-in_table n bs c cs more before text clean free (zero, h) = absurd (true≢false (sym (sym (nothing_closes (c ∷ cs) before text) ∙ h)))
+in_table n bs c cs more before text clean free (zero, h) = absurd (true≢false (sym (sym (nothing_closes (c ∷ cs) text) ∙ h)))
 in_table n bs c cs more before text clean free (suc k, h) =
-    step n (bs ++ c ∷ cs) _ before text (form_after bs c cs before text free ∙ closes_form k (c ∷ cs) before text h) (bracket_after (first text) bs c cs)
-    (more (after_bracket (first text) (c ∷ cs)) _ _ (at_next_token IsClean clean_none clean_tail text clean) free (closes_next k (c ∷ cs) before text h))
+    step n (bs ++ c ∷ cs) _ before text (form_after bs c cs before text free ∙ no_form_whole (c ∷ cs) before text clean (closes_whole k (c ∷ cs) text h))
+    (bracket_after (first text) bs c cs)
+    (more (after_bracket (first text) (c ∷ cs)) _ _ (at_next_token IsClean clean_none clean_tail text clean) free (closes_next k (c ∷ cs) text h))
 
 after_other : (n : ℕ) (bs : List ℕ) → ((ds : List ℕ) → (es : List ℕ) → NoForms n ds es) → (before : ℕ) (text : List ℕ) → IsClean text → NoBrace bs
     → (first text == left_brace) ≡ false → first_from (suc n) bs before text ≡ None
@@ -293,17 +286,17 @@ after_other n bs more before text clean free other =
     (rw (← append-nil next) (more next [] _ _ (at_next_token IsClean clean_none clean_tail text clean) (brace_after (first text) bs free other) tt))
 
 -- the brackets of a left brace without signs close
-closes_here : (b : ℕ) (bs : List ℕ) → (b == left_brace) ≡ true → IsClean (b ∷ bs) → closes 100 [] 0 (b ∷ bs) ≡ true
-closes_here b bs is (earlier, (before, h)) = not_left (closes 100 [] 0 (b ∷ bs)) _ _ is (parts earlier before b bs h).0
+closes_here : (b : ℕ) (bs : List ℕ) → (b == left_brace) ≡ true → IsClean (b ∷ bs) → closes 100 [] (b ∷ bs) ≡ true
+closes_here b bs is (earlier, (before, h)) = not_left (closes 100 [] (b ∷ bs)) _ _ is (parts earlier before b bs h).0
 
 after_brace : (n : ℕ) (bs : List ℕ) → ((ds : List ℕ) → (es : List ℕ) → NoForms n ds es) → (before : ℕ) (rest : List ℕ) → IsClean (left_brace ∷ rest) → NoBrace bs
     → first_from (suc n) bs before (left_brace ∷ rest) ≡ None
 unfolding NoForms
 after_brace n bs more before rest clean free =
     let text = left_brace ∷ rest in
-    let closed : closes (suc 99) [] 0 text ≡ true = closes_here left_brace rest refl clean in
-    step n bs (bs ++ left_brace ∷ []) before text (no_form_brace bs before rest clean free (closes_form 99 [] 0 text closed)) refl
-    (more bs (left_brace ∷ []) _ _ (at_next_token IsClean clean_none clean_tail text clean) free (closes_next 99 [] 0 text closed))
+    let closed : closes (suc 99) [] text ≡ true = closes_here left_brace rest refl clean in
+    step n bs (bs ++ left_brace ∷ []) before text (no_form_brace bs before rest clean free (closes_whole 99 [] text closed)) refl
+    (more bs (left_brace ∷ []) _ _ (at_next_token IsClean clean_none clean_tail text clean) free (closes_next 99 [] text closed))
 
 after_any : (n : ℕ) (bs : List ℕ) → ((ds : List ℕ) → (es : List ℕ) → NoForms n ds es) → (before : ℕ) (text : List ℕ) → IsClean text → NoBrace bs
     → first_from (suc n) bs before text ≡ None

@@ -49,6 +49,23 @@ const ROWS: &[Row] = &[
     ("a = \"\\e\"\nb = 07:32\n", Some(NewForm::Escape), 1),
     ("\u{feff}a = { b = 1, }\n", Some(NewForm::Comma), 1),
     ("\na = 1979-05-27 07:32-07:00\n", Some(NewForm::Time), 2),
+    (
+        "a = { \"b_2::C::d\" = [\"< 1.2\"], e = '', f = { g = \"\", h = '{' } }\n",
+        None,
+        0,
+    ),
+    ("a = { b = \"\"\"\"c\"\"\", d = \"\\\"}\" }\n", None, 0),
+    ("a = \"{\"\nb = { c = '}\n'\n}\n", None, 0),
+    (
+        "a = \"{\"\nb = { c = [ '}',\n2 ], }\n",
+        Some(NewForm::Comma),
+        3,
+    ),
+    (
+        "a = { b = \"{\" }\nc = { d = \"é\" # }\n}\n",
+        Some(NewForm::LineFeed),
+        2,
+    ),
 ];
 
 /// Returns whether a row's document shows its form.

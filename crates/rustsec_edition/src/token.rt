@@ -1,7 +1,8 @@
 //! Which form of TOML 1.1 a token shows.
 
-ghost use Rattle.std.specs.Prelude.{◌≡◌, ◌<◌, ◌^◌, OnOk, false};
+ghost use Rattle.std.specs.Prelude.{◌≡◌, ◌+◌, ◌<◌, ◌≤◌, ◌^◌, OnOk, false, length, take};
 ghost use Rattle.rustsec_edition.specs.Forms.{after_bracket, form_at, goes_on_after, has_line_feed_after, has_new_escape, has_two_digits, is_in_table, is_new_letter, is_new_string, is_short_time, is_table_end, is_table_split, last};
+ghost use Rattle.rustsec_edition.specs.Signs.{breaks_table};
 ghost use Rattle.rustsec_places.specs.Places.{after_token, next_token};
 
 use crate::form::NewForm;
@@ -80,6 +81,23 @@ pub(crate) fn track(brackets: &mut Vec<u8>, byte: u8) -> Result<(), AllocError>
     Ok(())
 }
 
+/// Keeps track of the brackets that are open, after one more token, at the front of a list that has room for it. Returns how
+/// many are open.
+pub(crate) fn track_within(brackets: &mut [u8], depth: usize, byte: u8) -> usize
+    requires { depth < length brackets.old }
+    ensures few { result ≤ depth + 1 }
+    ensures brackets { take result brackets.new ≡ after_bracket byte (take depth brackets.old) }
+{
+    if byte == b'[' || byte == b'{' {
+        brackets[depth] = byte;
+        return depth + 1;
+    }
+    if byte == b']' || byte == b'}' {
+        return depth.saturating_sub(1);
+    }
+    depth
+}
+
 /// Returns the last byte, or 0.
 pub(crate) fn last(bytes: &[u8]) -> u8
     ensures { result ≡ last bytes.now }
@@ -127,6 +145,16 @@ fn is_table_split(brackets: &[u8], text: &str, after: &str, next: &str) -> bool
     ensures { result ≡ is_table_split brackets.now text.now }
 {
     is_in_table_after(first(text), brackets) && has_line_feed_after(text, after, next)
+}
+
+/// Returns whether a token is a comma right before the closing brace of an inline table, or a line feed follows it within one.
+/// These brackets are open before the token, and the texts are as above.
+pub(crate) fn breaks_table(brackets: &[u8], text: &str, after: &str, next: &str) -> bool
+    requires after { after.now ≡ after_token text.now }
+    requires next { next.now ≡ next_token text.now }
+    ensures { result ≡ breaks_table brackets.now text.now }
+{
+    is_table_end(brackets, text, next) || is_table_split(brackets, text, after, next)
 }
 
 /// Returns the form of TOML 1.1 that a token shows, if any. The token comes after this byte, and these brackets are open

@@ -1,42 +1,46 @@
-use Rattle.std.proofs.Common.{◌≡◌, ◌∙◌, ◌==◌, ◌+◌, ◌-◌, None, arith, false, is_some, length, suc, sym, true}
+use Rattle.std.proofs.Common.{◌≡◌, ◌∙◌, ◌==◌, ◌+◌, ◌-◌, ◌≤◌, arith, false, length, rules, suc, sym, take, true}
 use Rattle.std.proofs.lemmas.Grind.{common_steps}
-use Rattle.rustsec_edition.specs.Forms.{form_at}
-use Rattle.rustsec_edition.proofs.Closing.{a_form, all_closed, is_none, no_room, no_text, one_more}
+use Rattle.rustsec_edition.specs.Signs.{breaks_table}
+use Rattle.rustsec_edition.proofs.Closing.{all_closed, broken, no_room, no_text, none_open, one_more, some_open}
 use Rattle.rustsec_edition.proofs.signs.closes.Goals as goal
 
 pub returns-then-is_empty : goal.returns-then-is_empty
 returns-then-is_empty c =
-    let over : (length c.tokens.tokens.rest.now == 0) ≡ true = grind (arith, common_steps) in
+    let over : (length c.tokens.rest.now == 0) ≡ true = grind (arith, common_steps) in
     let room : 100 - c.tokens._at ≡ suc (100 - (c.tokens._at + 1)) = omega (arith, c.tokens-test.true) in
-    sym (c.tokens.invariant ∙ no_text _ _ _ _ _ room over)
+    sym (c.tokens.invariant.1.1 ∙ no_text _ _ _ _ room over)
 
-pub returns-then-is_some : goal.returns-then-is_some
-returns-then-is_some c =
-    let left : (length c.tokens.tokens.rest.now == 0) ≡ false = grind (arith, common_steps) in
+pub returns-then-breaks_table : goal.returns-then-breaks_table
+returns-then-breaks_table c =
+    let left : (length c.tokens.rest.now == 0) ≡ false = grind (arith, common_steps) in
     let room : 100 - c.tokens._at ≡ suc (100 - (c.tokens._at + 1)) = omega (arith, c.tokens-test.true) in
-    let shown : is_some (form_at c.tokens.tokens.brackets.items c.tokens.tokens.before c.tokens.tokens.rest.now) ≡ true =
-    rw (← c.in_ok-step.ensures.form) (sym c.is_some.ensures ∙ c.if-is_some.true) in
-    sym (c.tokens.invariant ∙ a_form _ _ _ _ _ room left shown)
+    let breaks : breaks_table (take c.tokens.depth c.tokens.brackets) c.tokens.rest.now ≡ true = sym c.breaks_table.ensures ∙ c.if-breaks_table.true in
+    sym (c.tokens.invariant.1.1 ∙ broken _ _ _ _ room left breaks)
 
-pub returns-then-is_empty-2 : goal.returns-then-is_empty-2
-returns-then-is_empty-2 c =
-    let left : (length c.tokens.tokens.rest.now == 0) ≡ false = grind (arith, common_steps) in
+pub returns-then-depth-eq0 : goal.returns-then-depth-eq0
+returns-then-depth-eq0 c =
+    let left : (length c.tokens.rest.now == 0) ≡ false = grind (arith, common_steps) in
     let room : 100 - c.tokens._at ≡ suc (100 - (c.tokens._at + 1)) = omega (arith, c.tokens-test.true) in
-    let nothing : c.in_ok-step.field-0 ≡ None = is_none _ (sym c.is_some.ensures ∙ c.if-is_some.false) in
-    let none : form_at c.tokens.tokens.brackets.items c.tokens.tokens.before c.tokens.tokens.rest.now ≡ None = sym c.in_ok-step.ensures.form ∙ nothing in
-    let over : (length c.step.new.self.brackets.items == 0) ≡ true = grind (arith, common_steps) in
-    let closed = rw (c.in_ok-step.ensures.next nothing).0 at over in
-    sym (c.tokens.invariant ∙ all_closed _ _ _ _ _ room left none closed)
+    let whole : breaks_table (take c.tokens.depth c.tokens.brackets) c.tokens.rest.now ≡ false = sym c.breaks_table.ensures ∙ c.if-breaks_table.false in
+    let none : c.track_within-depth.result ≡ 0 = omega arith in
+    let over = none_open c.track_within-depth.result c.track_within-depth.new.brackets _ c.track_within-depth.ensures.brackets none in
+    sym (c.tokens.invariant.1.1 ∙ all_closed _ _ _ _ room left whole (rw c.first.ensures at over))
 
 pub tokens-preserved : goal.tokens-preserved
 tokens-preserved c =
-    let left : (length c.tokens.tokens.rest.now == 0) ≡ false = grind (arith, common_steps) in
+    let left : (length c.tokens.rest.now == 0) ≡ false = grind (arith, common_steps) in
     let room : 100 - c.tokens._at ≡ suc (100 - (c.tokens._at + 1)) = omega (arith, c.tokens-test.true) in
-    let nothing : c.in_ok-step.field-0 ≡ None = is_none _ (sym c.is_some.ensures ∙ c.if-is_some.false) in
-    let none : form_at c.tokens.tokens.brackets.items c.tokens.tokens.before c.tokens.tokens.rest.now ≡ None = sym c.in_ok-step.ensures.form ∙ nothing in
-    let next = c.in_ok-step.ensures.next nothing in
-    let still : (length c.step.new.self.brackets.items == 0) ≡ false = grind (arith, common_steps) in
-    rw (next.0, next.1.0, next.1.1) (c.tokens.invariant ∙ one_more _ _ _ _ _ room left none (rw next.0 at still))
+    let whole : breaks_table (take c.tokens.depth c.tokens.brackets) c.tokens.rest.now ≡ false = sym c.breaks_table.ensures ∙ c.if-breaks_table.false in
+    let few : c.track_within-depth.result ≤ length c.track_within-depth.new.brackets = omega (arith, c.tokens.invariant.1.0, c.track_within-depth.ensures.few) in
+    let some : (c.track_within-depth.result == 0) ≡ false = grind (arith, common_steps) in
+    let still = some_open c.track_within-depth.result c.track_within-depth.new.brackets _ c.track_within-depth.ensures.brackets few some in
+    let said = c.tokens.invariant.1.1 ∙ one_more _ _ _ _ room left whole (rw c.first.ensures at still) in (
+      search rules,
+      (
+        omega (arith, c.tokens.invariant.1.0, c.track_within-depth.ensures.few),
+        rw (c.track_within-depth.ensures.brackets, c.first.ensures, c.skip_blank-next.ensures.rest, c.in_ok-after.ensures) said,
+      ),
+    )
 
 pub returns : goal.returns
-returns c = sym (c.tokens.invariant ∙ no_room _ _ _ _ (omega (arith, c.tokens-test.false)))
+returns c = sym (c.tokens.invariant.1.1 ∙ no_room _ _ _ (omega (arith, c.tokens-test.false)))

@@ -1,7 +1,9 @@
-use Rattle.std.proofs.Common.{◌≡◌, [], ◌-◌}
+use Rattle.std.proofs.Common.{◌≡◌, [], ◌-◌, ◌≤◌, take}
+use denote.Shadow.{shadow}
+use denote.Text.{Utf8}
 use Rattle.rustsec_edition.specs.Signs.{closes}
 use Rattle.rustsec_edition.proofs.signs.closes.Given as goal
 
--- the tokens that are left say what all say
+-- what is left is text, no more brackets are open than tokens were read, and the tokens that are left say what all say
 abbrev pub invariant-tokens : goal.invariant-tokens
-invariant-tokens l = closes 100 [] 0 l.text ≡ closes (100 - l._at) l.tokens.brackets.items l.tokens.before l.tokens.rest.now
+invariant-tokens l = shadow (Utf8 l.rest) × ((l.depth ≤ l._at) × (closes 100 [] l.text ≡ closes (100 - l._at) (take l.depth l.brackets) l.rest))
