@@ -1,6 +1,8 @@
 -- The files of a database one after another, and the table of the first ones with each ID.
-use Rattle.std.proofs.Common.{◌≡◌, ◌∙◌, ◌+◌, ◌<◌, ◌++◌, ℕ, Bool, true, false, cond, List, [], ◌∷◌, Option, Some, None, append-nil, get_or, length, map, take, refl, subst, sym, ap, append_assoc}
-use Rattle.std.specs.Prelude.{is_some, option_map}
+use Rattle.std.proofs.Common.{◌≡◌, ◌∙◌, ◌+◌, ◌<◌, ◌++◌, ℕ, suc, Bool, true, false, cond, List, [], ◌∷◌, Option, Some, None, append-nil, get_or, length, map, slice_get, take, refl, subst, sym, ap, append_assoc}
+use Rattle.std.proofs.lemmas.List.{length-map}
+use Rattle.std.specs.Prelude.{option_map}
+use Rattle.std.proofs.lemmas.Option.{slice_get-map}
 use Rattle.std.specs.BTreeMap as tree
 use Rattle.std.specs.BTreeMap.{BTreeMap, Updates}
 use Rattle.std.specs.List.{find}
@@ -11,43 +13,65 @@ use Rattle.rustsec_texts.specs.IdOrder.{id_decides, id_eq, id_order, id_ties}
 use Rattle.rustsec_texts.specs.Ids.{IdValue}
 use Rattle.rustsec_lint_database.specs.Entries.{AreEntries, AreLintedAt, entries_after, entries_of, first_with, has_id}
 use Rattle.rustsec_lint_database.specs.Files.{IsLintAt, of_text, unread}
-use Rattle.rustsec_lint_database.specs.Firsts.{AreFirsts, IsAdded, file_of}
+use Rattle.rustsec_lint_database.specs.Firsts.{AreFirsts, IsAdded, file_of, index_with, path_at}
 use Rattle.rustsec_lint_database.specs.declared.database.Entry.{Entry}
 use Rattle.rustsec_lint_database.specs.declared.file.FileLint.{FileLint}
 
--- ---- the first element that passes, in a list with one more element
+-- ---- the index of the first file with an ID, where one more file comes
 
-module _ {A : Type 0} where
-  kept-step : (b : Bool) (x y : A) (o p : Option A) → cond b (Some x) o ≡ Some y → (o ≡ Some y → p ≡ Some y) → cond b (Some x) p ≡ Some y
-  kept-step true x y o p h more = h
-  kept-step false x y o p h more = more h
+kept-step : (b : Bool) (o p : Option ℕ) (k : ℕ) → cond b (Some 0) (option_map suc o) ≡ Some k → ((j : ℕ) → o ≡ Some j → p ≡ Some j)
+    → cond b (Some 0) (option_map suc p) ≡ Some k
+kept-step true o p k h more = h
+kept-step false None p k h more = absurd (cc h)
+kept-step false (Some j) p k h more = rw (more j refl) h
 
-  find-kept : (p : A → Bool) (xs : List A) (x y : A) → find p xs ≡ Some y → find p (xs ++ x ∷ []) ≡ Some y
-  find-kept p [] x y h = absurd (cc h)
-  find-kept p (z ∷ xs) x y h = kept-step (p z) z y (find p xs) (find p (xs ++ x ∷ [])) h (find-kept p xs x y)
+index-kept : (id : IdValue) (files : List FileLint) (f : FileLint) (k : ℕ) → index_with id files ≡ Some k → index_with id (files ++ f ∷ []) ≡ Some k
+index-kept id [] f k h = absurd (cc h)
+index-kept id (g ∷ files) f k h =
+    kept-step (has_id id g) (index_with id files) (index_with id (files ++ f ∷ [])) k h (λ j at. index-kept id files f j at)
 
-  other-step : (b : Bool) (x : A) (o p : Option A) → o ≡ p → cond b (Some x) o ≡ cond b (Some x) p
-  other-step b x o p h = ap (cond b (Some x)) h
+index-other : (id : IdValue) (files : List FileLint) (f : FileLint) → has_id id f ≡ false → index_with id (files ++ f ∷ []) ≡ index_with id files
+index-other id [] f fails = rw fails refl
+index-other id (g ∷ files) f fails = ap (λ o. cond (has_id id g) (Some 0) (option_map suc o)) (index-other id files f fails)
 
-  find-other : (p : A → Bool) (xs : List A) (x : A) → p x ≡ false → find p (xs ++ x ∷ []) ≡ find p xs
-  find-other p [] x fails = rw fails refl
-  find-other p (z ∷ xs) x fails = other-step (p z) z _ _ (find-other p xs x fails)
+last-step : (b : Bool) (o p : Option ℕ) (k : ℕ) → cond b (Some 0) (option_map suc o) ≡ None → (o ≡ None → p ≡ Some k)
+    → cond b (Some 0) (option_map suc p) ≡ Some (suc k)
+last-step true o p k h more = absurd (cc h)
+last-step false None p k h more = rw (more refl) refl
+last-step false (Some j) p k h more = absurd (cc h)
 
-  last-step : (b : Bool) (z x : A) (o p : Option A) → cond b (Some z) o ≡ None → (o ≡ None → p ≡ Some x) → cond b (Some z) p ≡ Some x
-  last-step true z x o p h more = absurd (cc h)
-  last-step false z x o p h more = more h
+index-last : (id : IdValue) (files : List FileLint) (f : FileLint) → index_with id files ≡ None → has_id id f ≡ true
+    → index_with id (files ++ f ∷ []) ≡ Some (length files)
+index-last id [] f none passes = rw passes refl
+index-last id (g ∷ files) f none passes =
+    last-step (has_id id g) (index_with id files) (index_with id (files ++ f ∷ [])) (length files) none (λ h. index-last id files f h passes)
 
-  find-last : (p : A → Bool) (xs : List A) (x : A) → find p xs ≡ None → p x ≡ true → find p (xs ++ x ∷ []) ≡ Some x
-  find-last p [] x none passes = rw passes refl
-  find-last p (z ∷ xs) x none passes = last-step (p z) z x (find p xs) (find p (xs ++ x ∷ [])) none (λ h. find-last p xs x h passes)
+-- ---- the first file with an ID, by its index
 
-no-path : (o : Option FileLint) → option_map (λ (f : FileLint). f.path) o ≡ None → o ≡ None
-no-path None h = refl
-no-path (Some f) h = absurd (cc h)
+none-step : (b : Bool) (o : Option ℕ) (g : FileLint) (r : Option FileLint) → cond b (Some 0) (option_map suc o) ≡ None → (o ≡ None → r ≡ None)
+    → cond b (Some g) r ≡ None
+none-step true o g r h more = absurd (cc h)
+none-step false None g r h more = more refl
+none-step false (Some j) g r h more = absurd (cc h)
 
-some-path : (o : Option FileLint) (path : List ℕ) → option_map (λ (f : FileLint). f.path) o ≡ Some path → (f : FileLint) × ((o ≡ Some f) × (f.path ≡ path))
-some-path None path h = absurd (cc h)
-some-path (Some f) path h = (f, (refl, cc h))
+found-none : (id : IdValue) (files : List FileLint) → index_with id files ≡ None → find (has_id id) files ≡ None
+found-none id [] h = refl
+found-none id (g ∷ files) h = none-step (has_id id g) (index_with id files) g (find (has_id id) files) h (λ none. found-none id files none)
+
+some-step : (b : Bool) (o : Option ℕ) (g : FileLint) (files : List FileLint) (r : Option FileLint) (k : ℕ) → Some k ≡ cond b (Some 0) (option_map suc o)
+    → ((j : ℕ) → Some j ≡ o → r ≡ slice_get files j) → cond b (Some g) r ≡ slice_get (g ∷ files) k
+some-step true o g files r k h more =
+    let zero_is : k ≡ 0 = cc h in
+    rw zero_is refl
+some-step false None g files r k h more = absurd (cc h)
+some-step false (Some j) g files r k h more =
+    let next : k ≡ suc j = cc h in
+    rw next (more j refl)
+
+found-some : (id : IdValue) (files : List FileLint) (k : ℕ) → Some k ≡ index_with id files → find (has_id id) files ≡ slice_get files k
+found-some id [] k h = absurd (cc h)
+found-some id (g ∷ files) k h =
+    some-step (has_id id g) (index_with id files) g files (find (has_id id) files) k h (λ j at. found-some id files j at)
 
 -- ---- the table after one more file
 
@@ -56,67 +80,95 @@ is-false true h = absurd (h refl)
 is-false false h = refl
 
 -- the file has no ID
-pub firsts-none : (firsts : BTreeMap IdValue (List ℕ)) (files : List FileLint) (f : FileLint) → f.id ≡ None → AreFirsts firsts files → AreFirsts firsts (files ++ f ∷ [])
+pub firsts-none : (firsts : BTreeMap IdValue ℕ) (files : List FileLint) (f : FileLint) → f.id ≡ None → AreFirsts firsts files → AreFirsts firsts (files ++ f ∷ [])
 firsts-none firsts files f none table q =
     let other : has_id q f ≡ false = rw none refl in
-    table q ∙ ap (option_map (λ (g : FileLint). g.path)) (sym (find-other (has_id q) files f other))
+    table q ∙ sym (index-other q files f other)
 
-known-step : (files : List FileLint) (f : FileLint) (id q : IdValue) (first : List ℕ) (b : Bool) → id_eq q id ≡ b → f.id ≡ Some id
-    → first_with (Some id) files ≡ Some first → first_with (Some q) (files ++ f ∷ []) ≡ first_with (Some q) files
+known-step : (files : List FileLint) (f : FileLint) (id q : IdValue) (first : ℕ) (b : Bool) → id_eq q id ≡ b → f.id ≡ Some id
+    → index_with id files ≡ Some first → index_with q (files ++ f ∷ []) ≡ index_with q files
 known-step files f id q first true is has known =
     let same : q ≡ id = (id_decides q id).0 is in
-    let found = some-path (find (has_id q) files) first (subst (λ (i : IdValue). first_with (Some i) files ≡ Some first) (sym same) known) in
-    ap (option_map (λ (g : FileLint). g.path)) (find-kept (has_id q) files f found.0 found.1.0 ∙ sym found.1.0)
+    let found = subst (λ (i : IdValue). index_with i files ≡ Some first) (sym same) known in
+    index-kept q files f first found ∙ sym found
 known-step files f id q first false is has known =
     let other : has_id q f ≡ false = rw has is in
-    ap (option_map (λ (g : FileLint). g.path)) (find-other (has_id q) files f other)
+    index-other q files f other
 
 -- an earlier file has its ID
-pub firsts-known : (firsts : BTreeMap IdValue (List ℕ)) (files : List FileLint) (f : FileLint) (id : IdValue) (first : List ℕ) → f.id ≡ Some id
-    → first_with (Some id) files ≡ Some first → AreFirsts firsts files → AreFirsts firsts (files ++ f ∷ [])
+pub firsts-known : (firsts : BTreeMap IdValue ℕ) (files : List FileLint) (f : FileLint) (id : IdValue) (first : ℕ) → f.id ≡ Some id
+    → index_with id files ≡ Some first → AreFirsts firsts files → AreFirsts firsts (files ++ f ∷ [])
 firsts-known firsts files f id first has known table q = table q ∙ sym (known-step files f id q first (id_eq q id) refl has known)
 
--- an earlier file has its ID, if any
-pub firsts-same : (firsts : BTreeMap IdValue (List ℕ)) (files : List FileLint) (f : FileLint) (o : Option IdValue) (first : List ℕ) → f.id ≡ o
-    → first_with o files ≡ Some first → AreFirsts firsts files → AreFirsts firsts (files ++ f ∷ [])
-firsts-same firsts files f None first has known table = absurd (cc known)
-firsts-same firsts files f (Some id) first has known table = firsts-known firsts files f id first has known table
-
-not-some : {A : Type 0} (o : Option A) → is_some o ≡ false → o ≡ None
-not-some None h = refl
-not-some (Some x) h = absurd (cc h)
-
--- an earlier file has its ID, by what was looked up
-pub firsts-some : (firsts : BTreeMap IdValue (List ℕ)) (files : List FileLint) (f : FileLint) (o : Option (List ℕ)) → is_some o ≡ true
-    → o ≡ first_with f.id files → AreFirsts firsts files → AreFirsts firsts (files ++ f ∷ [])
-firsts-some firsts files f None some is table = absurd (cc some)
-firsts-some firsts files f (Some first) some is table = firsts-same firsts files f f.id first refl (sym is) table
-
--- no earlier file has its ID, by what was looked up
-pub none-with : (files : List FileLint) (f : FileLint) (id : IdValue) (o : Option (List ℕ)) → is_some o ≡ false → o ≡ first_with f.id files → f.id ≡ Some id
-    → first_with (Some id) files ≡ None
-none-with files f id o none is has = ap (λ i. first_with i files) (sym has) ∙ (sym is ∙ not-some o none)
-
-new-step : (files : List FileLint) (f : FileLint) (id q : IdValue) (o : Option (List ℕ)) (b : Bool) → id_eq id q ≡ b → f.id ≡ Some id
-    → first_with (Some id) files ≡ None → o ≡ first_with (Some q) files → cond b (Some f.path) o ≡ first_with (Some q) (files ++ f ∷ [])
+new-step : (files : List FileLint) (f : FileLint) (id q : IdValue) (o : Option ℕ) (b : Bool) → id_eq id q ≡ b → f.id ≡ Some id
+    → index_with id files ≡ None → o ≡ index_with q files → cond b (Some (length files)) o ≡ index_with q (files ++ f ∷ [])
 new-step files f id q o true is has none at =
     let same : id ≡ q = (id_decides id q).0 is in
-    let nowhere : find (has_id q) files ≡ None = no-path _ (subst (λ (i : IdValue). first_with (Some i) files ≡ None) same none) in
+    let nowhere : index_with q files ≡ None = subst (λ (i : IdValue). index_with i files ≡ None) same none in
     let here : has_id q f ≡ true = rw has ((id_decides q id).1 (sym same)) in
-    ap (option_map (λ (g : FileLint). g.path)) (sym (find-last (has_id q) files f nowhere here))
+    sym (index-last q files f nowhere here)
 new-step files f id q o false is has none at =
     let apart : id_eq q id ≡ false = is-false (id_eq q id) (λ t. cc (sym is ∙ (id_decides id q).1 (sym ((id_decides q id).0 t)))) in
     let other : has_id q f ≡ false = rw has apart in
-    at ∙ ap (option_map (λ (g : FileLint). g.path)) (sym (find-other (has_id q) files f other))
+    at ∙ sym (index-other q files f other)
+
+-- what the table has at the ID of a file
+pub index-found : (l : BTreeMap IdValue ℕ) (files : List FileLint) (id key : IdValue) (o : Option ℕ) → key ≡ id → o ≡ tree.get id_order l key
+    → AreFirsts l files → o ≡ index_with id files
+index-found l files id key o same is table = is ∙ (ap (tree.get id_order l) same ∙ table id)
 
 -- it is the first file with its ID
-pub firsts-new : (m n : BTreeMap IdValue (List ℕ)) (files : List FileLint) (f : FileLint) (id : IdValue) (key : IdValue) (path : List ℕ) → f.id ≡ Some id
-    → key ≡ id → path ≡ f.path → first_with (Some id) files ≡ None → Updates id_order m n key (Some path) → AreFirsts m files → AreFirsts n (files ++ f ∷ [])
-firsts-new m n files f id key path has same at none updates table q =
+pub firsts-new : (m n : BTreeMap IdValue ℕ) (entries : List Entry) (f : FileLint) (id key : IdValue) (index : ℕ) → f.id ≡ Some id → key ≡ id
+    → index ≡ length entries → None ≡ tree.get id_order m key → Updates id_order m n key (Some index) → AreFirsts m (map file_of entries)
+    → AreFirsts n (map file_of entries ++ f ∷ [])
+firsts-new m n entries f id key index has same is known updates table q =
+    let files = map file_of entries in
+    let at : index ≡ length files = is ∙ sym (length-map entries file_of) in
+    let none = sym (index-found m files id key None same known table) in
     updates.0 q ∙ ((λ i. cond (sym (id_ties (same i) q) i) (Some (at i)) (tree.get id_order m q))
     ∙ new-step files f id q (tree.get id_order m q) (id_eq id q) refl has none (table q))
 
-pub no-firsts : (m : BTreeMap IdValue (List ℕ)) → m.entries ≡ [] → AreFirsts m []
+-- no earlier file has its ID
+pub path-none : (l : BTreeMap IdValue ℕ) (files : List FileLint) (f : FileLint) (id key : IdValue) → f.id ≡ Some id → key ≡ id
+    → None ≡ tree.get id_order l key → AreFirsts l files → None ≡ first_with f.id files
+path-none l files f id key has same known table =
+    let none = found-none id files (sym (index-found l files id key None same known table)) in
+    sym (ap (λ i. first_with i files) has ∙ ap (option_map (λ (g : FileLint). g.path)) none)
+
+path-of : (o : Option Entry) → option_map (λ (e : Entry). e.file.path) o ≡ option_map (λ (g : FileLint). g.path) (option_map file_of o)
+path-of None = refl
+path-of (Some e) = refl
+
+-- the path of the first file with its ID
+pub path-first : (l : BTreeMap IdValue ℕ) (entries : List Entry) (f : FileLint) (id key : IdValue) (first : ℕ) → f.id ≡ Some id → key ≡ id
+    → Some first ≡ tree.get id_order l key → AreFirsts l (map file_of entries) → path_at entries first ≡ first_with f.id (map file_of entries)
+path-first l entries f id key first has same known table =
+    let files = map file_of entries in
+    let found = found-some id files first (index-found l files id key (Some first) same known table) in
+    let path = λ (g : FileLint). g.path in
+    path-of (slice_get entries first) ∙ (ap (option_map path) (sym (slice_get-map file_of entries first) ∙ sym found) ∙ sym (ap (λ i. first_with i files) has))
+
+back-step : (m : BTreeMap IdValue ℕ) (key q : IdValue) (first index : ℕ) (b : Bool) → id_eq key q ≡ b → tree.get id_order m key ≡ Some first
+    → cond b (Some first) (cond b (Some index) (tree.get id_order m q)) ≡ tree.get id_order m q
+back-step m key q first index true is known = sym known ∙ ap (tree.get id_order m) ((id_decides key q).0 is)
+back-step m key q first index false is known = refl
+
+-- an index was put in, and the first one was put back
+put-back : (l m n : BTreeMap IdValue ℕ) (key again : IdValue) (index first : ℕ) → again ≡ key → tree.get id_order l key ≡ Some first
+    → Updates id_order l m key (Some index) → Updates id_order m n again (Some first) → (q : IdValue) → tree.get id_order n q ≡ tree.get id_order l q
+put-back l m n key again index first same known one two q =
+    let middle = one.0 q ∙ ap (λ b. cond b (Some index) (tree.get id_order l q)) (sym (id_ties key q)) in
+    two.0 q ∙ ((λ i. cond (sym (id_ties (same i) q) i) (Some first) (middle i)) ∙ back-step l key q first index (id_eq key q) refl known)
+
+-- an earlier file has its ID, and the table has the index of that one again
+pub firsts-kept : (l m n : BTreeMap IdValue ℕ) (files : List FileLint) (f : FileLint) (id key again : IdValue) (index first : ℕ) → f.id ≡ Some id
+    → key ≡ id → again ≡ id → Some first ≡ tree.get id_order l key → Updates id_order l m key (Some index) → Updates id_order m n again (Some first)
+    → AreFirsts l files → AreFirsts n (files ++ f ∷ [])
+firsts-kept l m n files f id key again index first has same same_again known one two table q =
+    let found = sym (index-found l files id key (Some first) same known table) in
+    put-back l m n key again index first (same_again ∙ sym same) (sym known) one two q ∙ firsts-known l files f id first has found table q
+
+pub no-firsts : (m : BTreeMap IdValue ℕ) → m.entries ≡ [] → AreFirsts m []
 no-firsts m e q = rw e refl
 
 -- ---- the entries after one more file
@@ -136,11 +188,11 @@ files-of before (f ∷ files) = ap (λ fs. f ∷ fs) (files-of (before ++ f ∷ 
 -- ---- a loop over paths
 
 -- the entries of the files at some paths, and the table of the first ones with each ID
-abbrev pub AreSoFar : Allowed → List (List ℕ) → List Entry → BTreeMap IdValue (List ℕ) → Type 0
+abbrev pub AreSoFar : Allowed → List (List ℕ) → List Entry → BTreeMap IdValue ℕ → Type 0
 AreSoFar allowed paths entries firsts =
     (files : List FileLint) × (Pairwise (IsLintAt allowed) paths files × ((entries ≡ entries_of files) × AreFirsts firsts files))
 
-pub none-so-far : (allowed : Allowed) (paths : List (List ℕ)) (entries : List Entry) (m : BTreeMap IdValue (List ℕ)) → entries ≡ [] → m.entries ≡ []
+pub none-so-far : (allowed : Allowed) (paths : List (List ℕ)) (entries : List Entry) (m : BTreeMap IdValue ℕ) → entries ≡ [] → m.entries ≡ []
     → AreSoFar allowed (take 0 paths) entries m
 none-so-far allowed paths entries m none empty = ([], (tt, (none, no-firsts m empty)))
 
@@ -149,11 +201,11 @@ lint-before a b path f same (of_text text read h) = of_text text ((same.reads pa
 lint-before a b path f same (unread fails is) = unread ((same.reads path None).1 fails) is
 
 -- the table is that of the entries' files
-pub table-of : (allowed : Allowed) (paths : List (List ℕ)) (entries : List Entry) (m : BTreeMap IdValue (List ℕ)) → AreSoFar allowed paths entries m
+pub table-of : (allowed : Allowed) (paths : List (List ℕ)) (entries : List Entry) (m : BTreeMap IdValue ℕ) → AreSoFar allowed paths entries m
     → AreFirsts m (map file_of entries)
 table-of allowed paths entries m (files, (each, (are, table))) = subst (AreFirsts m) (sym (ap (map file_of) are ∙ files-of [] files)) table
 
-one-more : (allowed : Allowed) (paths more : List (List ℕ)) (f : FileLint) (files : List FileLint) (old new : List Entry) (n : BTreeMap IdValue (List ℕ))
+one-more : (allowed : Allowed) (paths more : List (List ℕ)) (f : FileLint) (files : List FileLint) (old new : List Entry) (n : BTreeMap IdValue ℕ)
     → Pairwise (IsLintAt allowed) more (files ++ f ∷ []) → old ≡ entries_of files → IsAdded f old new n → AreSoFar allowed more new n
 one-more allowed paths more f files old new n each are added =
     let before : map file_of old ≡ files = ap (map file_of) are ∙ files-of [] files in (
@@ -169,14 +221,14 @@ one-more allowed paths more f files old new n each are added =
     )
 
 -- one more path, after folders were asked that allow the same
-pub linted-more : (a b : Allowed) (paths : List (List ℕ)) (i : ℕ) (item path : List ℕ) (old new : List Entry) (m n : BTreeMap IdValue (List ℕ))
+pub linted-more : (a b : Allowed) (paths : List (List ℕ)) (i : ℕ) (item path : List ℕ) (old new : List Entry) (m n : BTreeMap IdValue ℕ)
     → AllowSame a b → i < length paths → item ≡ get_or paths i item → path ≡ item → AreSoFar a (take i paths) old m
     → (f : FileLint) × (IsLintAt b path f × IsAdded f old new n) → AreSoFar a (take (i + 1) paths) new n
 linted-more a b paths i item path old new m n same low at is (files, (each, (are, table))) (f, (lint, added)) =
     let here = lint-before a b item f same (subst (λ (p : List ℕ). IsLintAt b p f) is lint) in
     one-more a (take i paths) (take (i + 1) paths) f files old new n (pairwise-step (IsLintAt a) paths files i item f low at each here) are added
 
-pub all-linted : (allowed : Allowed) (paths : List (List ℕ)) (entries : List Entry) (m : BTreeMap IdValue (List ℕ)) → AreSoFar allowed paths entries m
+pub all-linted : (allowed : Allowed) (paths : List (List ℕ)) (entries : List Entry) (m : BTreeMap IdValue ℕ) → AreSoFar allowed paths entries m
     → AreLintedAt allowed paths entries
 all-linted allowed paths entries m (files, (each, (are, table))) = record { files = files; each = each; entries_are = are }
 

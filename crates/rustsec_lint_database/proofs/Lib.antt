@@ -1,4 +1,6 @@
+pub mod Apart
 pub mod Firsts
+pub mod LastSegments
 pub mod CountLaws
 pub mod Once
 pub mod Placed

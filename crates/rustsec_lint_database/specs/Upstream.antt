@@ -1,12 +1,20 @@
 -- What the Rust crate refuses of an advisory.
-use Rattle.std.specs.Prelude.{ℕ, ◌++◌, List, [], Option, None, Some, codes, is_some}
+use Rattle.std.specs.Prelude.{◌≡◌, ℕ, ◌++◌, List, [], Option, None, Some, codes, false, is_some}
+use Rattle.semver.specs.Parse.{Held}
 use Rattle.rustsec_versions.specs.acceptance.Lists.{Lists, accepted_apart}
+use Rattle.rustsec_versions.specs.interval.Interval.{Interval, overlap}
+use Rattle.rustsec_versions.specs.order.Precedence.{version_order}
+use Rattle.rustsec_versions.specs.requirement.Requirement.{interval_of}
 use Rattle.rustsec_lock.specs.Source.{Source, url_of}
 use Rattle.rustsec_advisory.specs.Addresses.{address_of}
 use Rattle.rustsec_advisory.specs.declared.advisory.Advisory.{Advisory}
 use Rattle.rustsec_lint_database.specs.Remarks.{unless}
 use Rattle.rustsec_lint_database.specs.declared.remark.Remark.{Remark}
 use Rattle.rustsec_lint_database.specs.declared.remark.RemarkKind.TheVariants as kind
+
+-- the intervals of two requirements do not overlap
+abbrev pub AreApart : List Held → List Held → Type 0
+AreApart p q = (i j : Interval) → interval_of p ≡ Some i → interval_of q ≡ Some j → overlap version_order i j ≡ false
 
 -- patched requirements that overlap
 abbrev pub overlap_remarks : Lists → List Remark

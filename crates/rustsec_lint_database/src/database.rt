@@ -6,7 +6,7 @@ ghost use Rattle.rustsec_folders.specs.Listed.{Paths};
 ghost use Rattle.rustsec_error.specs.Failure.{IsRefusal};
 ghost use Rattle.rustsec_lint_database.specs.Entries.{AreEntries, AreLintedAt, first_with};
 ghost use Rattle.rustsec_lint_database.specs.Files.{IsLintAt};
-ghost use Rattle.rustsec_lint_database.specs.Firsts.{AreFirsts, IsAdded, file_of};
+ghost use Rattle.rustsec_lint_database.specs.Firsts.{AreFirsts, IsAdded, file_of, path_at};
 ghost use Rattle.rustsec_lint_database.specs.declared.file.FileLint.{FileLint};
 
 use crate::file::{FileLint, FileNotes, lint_file};
@@ -46,52 +46,44 @@ pub trait Watcher {
     fn linted(&mut self, step: Step<'_>);
 }
 
-/// The files that are linted, and for each ID the path of the first file that has it.
+/// The files that are linted, and for each ID the index of the first file that has it.
 #[derive(Drop)]
 struct Linting {
     entries: Items<Entry>,
-    firsts: BTreeMap<Id, Text>,
+    firsts: BTreeMap<Id, usize>,
+}
+
+/// Returns the path of the file of the entry at an index, if any.
+fn path_at(entries: &[Entry], index: usize) -> std::result::Result<Option<Text>, AllocError>
+    ensures { IfOk result (λ o. o ≡ path_at entries.now index) }
+{
+    match entries.get(index) {
+        Some(entry) => Ok(Some(Clone::clone(&entry.file.path)?)),
+        None => Ok(None),
+    }
 }
 
 impl Linting {
-    /// Returns the path of the first file that has an ID, if any.
-    fn first_with(&self, id: &Option<Id>) -> std::result::Result<Option<Text>, AllocError>
-        requires { AreFirsts self.now.firsts (map file_of self.now.entries) }
-        ensures { IfOk result (λ o. o ≡ first_with id.now (map file_of self.now.entries)) }
-    {
-        let Some(id) = id else {
-            return Ok(None);
-        };
-        match self.firsts.get(id) {
-            Some(path) => {
-                let path = Clone::clone(path)?;
-                Ok(Some(path))
-            }
-            None => Ok(None),
-        }
-    }
-
-    /// Keeps the path of a file, if it is the first one that has its ID.
-    fn keep_first(
-        &mut self,
-        file: &FileLint,
-        first: &Option<Text>,
-    ) -> std::result::Result<(), AllocError>
-        requires firsts { AreFirsts self.old.firsts (map file_of self.old.entries) }
-        requires first { first.now ≡ first_with file.now.id (map file_of self.old.entries) }
+    /// Returns the path of the first file that has the ID of a file, if any. If there is none, keeps
+    /// the index that the file gets.
+    fn first_with(&mut self, file: &FileLint) -> std::result::Result<Option<Text>, AllocError>
+        requires { AreFirsts self.old.firsts (map file_of self.old.entries) }
+        ensures first { IfOk result (λ o. o ≡ first_with file.now.id (map file_of self.old.entries)) }
         ensures entries { OnOk result (self.new.entries ≡ self.old.entries) }
         ensures firsts { OnOk result (AreFirsts self.new.firsts (map file_of self.old.entries ++ file.now ∷ [])) }
     {
-        if first.is_some() {
-            return Ok(());
-        }
         let Some(id) = &file.id else {
-            return Ok(());
+            return Ok(None);
         };
-        let id = Clone::clone(id)?;
-        let path = Clone::clone(&file.path)?;
-        self.firsts.insert(id, path)?;
-        Ok(())
+        let key = Clone::clone(id)?;
+        let index = self.entries.len();
+        let Some(first) = self.firsts.insert(key, index)? else {
+            return Ok(None);
+        };
+        // Few IDs occur twice. The table gets its index back.
+        let key = Clone::clone(id)?;
+        self.firsts.insert(key, first)?;
+        path_at(self.entries.as_slice(), first)
     }
 
     /// Appends a file, with the path of the first file that has its ID.
@@ -99,8 +91,7 @@ impl Linting {
         requires { AreFirsts self.old.firsts (map file_of self.old.entries) }
         ensures { OnOk result (IsAdded file self.old.entries self.new.entries self.new.firsts) }
     {
-        let first = self.first_with(&file.id)?;
-        self.keep_first(&file, &first)?;
+        let first = self.first_with(&file)?;
         self.entries.push(Entry { file, first })
     }
 

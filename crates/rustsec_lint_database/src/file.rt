@@ -11,6 +11,7 @@ ghost use Rattle.rustsec_lint_database.specs.Placement.{HasNone};
 ghost use Rattle.rustsec_lint_database.specs.Files.{IsLintAt, IsLintOf, file_with, lint_remark, of_advisory, of_refusal, own_id, remarks_with};
 
 use crate::edition::push_edition;
+use crate::file_path::FilePath;
 use crate::placement::push_placement;
 use crate::remark::{Remark, RemarkKind, push_remark};
 use crate::upstream::push_upstream;
@@ -19,7 +20,6 @@ use rustsec_advisory::Advisory;
 use rustsec_advisory::linter::{self, Linter};
 use rustsec_edition::{FoundForm, first_form};
 use rustsec_error::{Error, ErrorKind};
-use rustsec_files::path;
 use rustsec_folders::Folders;
 use rustsec_texts::{Id, Parts};
 use rustsec_values::{Items, Text};
@@ -54,16 +54,16 @@ fn push_lints(
 /// Returns the remarks on the file of an advisory with this first form of TOML 1.1.
 fn remarks_of(
     alloc: Global,
-    path: &str,
+    file: &FilePath<'_>,
     linter: &Linter,
     found: Option<FoundForm>,
 ) -> Result<Items<Remark>, AllocError>
-    ensures { IfOk result (λ rs. rs ≡ remarks_with path.now linter.now.advisory linter.now.errors (option_map (λ f. f.form) found)) }
+    ensures { IfOk result (λ rs. rs ≡ remarks_with file.now.path.now linter.now.advisory linter.now.errors (option_map (λ f. f.form) found)) }
 {
     let mut remarks = Items::new(alloc);
     let advisory = linter.advisory();
     push_lints(alloc, &mut remarks, linter.errors())?;
-    push_placement(alloc, &mut remarks, path, advisory)?;
+    push_placement(alloc, &mut remarks, file, advisory)?;
     push_upstream(alloc, &mut remarks, advisory)?;
     push_edition(alloc, &mut remarks, found)?;
     Ok(remarks)
@@ -84,15 +84,15 @@ fn own_id(advisory: &Advisory) -> Result<Option<Id>, AllocError>
 /// Returns the file of an advisory with this first form of TOML 1.1, with its remarks.
 fn of_advisory(
     alloc: Global,
-    path: &str,
+    file: &FilePath<'_>,
     linter: &Linter,
     found: Option<FoundForm>,
 ) -> Result<FileLint, AllocError>
-    ensures { IfOk result (λ f. f ≡ file_with path.now linter.now.advisory linter.now.errors (option_map (λ f. f.form) found)) }
+    ensures { IfOk result (λ f. f ≡ file_with file.now.path.now linter.now.advisory linter.now.errors (option_map (λ f. f.form) found)) }
 {
-    let remarks = remarks_of(alloc, path, linter, found)?;
+    let remarks = remarks_of(alloc, file, linter, found)?;
     let id = own_id(linter.advisory())?;
-    let path = Text::from_str(alloc, path)?;
+    let path = Text::from_str(alloc, file.path)?;
     Ok(FileLint { path, id, remarks })
 }
 
@@ -155,17 +155,17 @@ fn refused(alloc: Global, path: &str, error: Error) -> Result<Linted, AllocError
 /// Returns the remarks on the file of an advisory with this text and this first form of TOML 1.1, and the notes on it.
 fn accepted(
     alloc: Global,
-    path: &str,
+    file: &FilePath<'_>,
     text: &str,
     linter: &Linter,
     found: Option<FoundForm>,
 ) -> Result<Linted, AllocError>
     requires { option_map (λ f. f.form) found ≡ form_of (parts_of text.now) }
-    ensures { IfOk result (λ r. r.lint ≡ of_advisory path.now text.now linter.now.advisory linter.now.errors) }
+    ensures { IfOk result (λ r. r.lint ≡ of_advisory file.now.path.now text.now linter.now.advisory linter.now.errors) }
 {
-    let lint = of_advisory(alloc, path, linter, found)?;
+    let lint = of_advisory(alloc, file, linter, found)?;
     let source = Source {
-        path,
+        file,
         text,
         linter,
         found,
@@ -186,8 +186,9 @@ fn without_parts(alloc: Global, path: &str, text: &str) -> Result<Linted, AllocE
     requires { parts_of text.now ≡ None }
     ensures { IfOk result (λ r. IsLintOf path.now text.now r.lint) }
 {
-    match Linter::lint_string(alloc, text, Some(path::is_draft(path))) {
-        Ok(linter) => accepted(alloc, path, text, &linter, None),
+    let file = FilePath::of(path);
+    match Linter::lint_string(alloc, text, Some(file.is_draft())) {
+        Ok(linter) => accepted(alloc, &file, text, &linter, None),
         Err(error) => refused(alloc, path, error),
     }
 }
@@ -203,8 +204,9 @@ fn with_parts(alloc: Global, path: &str, text: &str, parts: Parts<'_>) -> Result
     ensures { IfOk result (λ r. IsLintOf path.now text.now r.lint) }
 {
     let found = first_form(alloc, parts.front_matter)?;
-    match Linter::lint_parts(alloc, text, parts, Some(path::is_draft(path))) {
-        Ok(linter) => accepted(alloc, path, text, &linter, found),
+    let file = FilePath::of(path);
+    match Linter::lint_parts(alloc, text, parts, Some(file.is_draft())) {
+        Ok(linter) => accepted(alloc, &file, text, &linter, found),
         Err(error) => refused(alloc, path, error),
     }
 }

@@ -5,6 +5,7 @@ mod counts;
 mod database;
 mod edition;
 mod file;
+mod file_path;
 mod lines;
 mod placement;
 mod readings;

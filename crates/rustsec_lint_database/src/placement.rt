@@ -1,24 +1,15 @@
 //! Whether the file of an advisory is where the advisory belongs.
 
-ghost use Rattle.std.specs.Prelude.{◌≡◌, ◌++◌, ◌&&◌, IfOk, OnOk, string_bytes};
-ghost use Rattle.rustsec_files.specs.Paths.{is_markdown};
-ghost use Rattle.rustsec_database.specs.Filing.{collection_at, is_named};
+ghost use Rattle.std.specs.Prelude.{◌≡◌, ◌++◌, IfOk, OnOk, string_bytes};
 ghost use Rattle.rustsec_lint_database.specs.Placement.{collection_remarks, folder_remarks, name_remarks, placement_remarks};
 
+use crate::file_path::FilePath;
 use crate::remark::{Remark, RemarkKind, push_remark};
 use rustsec_advisory::Advisory;
 use rustsec_database::filing;
-use rustsec_files::path;
 use rustsec_texts::Collection;
 use rustsec_values::Items;
 use std::alloc::{AllocError, Global};
-
-/// Returns whether a file is named after an ID, or is a draft's.
-fn is_named_after(path: &str, id: &str) -> bool
-    ensures { result ≡ (is_markdown path.now && is_named path.now id.now) }
-{
-    path::is_markdown(path) && filing::is_named(path, id)
-}
 
 /// Returns a name between two texts.
 pub(crate) fn between(
@@ -39,13 +30,13 @@ pub(crate) fn between(
 pub(crate) fn push_name(
     alloc: Global,
     remarks: &mut Items<Remark>,
-    path: &str,
+    file: &FilePath<'_>,
     advisory: &Advisory,
 ) -> Result<(), AllocError>
-    ensures { OnOk result (remarks.new ≡ remarks.old ++ name_remarks path.now advisory.now) }
+    ensures { OnOk result (remarks.new ≡ remarks.old ++ name_remarks file.now.path.now advisory.now) }
 {
     let id = advisory.metadata.id.as_str();
-    if is_named_after(path, id) {
+    if file.is_named_after(id) {
         return Ok(());
     }
     let text = between(alloc, "another file name, expected `", id, ".md`")?;
@@ -56,13 +47,13 @@ pub(crate) fn push_name(
 pub(crate) fn push_folder(
     alloc: Global,
     remarks: &mut Items<Remark>,
-    path: &str,
+    file: &FilePath<'_>,
     advisory: &Advisory,
 ) -> Result<(), AllocError>
-    ensures { OnOk result (remarks.new ≡ remarks.old ++ folder_remarks path.now advisory.now) }
+    ensures { OnOk result (remarks.new ≡ remarks.old ++ folder_remarks file.now.path.now advisory.now) }
 {
     let package = advisory.metadata.package.as_str();
-    if filing::is_in_folder(path, package) {
+    if file.is_in_folder(package) {
         return Ok(());
     }
     let text = between(
@@ -108,17 +99,13 @@ pub(crate) fn push_collection(
 pub(crate) fn push_placement(
     alloc: Global,
     remarks: &mut Items<Remark>,
-    path: &str,
+    file: &FilePath<'_>,
     advisory: &Advisory,
 ) -> Result<(), AllocError>
-    ensures { OnOk result (remarks.new ≡ remarks.old ++ placement_remarks path.now advisory.now) }
+    ensures { OnOk result (remarks.new ≡ remarks.old ++ placement_remarks file.now.path.now advisory.now) }
 {
-    push_name(alloc, remarks, path, advisory)?;
-    push_folder(alloc, remarks, path, advisory)?;
-    push_collection(
-        alloc,
-        remarks,
-        advisory.metadata.collection,
-        filing::collection_at(path),
-    )
+    push_name(alloc, remarks, file, advisory)?;
+    push_folder(alloc, remarks, file, advisory)?;
+    let named = advisory.metadata.collection;
+    push_collection(alloc, remarks, named, file.collection())
 }

@@ -1,8 +1,10 @@
 //! What the Rust crate refuses of an advisory.
 
-ghost use Rattle.std.specs.Prelude.{◌≡◌, ◌++◌, IfOk, OnOk, is_some};
+ghost use Rattle.std.specs.Prelude.{◌≡◌, ◌++◌, IfOk, OnOk, is_some, true};
 ghost use Rattle.rustsec_advisory.specs.Addresses.{address_of};
-ghost use Rattle.rustsec_lint_database.specs.Upstream.{overlap_remarks, source_remarks, upstream_remarks};
+ghost use Rattle.rustsec_versions.specs.Views.{comparators_of};
+ghost use Rattle.rustsec_versions.specs.acceptance.Lists.{accepted_apart};
+ghost use Rattle.rustsec_lint_database.specs.Upstream.{AreApart, overlap_remarks, source_remarks, upstream_remarks};
 
 use crate::lines::{KeyIn, push_remarks};
 use crate::remark::{Remark, RemarkKind, push_remark};
@@ -10,8 +12,35 @@ use rustsec_advisory::{Address, Advisory};
 use rustsec_error::ErrorKind;
 use rustsec_lock::SourceId;
 use rustsec_values::{Items, Text};
-use rustsec_versions::Versions;
+use rustsec_versions::{UnaffectedRange, Versions};
+use semver::{Version, VersionReq};
 use std::alloc::{AllocError, Global};
+
+/// Returns whether two requirements have intervals that do not overlap.
+fn are_two_apart(alloc: Global, first: &VersionReq, second: &VersionReq) -> bool
+    ensures { result ≡ true → AreApart (comparators_of first.now) (comparators_of second.now) }
+{
+    let Ok(one) = UnaffectedRange::from_req(alloc, first) else {
+        return false;
+    };
+    let Ok(other) = UnaffectedRange::from_req(alloc, second) else {
+        return false;
+    };
+    !one.overlaps(&other)
+}
+
+/// Returns whether an advisory has two patched requirements, and they do not overlap. Most advisories with more than one have
+/// two, so few need a look at all intervals.
+fn has_two_apart(alloc: Global, versions: &Versions) -> bool
+    ensures { result ≡ true → accepted_apart versions.now ≡ true }
+{
+    let [first, second] = versions.patched() else {
+        return false;
+    };
+    // Any verdict says that the lists are accepted, so that no other requirements overlap.
+    let _ = versions.is_vulnerable(&Version::new(0, 0, 0));
+    are_two_apart(alloc, first, second)
+}
 
 /// Appends the remark on patched requirements that overlap.
 fn push_overlap(
@@ -21,6 +50,9 @@ fn push_overlap(
 ) -> Result<(), AllocError>
     ensures { OnOk result (remarks.new ≡ remarks.old ++ overlap_remarks versions.now) }
 {
+    if has_two_apart(alloc, versions) {
+        return Ok(());
+    }
     if versions.are_apart(alloc)? {
         return Ok(());
     }

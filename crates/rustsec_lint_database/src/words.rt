@@ -1,6 +1,7 @@
 //! Words on an advisory for a person: where the remarks on it are, and what others read differently.
 
 use crate::edition::form_note;
+use crate::file_path::FilePath;
 use crate::lines::{KeyIn, after_line, push_remarks};
 use crate::placement::{push_collection, push_folder, push_name};
 use crate::readings::reading_notes;
@@ -8,7 +9,6 @@ use crate::remark::{Remark, RemarkKind};
 use crate::upstream::upstream_notes;
 use rustsec_advisory::linter::{self, Linter};
 use rustsec_advisory::{lint_error_line, placed_errors};
-use rustsec_database::filing;
 use rustsec_edition::FoundForm;
 use rustsec_values::{Items, Text};
 use std::alloc::{AllocError, Global};
@@ -17,7 +17,7 @@ use std::alloc::{AllocError, Global};
 #[derive(Clone, Copy)]
 pub(crate) struct Source<'a> {
     /// The path.
-    pub path: &'a str,
+    pub file: &'a FilePath<'a>,
     /// The text.
     pub text: &'a str,
     /// What the linter read.
@@ -70,17 +70,17 @@ fn push_place(
     words: &mut Items<Text>,
     source: Source<'_>,
 ) -> Result<(), AllocError> {
-    let (path, text, advisory) = (source.path, source.text, source.linter.advisory());
+    let (file, text, advisory) = (source.file, source.text, source.linter.advisory());
     let mut name = Items::new(alloc);
-    push_name(alloc, &mut name, path, advisory)?;
+    push_name(alloc, &mut name, file, advisory)?;
     push_remarks(alloc, words, KeyIn::advisory(text, "id"), name.as_slice())?;
     let mut folder = Items::new(alloc);
-    push_folder(alloc, &mut folder, path, advisory)?;
+    push_folder(alloc, &mut folder, file, advisory)?;
     let package = KeyIn::advisory(text, "package");
     push_remarks(alloc, words, package, folder.as_slice())?;
     let mut collection = Items::new(alloc);
-    let (named, at) = (advisory.metadata.collection, filing::collection_at(path));
-    push_collection(alloc, &mut collection, named, at)?;
+    let named = advisory.metadata.collection;
+    push_collection(alloc, &mut collection, named, file.collection())?;
     let key = KeyIn::advisory(text, "collection");
     push_remarks(alloc, words, key, collection.as_slice())
 }

@@ -1,6 +1,7 @@
-use Rattle.std.proofs.Common.{Some, subst}
+use Rattle.std.proofs.Common.{◌≡◌, ◌∙◌, Some, ap, subst}
 use Rattle.std.specs.Prelude.{Bool}
 use Rattle.std.proofs.lemmas.Result.{IfOk-weaker}
+use Rattle.rustsec_files.specs.Paths.{is_draft}
 use Rattle.rustsec_advisory.specs.Lints.{Lints}
 use Rattle.rustsec_lint_database.specs.Files.{linted}
 use Rattle.rustsec_lint_database.proofs.file.with_parts.Goals as goal
@@ -10,7 +11,8 @@ accepted-requires c = rw c.requires c.in_ok-found.ensures
 
 pub returns-in-Ok : goal.returns-in-Ok
 returns-in-Ok c =
+    let same : c.of-file.result.path.now ≡ c.args.path.now = c.of-file.ensures in
     let advisory = c.in-Ok.linter.advisory in
     let errors = c.in-Ok.linter.errors in
-    let lints = subst (λ (d : Bool). Lints c.args.text.now (Some d) advisory errors) c.is_draft.ensures c.in-Ok.ensures.ok in
-    IfOk-weaker c.accepted.result _ _ (λ r h. linted advisory errors lints h) c.accepted.ensures
+    let lints = subst (λ (d : Bool). Lints c.args.text.now (Some d) advisory errors) (c.is_draft.ensures ∙ ap is_draft same) c.in-Ok.ensures.ok in
+    IfOk-weaker c.accepted.result _ _ (λ r h. linted advisory errors lints (rw same at h)) c.accepted.ensures
