@@ -4,3 +4,4 @@ pub mod Once
 pub mod OsvWords
 pub mod StatsPlain
 pub mod Counted
+pub mod Written

@@ -1,10 +1,11 @@
 -- What each command writes.
 use Rattle.std.specs.Prelude.{◌≡◌, ◌≢◌, ℕ, Bool, false, true, List, Option, Some, None, map}
-use Rattle.std.specs.Io.KnownBytes.{Appends}
+use Rattle.std.specs.Io.KnownBytes.{Appends, Keeps}
 use Rattle.rustsec_folders.specs.Allowed.{Allowed}
 use Rattle.rustsec_commands.specs.Output.{Output, usage}
 use Rattle.rustsec_program.specs.Commands as audits
 use Rattle.rustsec_program.specs.Words as audit_words
+use Rattle.rustsec_program.specs.Writing as audit_writing
 use Rattle.rustsec_database_commands.specs.Lint.{IsLintOutput}
 use Rattle.rustsec_database_commands.specs.Osv.{IsDatabaseOutput, IsQueryOutput}
 use Rattle.rustsec_database_commands.specs.Stats.{IsStatsOutput}
@@ -54,3 +55,8 @@ pub record Carries (allowed : Allowed) (words : List (List ℕ)) (input : Option
 abbrev pub HaveOneOutput : Allowed → List (List ℕ) → Option (List ℕ) → Type 0
 HaveOneOutput allowed words input = (words_read_input words ≡ true → input ≢ None)
     → (one other : Output) → IsOutputOf allowed words (command_of words) input one → IsOutputOf allowed words (command_of words) input other → one ≡ other
+
+-- what is written where a command breaks off: nothing by those of this crate
+abbrev pub IsBrokenOff : Allowed → List (List ℕ) → Option Command → Option (List ℕ) → Option (List ℕ) → Option (List ℕ) → Type 0
+IsBrokenOff allowed words (Some c) input old new = Keeps old new
+IsBrokenOff allowed words None input old new = audit_writing.IsBrokenOff allowed (audit_words.command_of words) input old new

@@ -4,7 +4,8 @@ ghost use Rattle.rustsec_commands.specs.declared.fault.Fault.TheVariants as faul
 ghost use Rattle.std.specs.Prelude.{◌≡◌, ◌≢◌, IfErr, IfOk, false, map};
 ghost use Rattle.std.specs.Io.KnownBytes.{Keeps};
 ghost use Rattle.rustsec_folders.specs.Allowed.{AllowSame, AnswersOnce, real_folders};
-ghost use Rattle.rustsec_database_commands.specs.Commands.{Carries, HaveOneOutput, IsOwnOutput, command_view, words_read_input};
+ghost use Rattle.rustsec_database_commands.specs.Commands.{Carries, HaveOneOutput, IsBrokenOff, IsOwnOutput, command_view, words_read_input};
+ghost use Rattle.rustsec_database_commands.specs.Words.{command_of};
 
 use crate::lint::lint;
 use crate::misuse;
@@ -14,8 +15,8 @@ use crate::stats::stats;
 use crate::words::{Command, command_of};
 use rustsec_commands::{Fault, unlisted_note};
 use rustsec_folders::{Folders, RealFolders};
+use rustsec_program::finish;
 use rustsec_program::output::{self, Output};
-use rustsec_program::{finish, write_fault};
 use std::alloc::{AllocError, Global};
 use std::io::{Read, Write};
 use std::rt::Files;
@@ -103,7 +104,8 @@ fn noted_output_of<F: Folders, N: Write>(
 ///
 /// # Errors
 ///
-/// `Memory` or `Read`, with nothing written; or `Write`, after which it is unspecified how much was written.
+/// `Memory` or `Read`, with nothing written, except that `check-many` has written the lines of the first lockfiles before
+/// `Memory`; or `Write`, after which it is unspecified how much was written.
 #[tactic(auto, using(crate::proofs::Once::one_output))]
 pub fn run_over<F: Folders, R: Read, W: Write, N: Write>(
     folders: &mut F,
@@ -119,19 +121,19 @@ pub fn run_over<F: Folders, R: Read, W: Write, N: Write>(
     // If each path has one answer, there is one output.
     ensures once { AnswersOnce (F.allowed folders.old) → HaveOneOutput (F.allowed folders.old) (map (λ w. w.now) words.now) (R.remaining input.old) }
     ensures unread { words_read_input (map (λ w. w.now) words.now) ≡ false → R.remaining input.new ≡ R.remaining input.old }
-    ensures kept { IfErr result (λ e. e ≢ fault.Write → Keeps (W.contents output.old) (W.contents output.new)) }
+
+    // A command that breaks off has written nothing, except `check-many`.
+    ensures kept { IfErr result (λ e. e ≢ fault.Write → IsBrokenOff (F.allowed folders.old) (map (λ w. w.now) words.now) (command_of (map (λ w. w.now) words.now))
+        (R.remaining input.old) (W.contents output.old) (W.contents output.new)) }
+    ensures unread_kept { IfErr result (λ e. e ≡ fault.Read → Keeps (W.contents output.old) (W.contents output.new)) }
     ensures same { AllowSame (F.allowed folders.old) (F.allowed folders.new) }
 {
-    let Some(command) = command_of(words) else {
-        return rustsec_program::run_over(folders, alloc, words, input, output, notes);
+    let command = match command_of(words) {
+        Some(command) => command,
+        None => return rustsec_program::run_over(folders, alloc, words, input, output, notes),
     };
-    match noted_output_of(alloc, folders, command, notes) {
-        Ok(made) => finish(&made, output, notes),
-        Err(_) => {
-            write_fault(Fault::Memory, notes);
-            Err(Fault::Memory)
-        }
-    }
+    let made = noted_output_of(alloc, folders, command, notes);
+    finish(made, output, notes)
 }
 
 /// Carries out the command that the words name as `run_over` does, over the folders of the disk.
@@ -149,7 +151,9 @@ pub fn run_with_notes<T: Files + AllocGlobal, R: Read, W: Write, N: Write>(
     ensures carries { IfOk result (λ s. Carries real_folders (map (λ w. w.now) words.now) (R.remaining input.old) s
         (W.contents output.old) (W.contents output.new)) }
     ensures unread { words_read_input (map (λ w. w.now) words.now) ≡ false → R.remaining input.new ≡ R.remaining input.old }
-    ensures kept { IfErr result (λ e. e ≢ fault.Write → Keeps (W.contents output.old) (W.contents output.new)) }
+    ensures kept { IfErr result (λ e. e ≢ fault.Write → IsBrokenOff real_folders (map (λ w. w.now) words.now) (command_of (map (λ w. w.now) words.now))
+        (R.remaining input.old) (W.contents output.old) (W.contents output.new)) }
+    ensures unread_kept { IfErr result (λ e. e ≡ fault.Read → Keeps (W.contents output.old) (W.contents output.new)) }
 {
     let mut folders = RealFolders::new(rt);
     run_over(&mut folders, rt.alloc(), words, input, output, notes)

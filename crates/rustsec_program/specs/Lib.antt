@@ -11,3 +11,4 @@ pub mod Check
 pub mod Explain
 pub mod Words
 pub mod Commands
+pub mod Writing

@@ -1,22 +1,23 @@
 //! Carries out the command that the words name.
 
 ghost use Rattle.rustsec_commands.specs.declared.fault.Fault.TheVariants as fault;
-ghost use Rattle.std.specs.Prelude.{◌≡◌, ◌≢◌, IfErr, IfOk, IfSome, OnOk, false, map};
+ghost use Rattle.std.specs.Prelude.{◌≡◌, ◌≢◌, IfErr, IfOk, IfSome, IsOkAnd, None, false, map};
 ghost use Rattle.std.specs.Io.KnownBytes.{Appends, Keeps};
 ghost use Rattle.rustsec_folders.specs.Allowed.{AllowSame, AnswersOnce, real_folders};
 ghost use Rattle.rustsec_program.specs.Commands.{Carries, HaveOneOutput, IsOwnOutput, command_view, reads_input, words_read_input};
-ghost use Rattle.rustsec_program.specs.Check.{IsManyOutput};
+ghost use Rattle.rustsec_program.specs.Words.{command_of};
+ghost use Rattle.rustsec_program.specs.Writing.{IsBrokenOff};
 
 use crate::check::check;
 use crate::explain::explain;
-use crate::many::{Words, check_many};
+use crate::many::{Asked, check_many};
 use crate::misuse;
-use crate::output::{self, Output};
+use crate::output::{Output, usage};
 use crate::words::{Command, command_of};
 use rustsec_commands::Fault;
 use rustsec_files::reading::bytes_of;
 use rustsec_folders::{Folders, RealFolders};
-use std::alloc::Global;
+use std::alloc::{AllocError, Global};
 use std::io::{self, ErrorKind, Read, Write};
 use std::rt::Files;
 
@@ -43,7 +44,7 @@ fn read_all<R: Read>(alloc: Global, input: &mut R) -> Result<Vec<u8>, Fault>
 }
 
 /// Writes a note that says what failed. A note that cannot be written is lost.
-pub fn write_fault<N: Write>(fault: Fault, notes: &mut N) {
+fn write_fault<N: Write>(fault: Fault, notes: &mut N) {
     let note = match fault {
         Fault::Memory => "rustsec_audit: out of memory\n",
         Fault::Read => "rustsec_audit: the input cannot be read\n",
@@ -52,67 +53,51 @@ pub fn write_fault<N: Write>(fault: Fault, notes: &mut N) {
     let _ = notes.write_all(note.as_bytes());
 }
 
-/// Makes the output of `check-many` for all that a reader has left.
-fn many_of<F: Folders, R: Read, N: Write>(
-    alloc: Global,
-    folders: &mut F,
-    words: Words<'_>,
-    input: &mut R,
-    notes: &mut N,
-) -> Result<Output, Fault>
-    ensures ok { IfOk result (λ o. IfSome (R.remaining input.old)
-        (λ bytes. IsManyOutput (F.allowed folders.old) words.entry.root.now (map (λ w. w.now) words.entry.options.now) bytes o)) }
-    ensures err { IfErr result (λ e. e ≢ fault.Write) }
-    ensures same { AllowSame (F.allowed folders.old) (F.allowed folders.new) }
-{
-    let bytes = read_all(alloc, input)?;
-    Ok(check_many(alloc, folders, words, &bytes, notes)?)
-}
-
-/// Makes the output of a command of this crate.
-fn output_of<F: Folders, R: Read, N: Write>(
+/// Makes the output of a command that does not read the input.
+fn output_of<F: Folders>(
     alloc: Global,
     folders: &mut F,
     command: Command<'_>,
-    input: &mut R,
-    notes: &mut N,
-) -> Result<Output, Fault>
-    ensures ok { IfOk result (IsOwnOutput (F.allowed folders.old) (command_view command.entry) (R.remaining input.old)) }
-    ensures unread { reads_input (command_view command.entry) ≡ false → R.remaining input.new ≡ R.remaining input.old }
-    ensures err { IfErr result (λ e. e ≢ fault.Write) }
+) -> Result<Output, AllocError>
+    requires { reads_input (command_view command) ≡ false }
+    ensures ok { IfOk result (IsOwnOutput (F.allowed folders.old) (command_view command.entry) None) }
     ensures same { AllowSame (F.allowed folders.old) (F.allowed folders.new) }
 {
     match command {
-        Command::Check(paths, options) => Ok(check(alloc, folders, paths, options)?),
-        Command::CheckMany(root, options) => {
-            many_of(alloc, folders, Words { root, options }, input, notes)
-        }
-        Command::Explain(paths, text, options) => {
-            Ok(explain(alloc, folders, paths, text, options)?)
-        }
-        Command::Short => Ok(output::usage(alloc, misuse::of_short(alloc).ok())?),
+        Command::Check(paths, options) => check(alloc, folders, paths, options),
+        Command::CheckMany(_, _) => unreachable!(),
+        Command::Explain(paths, text, options) => explain(alloc, folders, paths, text, options),
+        Command::Short => usage(alloc, misuse::of_short(alloc).ok()),
     }
 }
 
-/// Writes the text of an output, then its note, and returns its status.
+/// Writes a note if the result of a command is a fault, and returns the result as it is.
+fn noted<N: Write>(done: Result<u8, Fault>, notes: &mut N) -> Result<u8, Fault>
+    ensures { result ≡ done }
+{
+    if let Err(fault) = done {
+        write_fault(fault, notes);
+    }
+    done
+}
+
+/// Writes an output that was made, then its note, and returns its status. A note says so if memory for it was refused, or
+/// if it cannot be written.
 ///
 /// # Errors
 ///
-/// `Write`, after which it is unspecified how much was written. A note then says so.
-pub fn finish<W: Write, N: Write>(made: &Output, output: &mut W, notes: &mut N) -> Result<u8, Fault>
-    ensures status { IfOk result (λ s. s ≡ made.now.status) }
-    ensures text { OnOk result (Appends (W.contents output.old) (W.contents output.new) made.now.text) }
-    ensures err { IfErr result (λ e. e ≡ fault.Write) }
+/// `Memory`, with nothing written; or `Write`, after which it is unspecified how much was written.
+pub fn finish<W: Write, N: Write>(
+    made: Result<Output, AllocError>,
+    output: &mut W,
+    notes: &mut N,
+) -> Result<u8, Fault>
+    ensures ok { IfOk result (λ s. IsOkAnd made (λ o. (s ≡ o.status) × Appends (W.contents output.old) (W.contents output.new) o.text)) }
+    ensures err { IfErr result (λ e. e ≢ fault.Write → Keeps (W.contents output.old) (W.contents output.new)) }
 {
-    match made.write(output) {
-        Ok(()) => {
-            made.write_note(notes);
-            Ok(made.status())
-        }
-        Err(fault) => {
-            write_fault(fault, notes);
-            Err(fault)
-        }
+    match made {
+        Ok(made) => noted(made.write_with_note(output, notes), notes),
+        Err(_) => noted(Err(Fault::Memory), notes),
     }
 }
 
@@ -138,7 +123,8 @@ pub fn finish<W: Write, N: Write>(made: &Output, output: &mut W, notes: &mut N) 
 ///
 /// # Errors
 ///
-/// `Memory` or `Read`, with nothing written; or `Write`, after which it is unspecified how much was written.
+/// `Memory` or `Read`, with nothing written, except that `check-many` has written the lines of the first lockfiles before
+/// `Memory`; or `Write`, after which it is unspecified how much was written.
 #[tactic(auto, using(crate::proofs::Once::one_output))]
 pub fn run_over<F: Folders, R: Read, W: Write, N: Write>(
     folders: &mut F,
@@ -154,18 +140,33 @@ pub fn run_over<F: Folders, R: Read, W: Write, N: Write>(
     // If each path has one answer, there is one output.
     ensures once { AnswersOnce (F.allowed folders.old) → HaveOneOutput (F.allowed folders.old) (map (λ w. w.now) words.now) (R.remaining input.old) }
     ensures unread { words_read_input (map (λ w. w.now) words.now) ≡ false → R.remaining input.new ≡ R.remaining input.old }
-    ensures kept { IfErr result (λ e. e ≢ fault.Write → Keeps (W.contents output.old) (W.contents output.new)) }
+
+    // A command that breaks off has written nothing, except `check-many`.
+    ensures kept { IfErr result (λ e. e ≢ fault.Write → IsBrokenOff (F.allowed folders.old) (command_of (map (λ w. w.now) words.now)) (R.remaining input.old)
+        (W.contents output.old) (W.contents output.new)) }
+    ensures unread_kept { IfErr result (λ e. e ≡ fault.Read → Keeps (W.contents output.old) (W.contents output.new)) }
     ensures same { AllowSame (F.allowed folders.old) (F.allowed folders.new) }
 {
-    let Some(command) = command_of(words) else {
-        return rustsec_commands::run_over(folders, alloc, words, input, output, notes);
-    };
-    match output_of(alloc, folders, command, input, notes) {
-        Ok(made) => finish(&made, output, notes),
-        Err(fault) => {
-            write_fault(fault, notes);
-            Err(fault)
+    let command = match command_of(words) {
+        Some(command) => command,
+        None => {
+            return rustsec_commands::run_over(folders, alloc, words, input, output, notes);
         }
+    };
+    let list = match command.list() {
+        Some(list) => list,
+        None => return finish(output_of(alloc, folders, command), output, notes),
+    };
+    match read_all(alloc, input) {
+        Ok(bytes) => {
+            let asked = Asked {
+                root: list.root,
+                options: list.options,
+                input: bytes.as_slice(),
+            };
+            noted(check_many(alloc, folders, asked, output, notes), notes)
+        }
+        Err(fault) => noted(Err(fault), notes),
     }
 }
 
@@ -184,7 +185,9 @@ pub fn run_with_notes<T: Files + AllocGlobal, R: Read, W: Write, N: Write>(
     ensures carries { IfOk result (λ s. Carries real_folders (map (λ w. w.now) words.now) (R.remaining input.old) s
         (W.contents output.old) (W.contents output.new)) }
     ensures unread { words_read_input (map (λ w. w.now) words.now) ≡ false → R.remaining input.new ≡ R.remaining input.old }
-    ensures kept { IfErr result (λ e. e ≢ fault.Write → Keeps (W.contents output.old) (W.contents output.new)) }
+    ensures kept { IfErr result (λ e. e ≢ fault.Write → IsBrokenOff real_folders (command_of (map (λ w. w.now) words.now)) (R.remaining input.old)
+        (W.contents output.old) (W.contents output.new)) }
+    ensures unread_kept { IfErr result (λ e. e ≡ fault.Read → Keeps (W.contents output.old) (W.contents output.new)) }
 {
     let mut folders = RealFolders::new(rt);
     run_over(&mut folders, rt.alloc(), words, input, output, notes)

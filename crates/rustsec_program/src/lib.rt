@@ -22,4 +22,4 @@ mod usage;
 mod wanted;
 mod words;
 
-pub use crate::commands::{finish, run_over, run_with_notes, write_fault};
+pub use crate::commands::{finish, run_over, run_with_notes};

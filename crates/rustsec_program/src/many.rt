@@ -1,13 +1,15 @@
 //! The command `check-many`.
 
-ghost use Rattle.std.specs.Prelude.{◌≡◌, ◌≢◌, ◌++◌, ◌<◌, ◌∷◌, [], IfErr, IfOk, List, OnOk, false, filter, map, max, string_bytes, true};
+ghost use Rattle.rustsec_commands.specs.declared.fault.Fault.TheVariants as fault;
+ghost use Rattle.std.specs.Prelude.{◌≡◌, ◌≢◌, ◌++◌, ◌<◌, ◌∷◌, [], IfErr, IfOk, OnOk, false, filter, map, max, true};
+ghost use Rattle.std.specs.Io.KnownBytes.{Appends, Keeps};
 ghost use Rattle.std.specs.Str.{is_utf8};
-ghost use Rattle.rustsec_advisory.specs.declared.advisory.Advisory.{Advisory};
-ghost use Rattle.rustsec_database.specs.Opened.{AreOpened, IsOpenRefusal};
+ghost use Rattle.rustsec_commands.specs.Output.{refused_as, usage};
 ghost use Rattle.rustsec_folders.specs.Allowed.{AllowSame};
 ghost use Rattle.rustsec_error.specs.Failure.{IsOfKind, IsRefusal};
-ghost use Rattle.rustsec_program.specs.Check.{AreAnswers, AreAnswersTo, IsManyOutput, IsManyRefusal, is_path, names_none, paths_of, separator};
+ghost use Rattle.rustsec_program.specs.Check.{AreAnswers, IsManyOutput, IsManyRefusal, is_path, names_none, paths_of, separator};
 ghost use Rattle.rustsec_program.specs.Checked.{IsAnswer, line, refusal_output};
+ghost use Rattle.rustsec_program.specs.Writing.{BreaksOff, IsPrepared, Writes, WritesFirst};
 ghost use Rattle.rustsec_error.specs.declared.error.ErrorKind.TheVariants as failure;
 
 use crate::checked::{Ground, check_lockfile};
@@ -18,12 +20,14 @@ use crate::options::{Options, options_of};
 use crate::output::{self, Output, refusal, why};
 use crate::plan::Plan;
 use rustsec_check_output::{Dated, refused_line};
+use rustsec_commands::Fault;
 use rustsec_database::Database;
 use rustsec_error::{Error, ErrorKind, Result};
 use rustsec_folders::Folders;
 use rustsec_shown::push_shown;
 use std::alloc::{AllocError, Global};
 use std::io::Write;
+use std::marker::Model;
 use std::str;
 
 /// Returns the character that ends a path.
@@ -130,44 +134,29 @@ fn answer<'x, F: Folders>(
     }
 }
 
-/// The lines so far, the worst status so far, and for how many paths.
+/// The worst status so far, and for how many paths.
 #[derive(Drop)]
-struct Lines {
-    text: String,
+struct Done {
     status: u8,
     count: usize,
 }
 
-impl Lines {
-    /// Appends an output.
-    fn add(&mut self, output: &Output) -> std::result::Result<(), AllocError>
-        ensures { OnOk result ((string_bytes self.new.text ≡ string_bytes self.old.text ++ output.now.text)
-            × (self.new.status ≡ max self.old.status output.now.status)) }
-    {
-        self.text.push_str(output.text())?;
-        if output.status() > self.status {
-            self.status = output.status();
-        }
-        self.count = self.count.saturating_add(1);
-        Ok(())
-    }
-}
-
-/// Makes the line for the lockfile at a path, appends it, and returns it for its note.
-fn add_answer<'x, F: Folders>(
-    alloc: Global,
-    folders: &mut F,
-    ground: &'x Ground<'x>,
-    answers: &mut Lines,
-    path: &str,
-) -> std::result::Result<Output, AllocError>
-    ensures ok { IfOk result (λ one. IsAnswer (F.allowed folders.old) (line path.now) ground.now path.now one
-        × ((string_bytes answers.new.text ≡ string_bytes answers.old.text ++ one.text) × (answers.new.status ≡ max answers.old.status one.status))) }
-    ensures same { AllowSame (F.allowed folders.old) (F.allowed folders.new) }
+/// Writes a line, and counts it.
+fn write_line<W: Write>(
+    line: &Output,
+    done: &mut Done,
+    output: &mut W,
+) -> std::result::Result<(), Fault>
+    ensures ok { OnOk result (Appends (W.contents output.old) (W.contents output.new) line.now.text
+        × (done.new.status ≡ max done.old.status line.now.status)) }
+    ensures err { IfErr result (λ e. e ≡ fault.Write) }
 {
-    let output = answer(alloc, folders, ground, path)?;
-    answers.add(&output)?;
-    Ok(output)
+    line.write(output)?;
+    if line.status() > done.status {
+        done.status = line.status();
+    }
+    done.count = done.count.saturating_add(1);
+    Ok(())
 }
 
 /// Returns the line that shows how far the lockfiles are done, and which one is done.
@@ -190,123 +179,182 @@ fn write_progress<N: Write>(alloc: Global, notes: &mut N, done: usize, all: usiz
     }
 }
 
-/// Makes the lines for the lockfiles at some paths. After each, its note and its progress are written.
-fn answers<'x, F: Folders, N: Write>(
+/// The paths of lockfiles, and what their checks have in common.
+#[derive(Drop)]
+struct Job<'x> {
+    ground: &'x Ground<'x>,
+    paths: &'x [&'x str],
+}
+
+/// Writes the lines for the lockfiles at some paths, each as soon as it is made. After each, its note and its progress
+/// are written.
+fn write_lines<'x, F: Folders, W: Write, N: Write>(
     alloc: Global,
     folders: &mut F,
-    ground: &'x Ground<'x>,
-    paths: &[&str],
+    job: &Job<'x>,
+    output: &mut W,
     notes: &mut N,
-) -> std::result::Result<Output, AllocError>
-    ensures ok { IfOk result (AreAnswers (F.allowed folders.old) ground.now (map (λ p. p.now) paths.now)) }
+) -> std::result::Result<u8, Fault>
+    ensures ok { IfOk result (λ s. Writes (AreAnswers (F.allowed folders.old) job.now.ground.now (map (λ p. p.now) job.now.paths.now))
+        s (W.contents output.old) (W.contents output.new)) }
+    ensures err { IfErr result (λ e. e ≢ fault.Write
+        → WritesFirst (F.allowed folders.old) job.now.ground.now (map (λ p. p.now) job.now.paths.now) (W.contents output.old) (W.contents output.new)) }
+    ensures read { IfErr result (λ e. e ≢ fault.Read) }
     ensures same { AllowSame (F.allowed folders.old) (F.allowed folders.new) }
 {
-    let mut answers = Lines {
-        text: String::new(alloc),
+    let ground = job.ground;
+    let paths = job.paths;
+    let plan = ground.plan;
+    let mut done = Done {
         status: 0,
         count: 0,
     };
-    let plan = ground.plan;
     for path in paths {
-        let made = add_answer(alloc, folders, ground, &mut answers, path)?;
-        made.write_note(notes);
+        let line = answer(alloc, folders, ground, path)?;
+        write_line(&line, &mut done, output)?;
+        line.write_note(notes);
         if plan.shows_progress {
-            write_progress(alloc, notes, answers.count, paths.len(), path);
+            write_progress(alloc, notes, done.count, paths.len(), path);
         }
     }
-    Ok(Output::new(answers.text, answers.status))
+    Ok(done.status)
 }
 
-/// The root of a database, and the paths of lockfiles.
+/// What is known before the first line: the plan, the database, and the paths of the lockfiles.
+#[derive(Drop)]
+struct Prepared<'a> {
+    plan: Plan<'a>,
+    database: Database,
+    paths: Vec<&'a str>,
+}
+
+impl<'a> Model for Prepared<'a> {
+    ghost use Rattle.std.specs.Prelude.{map};
+    ghost use Rattle.rustsec_program.specs.Writing.{PreparedValue};
+
+    ghost Value = { PreparedValue };
+
+    ghost view = { λ p. record { ground = record { plan = p.plan; advisories = p.database }; paths = map (λ t. t.now) p.paths.items } };
+}
+
+/// The words of `check-many`, and the bytes of its input.
 #[derive(Clone, Copy)]
-struct Work<'a> {
-    root: &'a str,
-    paths: &'a [&'a str],
-}
-
-/// Opens the database, and makes the lines for the lockfiles at some paths by a plan.
-fn answers_by_plan<'x, F: Folders, N: Write>(
-    alloc: Global,
-    folders: &mut F,
-    work: Work<'_>,
-    plan: &'x Plan<'x>,
-    notes: &mut N,
-) -> Result<Output>
-    ensures ok { IfOk result (λ o. (advisories : List Advisory) × (AreOpened (F.allowed folders.old) work.entry.root.now advisories
-        × AreAnswers (F.allowed folders.old) (record { plan = plan.now; advisories = advisories }) (map (λ p. p.now) work.entry.paths.now) o)) }
-    ensures err { IfErr result (IsOpenRefusal (F.allowed folders.old) work.entry.root.now) }
-    ensures same { AllowSame (F.allowed folders.old) (F.allowed folders.new) }
-{
-    let database = Database::open_with(alloc, folders, work.root)?;
-    let dated = Dated::new(&database);
-    let ground = Ground {
-        plan,
-        database: &dated,
-    };
-    let output = answers(alloc, folders, &ground, work.paths, notes)?;
-    Ok(output)
-}
-
-/// What `check-many` is asked: a root, options and the bytes of an input.
-#[derive(Clone, Copy)]
-struct Question<'a, 'o> {
-    root: &'a str,
-    options: &'a Options<'o>,
-    input: &'a [u8],
-}
-
-/// Makes the lines for the lockfiles that an input names.
-fn answers_to<F: Folders, N: Write>(
-    alloc: Global,
-    folders: &mut F,
-    question: Question<'_, '_>,
-    notes: &mut N,
-) -> Result<Output>
-    ensures ok { IfOk result (AreAnswersTo (F.allowed folders.old) question.entry.root.now question.entry.options.now question.entry.input.now) }
-    ensures err { IfErr result (IsManyRefusal (F.allowed folders.old) question.entry.root.now question.entry.options.now question.entry.input.now) }
-    ensures same { AllowSame (F.allowed folders.old) (F.allowed folders.new) }
-{
-    let text = text_of(alloc, question.input)?;
-    let paths = listed(alloc, question.options, text)?;
-    let plan = Plan::read(alloc, folders, question.options)?;
-    let work = Work {
-        root: question.root,
-        paths: paths.as_slice(),
-    };
-    answers_by_plan(alloc, folders, work, &plan, notes)
-}
-
-/// The words of `check-many`: a root, and options.
-#[derive(Clone, Copy)]
-pub struct Words<'a> {
+pub struct Asked<'a> {
     /// The root of the database.
     pub root: &'a str,
     /// The options.
     pub options: &'a [&'a str],
+    /// The bytes of the input.
+    pub input: &'a [u8],
 }
 
-/// Makes the output of `check-many` for its words and the bytes of an input. After each lockfile its note and its
-/// progress are written to `notes`.
-pub fn check_many<F: Folders, N: Write>(
+impl<'a> Prepared<'a> {
+    /// Reads the list of paths, the policy and the database, in this order.
+    fn read<F: Folders>(
+        alloc: Global,
+        folders: &mut F,
+        options: &Options<'a>,
+        asked: Asked<'a>,
+    ) -> Result<Prepared<'a>>
+        ensures ok { IfOk result (IsPrepared (F.allowed folders.old) asked.entry.root.now options.now asked.entry.input.now) }
+        ensures err { IfErr result (IsManyRefusal (F.allowed folders.old) asked.entry.root.now options.now asked.entry.input.now) }
+        ensures same { AllowSame (F.allowed folders.old) (F.allowed folders.new) }
+    {
+        let text = text_of(alloc, asked.input)?;
+        let paths = listed(alloc, options, text)?;
+        let plan = Plan::read(alloc, folders, options)?;
+        let database = Database::open_with(alloc, folders, asked.root)?;
+        Ok(Prepared {
+            plan,
+            database,
+            paths,
+        })
+    }
+
+    /// Writes the lines for all lockfiles.
+    fn write_all<F: Folders, W: Write, N: Write>(
+        &self,
+        alloc: Global,
+        folders: &mut F,
+        output: &mut W,
+        notes: &mut N,
+    ) -> std::result::Result<u8, Fault>
+        ensures ok { IfOk result (λ s. Writes (AreAnswers (F.allowed folders.old) self.now.ground self.now.paths) s (W.contents output.old) (W.contents output.new)) }
+        ensures err { IfErr result (λ e. e ≢ fault.Write
+            → WritesFirst (F.allowed folders.old) self.now.ground self.now.paths (W.contents output.old) (W.contents output.new)) }
+        ensures read { IfErr result (λ e. e ≢ fault.Read) }
+        ensures same { AllowSame (F.allowed folders.old) (F.allowed folders.new) }
+    {
+        let dated = Dated::new(&self.database);
+        let ground = Ground {
+            plan: &self.plan,
+            database: &dated,
+        };
+        let job = Job {
+            ground: &ground,
+            paths: self.paths.as_slice(),
+        };
+        write_lines(alloc, folders, &job, output, notes)
+    }
+}
+
+/// Writes the output for an error. Out of memory is passed on.
+fn write_refusal<W: Write, N: Write>(
+    alloc: Global,
+    error: &Error,
+    output: &mut W,
+    notes: &mut N,
+) -> std::result::Result<u8, Fault>
+    ensures ok { IfOk result (λ s. (error.now.kind ≢ failure.OutOfMemory)
+        × Writes (λ o. o ≡ refused_as error.now.kind) s (W.contents output.old) (W.contents output.new)) }
+    ensures err { IfErr result (λ e. e ≢ fault.Write → Keeps (W.contents output.old) (W.contents output.new)) }
+    ensures read { IfErr result (λ e. e ≢ fault.Read) }
+{
+    let made = refusal(alloc, error)?;
+    made.write_with_note(output, notes)
+}
+
+/// Writes the usage line, with a note on the options that cannot be parsed.
+fn write_usage<W: Write, N: Write>(
+    alloc: Global,
+    options: &[&str],
+    output: &mut W,
+    notes: &mut N,
+) -> std::result::Result<u8, Fault>
+    ensures ok { IfOk result (λ s. Writes (λ o. o ≡ usage) s (W.contents output.old) (W.contents output.new)) }
+    ensures err { IfErr result (λ e. e ≢ fault.Write → Keeps (W.contents output.old) (W.contents output.new)) }
+    ensures read { IfErr result (λ e. e ≢ fault.Read) }
+{
+    let made = output::usage(alloc, misuse::of_options(alloc, options).ok())?;
+    made.write_with_note(output, notes)
+}
+
+/// Writes the output of `check-many`. Each line is written as soon as it is made, then its note and its progress are
+/// written to `notes`.
+///
+/// # Errors
+///
+/// `Memory`, after which the lines of the first lockfiles are written, or nothing; or `Write`, after which it is
+/// unspecified how much was written.
+pub fn check_many<F: Folders, W: Write, N: Write>(
     alloc: Global,
     folders: &mut F,
-    words: Words<'_>,
-    input: &[u8],
+    asked: Asked<'_>,
+    output: &mut W,
     notes: &mut N,
-) -> std::result::Result<Output, AllocError>
-    ensures ok { IfOk result (IsManyOutput (F.allowed folders.old) words.entry.root.now (map (λ w. w.now) words.entry.options.now) input.now) }
+) -> std::result::Result<u8, Fault>
+    ensures ok { IfOk result (λ s. Writes (IsManyOutput (F.allowed folders.old) asked.entry.root.now (map (λ w. w.now) asked.entry.options.now) asked.entry.input.now)
+        s (W.contents output.old) (W.contents output.new)) }
+    ensures err { IfErr result (λ e. e ≢ fault.Write → BreaksOff (F.allowed folders.old) asked.entry.root.now (map (λ w. w.now) asked.entry.options.now)
+        asked.entry.input.now (W.contents output.old) (W.contents output.new)) }
+    ensures read { IfErr result (λ e. e ≢ fault.Read) }
     ensures same { AllowSame (F.allowed folders.old) (F.allowed folders.new) }
 {
-    let Some(options) = options_of(alloc, words.options)? else {
-        return output::usage(alloc, misuse::of_options(alloc, words.options).ok());
+    let Some(options) = options_of(alloc, asked.options)? else {
+        return write_usage(alloc, asked.options, output, notes);
     };
-    let question = Question {
-        root: words.root,
-        options: &options,
-        input,
-    };
-    match answers_to(alloc, folders, question, notes) {
-        Ok(output) => Ok(output),
-        Err(error) => refusal(alloc, &error),
+    match Prepared::read(alloc, folders, &options, asked) {
+        Ok(prepared) => prepared.write_all(alloc, folders, output, notes),
+        Err(error) => write_refusal(alloc, &error, output, notes),
     }
 }

@@ -74,6 +74,21 @@ impl Output {
         self.status
     }
 
+    /// Writes the whole text, and then the note. Returns the status. The only error is `Write`.
+    pub fn write_with_note<W: Write, N: Write>(
+        &self,
+        output: &mut W,
+        notes: &mut N,
+    ) -> Result<u8, Fault>
+        ensures status { IfOk result (λ s. s ≡ self.now.status) }
+        ensures text { OnOk result (Appends (W.contents output.old) (W.contents output.new) self.now.text) }
+        ensures err { IfErr result (λ e. e ≡ fault.Write) }
+    {
+        self.write(output)?;
+        self.write_note(notes);
+        Ok(self.status)
+    }
+
     /// Writes the whole text and nothing else. The only error is `Write`.
     pub fn write<W: Write>(&self, output: &mut W) -> Result<(), Fault>
         ensures text { OnOk result (Appends (W.contents output.old) (W.contents output.new) self.now.text) }

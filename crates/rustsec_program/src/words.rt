@@ -1,8 +1,8 @@
 //! Parses the words that name a command.
 
-ghost use Rattle.std.specs.Prelude.{◌≡◌, map, option_map};
-ghost use Rattle.rustsec_program.specs.Commands.{command_view};
-ghost use Rattle.rustsec_program.specs.Words.{check_of, command_of, explain_of, many_of};
+ghost use Rattle.std.specs.Prelude.{◌≡◌, IfNone, IfSome, false, map, option_map};
+ghost use Rattle.rustsec_program.specs.Commands.{command_view, reads_input};
+ghost use Rattle.rustsec_program.specs.Words.{check_of, command_of, explain_of, many, many_of};
 
 use rustsec_commands::Paths;
 
@@ -17,6 +17,28 @@ pub enum Command<'a> {
     Explain(Paths<'a>, &'a str, &'a [&'a str]),
     /// The name of a command with too few words after it.
     Short,
+}
+
+/// The words of `check-many`.
+#[derive(Clone, Copy)]
+pub struct ListWords<'a> {
+    /// The root of the database.
+    pub root: &'a str,
+    /// The options.
+    pub options: &'a [&'a str],
+}
+
+impl<'a> Command<'a> {
+    /// Returns the words of `check-many`; `None` for a command that does not read the input.
+    pub fn list(self) -> Option<ListWords<'a>>
+        ensures none { IfNone result (reads_input (command_view self.entry) ≡ false) }
+        ensures some { IfSome result (λ l. command_view self.entry ≡ many l.root.now (map (λ w. w.now) l.options.now)) }
+    {
+        match self {
+            Command::CheckMany(root, options) => Some(ListWords { root, options }),
+            _ => None,
+        }
+    }
 }
 
 /// Returns the command of the words after `check`.
