@@ -9,6 +9,7 @@ use crate::lines::shown_line;
 use crate::statements::{element_at, key_at};
 use rustsec_error::{Error, ErrorKind, Result};
 use rustsec_places::Place;
+use rustsec_plain::plain_document;
 use std::alloc::{AllocError, Global};
 use toml::Table;
 
@@ -242,8 +243,8 @@ fn no_document(
     }
 }
 
-/// Parses a document (TOML 1.1.0). For messages, `name` says what the text is, and `at` where it is: the text ends with
-/// the text of that place.
+/// Parses a document (TOML 1.1.0): one of plain lines by `rustsec_plain`, any other by `toml`. For messages, `name` says
+/// what the text is, and `at` where it is: the text ends with the text of that place.
 ///
 /// # Errors
 ///
@@ -252,6 +253,9 @@ pub fn document(alloc: Global, text: &str, at: TablePlace<'_>, name: &str) -> Re
     ensures ok { IfOk result (λ t. parse_document text.now ≡ Some (table_view t)) }
     ensures err { IfErr result (IsRefusal ErrorKind.Parse (parse_document text.now ≡ None)) }
 {
+    if let Some(table) = plain_document(alloc, text)? {
+        return Ok(table);
+    }
     match toml::table_from_str(alloc, text) {
         Ok(table) => Ok(table),
         Err(e) if e.is_memory() => Err(Error::from(AllocError)),

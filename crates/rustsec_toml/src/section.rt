@@ -66,14 +66,14 @@ fn texts<T: FromText>(
     ensures ok { IfOk result (λ xs. read_all (text T.reads) (list_of (array_view array.now)) ≡ Some xs) }
     ensures err { IfErr result (IsRefusal ErrorKind.Parse (read_all (text T.reads) (list_of (array_view array.now)) ≡ None)) }
 {
-    let mut read = Items::new(alloc);
+    let mut read = Vec::with_capacity(alloc, array.len())?;
     for value in array {
         match section.at_element(read.len()).text_of(alloc, key, value) {
-            Ok(item) => read.push(item)?,
+            Ok(item) => read.push(item).map_err(|_| AllocError)?,
             Err(e) => return Err(e),
         }
     }
-    Ok(read)
+    Ok(Items::from(read))
 }
 
 impl<'a> Section<'a> {

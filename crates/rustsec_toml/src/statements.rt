@@ -21,7 +21,13 @@ fn after_token(alloc: Global, text: &str) -> Option<&str> {
     Some(rest.as_str())
 }
 
-/// Returns the rest of a text from a byte on that is in no string, comment, array or inline table.
+/// Returns whether a byte ends an array or an inline table.
+fn is_close(byte: u8) -> bool {
+    byte == b']' || byte == b'}'
+}
+
+/// Returns the rest of a text from a byte on that is in no string, comment, array or inline table. A comma is not looked for
+/// after the array or the table in which the text begins.
 fn from_byte(alloc: Global, text: &str, byte: u8) -> Option<&str> {
     let mut rest = text;
     let mut depth = 0usize;
@@ -30,9 +36,12 @@ fn from_byte(alloc: Global, text: &str, byte: u8) -> Option<&str> {
         if depth == 0 && next == byte {
             return Some(rest);
         }
+        if depth == 0 && byte == b',' && is_close(next) {
+            return None;
+        }
         if next == b'[' || next == b'{' {
             depth = depth.saturating_add(1);
-        } else if next == b']' || next == b'}' {
+        } else if is_close(next) {
             depth = depth.saturating_sub(1);
         }
         rest = after_token(alloc, rest)?;
@@ -76,7 +85,46 @@ fn reach(alloc: Global, text: &str, path: &[&str], from: Option<usize>) -> Optio
     }
 }
 
-/// Returns the text of a document from the first key on whose path, with the header above it, begins with these parts.
+/// Returns the text from the first key on in the inline table that is the value of a key, if its path agrees with these parts
+/// from an index on, and how far they go with it.
+fn key_within<'a>(
+    alloc: Global,
+    key: &'a str,
+    path: &[&str],
+    from: usize,
+) -> Option<(&'a str, usize)> {
+    let value = skip_ws(skip_byte(after_key(alloc, key)?, b'=')?);
+    let mut rest = skip_byte(value, b'{')?;
+    for _ in value.bytes() {
+        let start = skip_blank(rest, true);
+        if let Some(reached) = reach(alloc, start, path, Some(from)) {
+            return Some((start, reached));
+        }
+        rest = skip_byte(from_byte(alloc, start, b',')?, b',')?;
+    }
+    None
+}
+
+/// Returns the text from a key on, or from the key in its inline table on, or in one within it, to which a path leads that goes
+/// with the key so far.
+fn key_below<'a>(
+    alloc: Global,
+    key: &'a str,
+    path: &[&str],
+    reached: Option<usize>,
+) -> Option<&'a str> {
+    let (mut key, mut reached) = (key, reached?);
+    for _ in path {
+        if reached >= path.len() {
+            return Some(key);
+        }
+        (key, reached) = key_within(alloc, key, path, reached)?;
+    }
+    Some(key)
+}
+
+/// Returns the text of a document from the first key on whose path, with the header above it, begins with these parts. The key
+/// may be in an inline table.
 pub fn key_at<'a>(alloc: Global, document: &'a str, path: &[&str]) -> Option<&'a str> {
     let mut header = Some(0);
     let mut rest = skip_mark(document);
@@ -85,8 +133,8 @@ pub fn key_at<'a>(alloc: Global, document: &'a str, path: &[&str]) -> Option<&'a
         let is_header = first(start) == b'[';
         let key = skip_ws(start.trim_start_matches('['));
         let reached = reach(alloc, key, path, if is_header { Some(0) } else { header });
-        if reached.is_some_and(|reached| reached >= path.len()) {
-            return Some(key);
+        if let Some(found) = key_below(alloc, key, path, reached) {
+            return Some(found);
         }
         if is_header {
             header = reached;

@@ -1,0 +1,6 @@
+pub mod PlainStrings
+pub mod PlainLines
+pub mod Members
+pub mod Places
+pub mod Turns
+pub mod Marks
