@@ -6,12 +6,14 @@ ghost use Rattle.rustsec_commands.specs.input.Line.{line_says, said_for};
 ghost use Rattle.rustsec_commands.specs.input.Views.{line_view, with_line};
 
 use crate::input::line::Line;
-use semver::{Version, VersionReq};
+use crate::input::version::InputVersion;
+use semver::VersionReq;
 use std::alloc::{AllocError, Global};
 use std::marker::Model;
 
 pub(crate) mod line;
 pub(crate) mod read;
+pub(crate) mod version;
 
 /// The kind of an input: what the command that reads it answers.
 #[derive(Clone, Copy)]
@@ -27,18 +29,18 @@ pub enum InputKind {
 pub struct Input {
     pub patched: Vec<VersionReq>,
     pub unaffected: Vec<VersionReq>,
-    pub versions: Vec<Version>,
+    pub versions: Vec<InputVersion>,
 }
 
 impl Model for Input {
     ghost use Rattle.std.specs.Prelude.{map};
-    ghost use Rattle.semver.specs.Identifiers.{parts_of};
     ghost use Rattle.rustsec_versions.specs.Views.{lists_of};
     ghost use Rattle.rustsec_commands.specs.input.Input.{Input};
+    ghost use Rattle.rustsec_commands.specs.input.Views.{version_view};
 
     ghost Value = { Input };
 
-    ghost view = { λ a. record { lists = lists_of a.patched.items a.unaffected.items; versions = map parts_of a.versions.items } };
+    ghost view = { λ a. record { lists = lists_of a.patched.items a.unaffected.items; versions = map version_view a.versions.items } };
 }
 
 impl Input {
@@ -54,45 +56,53 @@ impl Input {
     }
 
     /// Appends the requirement or the version of one more line.
-    fn add(&mut self, line: Line) -> Result<(), AllocError>
+    fn add(&mut self, alloc: Global, line: Line) -> Result<(), AllocError>
         ensures { OnOk result (self.new ≡ with_line self.old (line_view line)) }
     {
         match line {
             Line::Blank => {}
             Line::Patched(req) => self.patched.push(req)?,
             Line::Unaffected(req) => self.unaffected.push(req)?,
-            Line::Version(version) => self.versions.push(version)?,
+            Line::Version(version) => self.versions.push(InputVersion::new(alloc, version)?)?,
         }
         Ok(())
     }
 }
 
-/// Parses a line of an input of a kind. A malformed line gives `None`.
-fn said(alloc: Global, kind: InputKind, line: &[u8]) -> Result<Option<Line>, AllocError>
-    ensures { IfOk result (λ o. option_map line_view o ≡ said_for kind (line_says line.now)) }
+/// Returns a line of an input of a kind, or `None` if it is malformed, by what it says in any input.
+fn said_for(kind: InputKind, said: Option<Line>) -> Option<Line>
+    ensures { option_map line_view result ≡ said_for kind (option_map line_view said) }
 {
-    let said = line::line_says(alloc, line)?;
     match (kind, said) {
-        (InputKind::Ranges, Some(Line::Version(_))) => Ok(None),
-        (_, said) => Ok(said),
+        (InputKind::Ranges, Some(Line::Version(_))) => None,
+        (_, said) => said,
     }
 }
 
-/// Parses the lines of an input, or returns the place of the first malformed line, counted from 0.
+/// The first malformed line of an input.
+#[derive(Clone, Copy)]
+pub struct Malformed<'a> {
+    /// Its place, counted from 0.
+    pub place: usize,
+    /// Its bytes. No contract mentions them.
+    pub line: &'a [u8],
+}
+
+/// Parses the lines of an input, or returns the first malformed line.
 pub fn parse(
     alloc: Global,
     kind: InputKind,
     input: &[u8],
-) -> Result<Result<Input, usize>, AllocError>
+) -> Result<Result<Input, Malformed<'_>>, AllocError>
     ensures { IfOk result (λ r. MatchResult r
         (λ a. (first_malformed (says kind input.now) ≡ None) × (a ≡ input_of (says kind input.now)))
-        (λ n. (first_malformed (says kind input.now) ≡ Some n) × (n ≤ length input.now))) }
+        (λ m. (first_malformed (says kind input.now) ≡ Some m.place) × (m.place ≤ length input.now))) }
 {
     let mut all = Input::new(alloc);
     for (place, line) in input.split(|b| *b == b'\n').enumerate() {
-        match said(alloc, kind, line)? {
-            Some(line) => all.add(line)?,
-            None => return Ok(Err(place)),
+        match said_for(kind, line::line_says(alloc, line)?) {
+            Some(said) => all.add(alloc, said)?,
+            None => return Ok(Err(Malformed { place, line })),
         }
     }
     Ok(Ok(all))

@@ -8,6 +8,7 @@ ghost use Rattle.std.specs.Io.KnownBytes.{Appends};
 ghost use Rattle.rustsec_commands.specs.Output.{malformed, tree_line, usage};
 
 use crate::fault::Fault;
+use crate::input::Malformed;
 use rustsec_error::refused_text;
 use rustsec_shown::push_shown;
 use serde_json::Value;
@@ -86,38 +87,27 @@ impl Output {
 /// The forms that a line may have.
 const LINES: &str = "`patched REQ`, `unaffected REQ`, for `affected` also `version V`, or nothing";
 
-/// Returns the line at a place, counted from 0, or an empty line if the input has no such line.
-fn line_at(input: &[u8], place: usize) -> &[u8] {
-    for (i, line) in input.split(|b| *b == b'\n').enumerate() {
-        if i == place {
-            return line;
-        }
-    }
-    &[]
-}
-
-/// Returns the note about the malformed line at a place.
-fn line_note(alloc: Global, input: &[u8], place: usize) -> Result<String, AllocError> {
-    let number = place.saturating_add(1);
+/// Returns the note about a malformed line.
+fn line_note(alloc: Global, found: Malformed<'_>) -> Result<String, AllocError> {
+    let number = found.place.saturating_add(1);
     let mut note = format!(in alloc; "rustsec_audit: line {number}: ")?;
-    let found = str::from_utf8(line_at(input, place)).unwrap_or("bytes that are no UTF-8");
+    let text = str::from_utf8(found.line).unwrap_or("bytes that are no UTF-8");
     push_shown(
         &mut note,
-        refused_text(alloc, "malformed", found, LINES).message(),
+        refused_text(alloc, "malformed", text, LINES).message(),
     )?;
     note.push('\n')?;
     Ok(note)
 }
 
-/// Makes the output for an input with a malformed line at a place. The place is counted from 0, and printed
-/// from 1.
-pub fn malformed_output(alloc: Global, input: &[u8], place: usize) -> Result<Output, AllocError>
-    requires { place < 2 ^ 64 - 1 }
-    ensures { IfOk result (λ o. o ≡ malformed place) }
+/// Makes the output for an input with a malformed line. Its place is counted from 0, and printed from 1.
+pub fn malformed_output(alloc: Global, found: Malformed<'_>) -> Result<Output, AllocError>
+    requires { found.place < 2 ^ 64 - 1 }
+    ensures { IfOk result (λ o. o ≡ malformed found.entry.place) }
 {
-    let number = place + 1;
+    let number = found.place + 1;
     let text = format!(in alloc; "line {number}: malformed\n")?;
-    Ok(Output::new(text, 2).with_note(line_note(alloc, input, place).ok()))
+    Ok(Output::new(text, 2).with_note(line_note(alloc, found).ok()))
 }
 
 /// Makes the output for words that do not name a command, with this note.

@@ -58,7 +58,8 @@ fn gaps_of(alloc: Global, patched: &Requirements, unaffected: &Requirements) -> 
     let sorted = by_start(alloc, &all)?;
     match merged_intervals(alloc, &sorted)? {
         Some(intervals) => {
-            let gaps = gaps(alloc, &intervals)?;
+            let mut gaps = gaps(alloc, &intervals)?;
+            gaps.shrink_to_fit();
             Ok(gaps)
         }
         None => Err(overlap_refused(alloc, &sorted)),

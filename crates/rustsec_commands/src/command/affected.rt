@@ -1,14 +1,16 @@
 //! The command `affected`: which versions the requirements leave affected.
 
 ghost use Rattle.rustsec_commands.specs.declared.fault.Fault.TheVariants as fault;
-ghost use Rattle.std.specs.Prelude.{◌≡◌, ◌≢◌, IfErr, IfOk, IfSome, OnOk, flat_map, map, string_bytes};
+ghost use Rattle.std.specs.Prelude.{◌≡◌, ◌≢◌, ◌++◌, IfErr, IfOk, IfSome, OnOk, flat_map, map, string_bytes};
 ghost use Rattle.std.specs.Io.KnownBytes.{Appends, Keeps};
 ghost use Rattle.semver.specs.Identifiers.{parts_of};
 ghost use Rattle.rustsec_commands.specs.Output.{affected_output, verdict, verdicts};
+ghost use Rattle.rustsec_commands.specs.input.Views.{version_view};
 
 use crate::error_output::refused_output;
 use crate::fault::Fault;
 use crate::input::read::read_all;
+use crate::input::version::InputVersion;
 use crate::input::{self, Input, InputKind};
 use crate::output::{Output, malformed_output};
 use rustsec_error::ErrorKind;
@@ -18,20 +20,33 @@ use std::alloc::{AllocError, Global};
 use std::fmt::Write as _;
 use std::io::{Read, Write};
 
-/// Returns a line for each version, which says whether it is affected.
+/// Appends the line for a version, which says whether it is affected.
+fn push_verdict(text: &mut String, lists: &Versions, version: &Version) -> Result<(), AllocError>
+    ensures { OnOk result (string_bytes text.new ≡ string_bytes text.old ++ verdict lists.now (parts_of version.now)) }
+{
+    if lists.is_vulnerable(version) {
+        writeln!(text, "{version} affected")?;
+    } else {
+        writeln!(text, "{version} not affected")?;
+    }
+    Ok(())
+}
+
+/// Returns a line for each version.
 fn verdict_lines(
     alloc: Global,
     lists: &Versions,
-    versions: &[Version],
+    versions: &[InputVersion],
 ) -> Result<String, AllocError>
-    ensures { IfOk result (λ t. string_bytes t ≡ flat_map (verdict lists.now) (map parts_of versions.now)) }
+    ensures { IfOk result (λ t. string_bytes t ≡ flat_map (verdict lists.now) (map version_view versions.now)) }
 {
     let mut text = String::new(alloc);
     for version in versions {
-        if lists.is_vulnerable(version) {
-            writeln!(text, "{version} affected")?;
-        } else {
-            writeln!(text, "{version} not affected")?;
+        match version {
+            InputVersion::Numbers(major, minor, patch) => {
+                push_verdict(&mut text, lists, &Version::new(*major, *minor, *patch))?;
+            }
+            InputVersion::Whole(version) => push_verdict(&mut text, lists, version)?,
         }
     }
     Ok(text)
@@ -59,7 +74,7 @@ pub fn affected_output(alloc: Global, input: &[u8]) -> Result<Output, AllocError
 {
     match input::parse(alloc, InputKind::Verdicts, input)? {
         Ok(parsed) => verdicts(alloc, parsed),
-        Err(place) => malformed_output(alloc, input, place),
+        Err(found) => malformed_output(alloc, found),
     }
 }
 

@@ -71,7 +71,7 @@ pub fn ranges_output(alloc: Global, input: &[u8]) -> Result<Output, AllocError>
 {
     match input::parse(alloc, InputKind::Ranges, input)? {
         Ok(parsed) => ranges(alloc, parsed),
-        Err(place) => malformed_output(alloc, input, place),
+        Err(found) => malformed_output(alloc, found),
     }
 }
 

@@ -37,7 +37,10 @@ fn requirement(alloc: Global, text: &str) -> Result<Option<VersionReq>, AllocErr
     ensures { IfOk result (λ o. option_map comparators_of o ≡ value_of (req_of text.now)) }
 {
     match VersionReq::parse(alloc, text) {
-        Ok(req) => Ok(Some(req)),
+        Ok(mut req) => {
+            req.comparators.shrink_to_fit();
+            Ok(Some(req))
+        }
         Err(e) if is_out_of_memory(e) => Err(AllocError),
         Err(_) => Ok(None),
     }

@@ -3,6 +3,7 @@ pub mod Admission
 pub mod Clashes
 pub mod Clear
 pub mod Contraction
+pub mod Early
 pub mod MergedFit
 pub mod Neighbours
 pub mod OneMerge

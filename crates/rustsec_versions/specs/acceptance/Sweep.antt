@@ -49,6 +49,15 @@ abbrev pub are_clear : List TaggedInterval → Bool
 are_clear [] = true
 are_clear (c ∷ cs) = not (list_any (clashes c) cs) && are_clear cs
 
+-- as `clashes`, by the order of `Version` instead of precedence: of intervals of requirements, both say the same
+abbrev pub bounds_clash : TaggedInterval → TaggedInterval → Bool
+bounds_clash c x = not (c.is_patched && x.is_patched) && overlap version_order c.interval x.interval
+
+-- no two clash by that order
+abbrev pub bounds_are_clear : List TaggedInterval → Bool
+bounds_are_clear [] = true
+bounds_are_clear (c ∷ cs) = not (list_any (bounds_clash c) cs) && bounds_are_clear cs
+
 -- the merged intervals from one on, if no two clash
 unfoldable pub swept : TaggedInterval → List TaggedInterval → Option (List TaggedInterval)
 swept c [] = Some (c ∷ [])

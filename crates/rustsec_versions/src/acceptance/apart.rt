@@ -11,14 +11,15 @@ use crate::versions::Versions;
 use rustsec_error::{ErrorKind, Result};
 use std::alloc::{AllocError, Global};
 
-/// Returns the intervals of the requirements of both lists, each one as that of an unaffected requirement.
+/// Returns the intervals of the requirements of both lists, each one as that of an unaffected requirement, unless
+/// neighbours overlap.
 fn unaffected_intervals<'a>(
     alloc: Global,
     versions: &'a Versions,
 ) -> Result<Vec<TaggedInterval<'a>>>
     ensures ok { IfOk result (λ v. v.items ≡ tagged false (versions.now.patched ++ versions.now.unaffected)) }
     ensures admissible { OnOk result (all_admissible (versions.now.patched ++ versions.now.unaffected) ≡ true) }
-    ensures err { IfErr result (IsRefusal ErrorKind.BadParam (all_admissible (versions.now.patched ++ versions.now.unaffected) ≡ false)) }
+    ensures err { IfErr result (IsRefusal ErrorKind.BadParam (accepted_apart versions.now ≡ false)) }
 {
     let mut intervals = Vec::new(alloc);
     add_tagged(alloc, versions.patched(), false, &mut intervals)?;

@@ -3,7 +3,7 @@
 ghost use Rattle.std.specs.Prelude.{IfErr};
 ghost use Rattle.rustsec_error.specs.Failure.{IsMemory, IsOfKind};
 
-use crate::acceptance::tagged::TaggedInterval;
+use crate::acceptance::tagged::{TaggedInterval, compare_starts};
 use crate::interval::end_le;
 use crate::requirement::print::quoted;
 use rustsec_error::{Error, ErrorKind, Result};
@@ -63,6 +63,17 @@ fn refused(alloc: Global, first: &VersionReq, second: &VersionReq) -> Error
     match message_of(alloc, first, second) {
         Ok(message) => Error::bad_param(alloc, message.as_str()),
         Err(refused) => refused,
+    }
+}
+
+/// Returns the error for two requirements that clash; its message names the one that starts first before the other.
+pub(crate) fn clash_refused(alloc: Global, first: &TaggedInterval, second: &TaggedInterval) -> Error
+    ensures { IsOfKind ErrorKind.BadParam result }
+{
+    if compare_starts(second.interval.start(), first.interval.start()).is_lt() {
+        refused(alloc, second.requirement, first.requirement)
+    } else {
+        refused(alloc, first.requirement, second.requirement)
     }
 }
 

@@ -74,7 +74,10 @@ pub fn read_requirement(alloc: Global, text: &str) -> Result<VersionReq>
     ensures none { OnErr result (value_of (req_of text.now) ≢ Some []) }
 {
     match VersionReq::parse(alloc, text) {
-        Ok(req) => Ok(req),
+        Ok(mut req) => {
+            req.comparators.shrink_to_fit();
+            Ok(req)
+        }
         Err(e) if is_out_of_memory(e) => Err(Error::from(AllocError)),
         Err(e) => Err(refused_by(
             alloc,

@@ -9,4 +9,4 @@ returns-in-Ok c =
 pub returns-in-Err : goal.returns-in-Err
 returns-in-Err c =
     let read = rw c.in-Err.is at c.in_ok-parsed.ensures in
-    rw (affected-malformed c.args.input.now c.in-Err.place read.0) c.malformed_output.ensures
+    rw (affected-malformed c.args.input.now c.in-Err.found.place read.0) c.malformed_output.ensures

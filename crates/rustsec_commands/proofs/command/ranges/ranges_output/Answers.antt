@@ -11,7 +11,7 @@ returns-in-Ok-clause-output c =
 pub returns-in-Err-clause-output : goal.returns-in-Err-clause-output
 returns-in-Err-clause-output c =
     let read = rw c.in-Err.is at c.in_ok-parsed.ensures in
-    IfOk-weaker c.malformed_output.result _ _ (λ o t. ranges-malformed c.args.input.now c.in-Err.place o read.0 t) c.malformed_output.ensures
+    IfOk-weaker c.malformed_output.result _ _ (λ o t. ranges-malformed c.args.input.now c.in-Err.found.place o read.0 t) c.malformed_output.ensures
 
 pub returns-in-Ok-clause-only : goal.returns-in-Ok-clause-only
 returns-in-Ok-clause-only c =

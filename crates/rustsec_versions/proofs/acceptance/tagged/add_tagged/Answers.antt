@@ -1,24 +1,24 @@
-use Rattle.std.proofs.Common.{◌≡◌, ◌∙◌, append_assoc, refl, sym, true}
-use Rattle.std.specs.Prelude.{is_ok}
+use Rattle.std.proofs.Common.{◌∙◌, append_assoc, refl}
 use Rattle.std.proofs.lemmas.Result.{err_from_is_err_and}
-use Rattle.rustsec_versions.proofs.lemmas.acceptance.Admission.{all_admissible-more, all_admissible-stop, tagged-more}
+use Rattle.rustsec_versions.proofs.lemmas.acceptance.Admission.{all_admissible-more, refused-stop, tagged-more}
 use Rattle.rustsec_error.proofs.Refusals.{refused_by}
 use Rattle.rustsec_versions.proofs.acceptance.tagged.add_tagged.Goals as goal
 
-pub returns-in_err-interval-clause-err : goal.returns-in_err-interval-clause-err
-returns-in_err-interval-clause-err c =
+pub returns-in_err-push_tagged-clause-err : goal.returns-in_err-push_tagged-clause-err
+returns-in_err-push_tagged-clause-err c =
     let p = err_from_is_err_and c.from_residual.result c.from_residual.ensures.1 in
-    let stop = all_admissible-stop c.args.reqs.now c.loop-requirement.requirement-index c.requirement-item.result c.loop-requirement-test.true c.requirement-item.is in
-    rw (p.1, p.2) (refused_by _ c.in_err-interval.field-0.0 stop c.in_err-interval.ensures.err)
+    let stop = refused-stop c.args.intervals.now.items c.args.is_patched c.args.reqs.now c.loop-requirement.requirement-index c.requirement-item.result
+    c.loop-requirement-test.true c.requirement-item.is in
+    let bad = rw c.loop-requirement.invariant.added at c.in_err-push_tagged.ensures.err in
+    rw (p.1, p.2) (refused_by _ c.in_err-push_tagged.field-0.0 stop bad)
 
 pub loop-requirement-preserved : goal.loop-requirement-preserved
 loop-requirement-preserved c =
     let reqs = c.args.reqs.now in
     let i = c.loop-requirement.requirement-index in
-    let one = tagged-more c.args.is_patched reqs i c.requirement-item.result _ c.loop-requirement-test.true c.requirement-item.is c.in_ok-interval.ensures.ok in
-    let ok : is_ok c.push.result ≡ true = sym (c.in_ok-map_err.ensures.variant) in
-    let pushed = rw ok at c.push.ensures.items in
+    let one = tagged-more c.args.is_patched reqs i c.requirement-item.result c.loop-requirement-test.true c.requirement-item.is in
     record {
-      added = pushed ∙ rw (c.loop-requirement.invariant.added, one, append_assoc) refl;
-      admissible = all_admissible-more reqs i c.requirement-item.result _ c.loop-requirement-test.true c.requirement-item.is c.in_ok-interval.ensures.ok c.loop-requirement.invariant.admissible;
+      added = c.in_ok-push_tagged.ensures.ok ∙ rw (c.loop-requirement.invariant.added, one, append_assoc) refl;
+      admissible = all_admissible-more reqs i c.requirement-item.result c.loop-requirement-test.true c.requirement-item.is c.in_ok-push_tagged.ensures.admissible
+          c.loop-requirement.invariant.admissible;
     }
