@@ -87,6 +87,15 @@ pub fn first_line(text: &str) -> usize {
     line_feeds.saturating_add(1)
 }
 
+/// Returns what is wrong with a front matter whose first line is not its header.
+fn late_words(front: &str) -> &'static str {
+    if front.trim_start().starts_with('#') {
+        "a comment is above the header `[advisory]`, expected the header in the first line of the front matter"
+    } else {
+        "the first line of the front matter is not `[advisory]`, expected the header there, written so"
+    }
+}
+
 /// Returns the error for a front matter with this header further below, before which it was added, or the given error
 /// for one without it.
 fn late_header(alloc: Global, front: TablePlace<'_>, error: Error) -> Error
@@ -97,8 +106,7 @@ fn late_header(alloc: Global, front: TablePlace<'_>, error: Error) -> Error
     if !is_late || error.kind() == ErrorKind::OutOfMemory {
         return error;
     }
-    let message = "the header `[advisory]` is not the first line of the front matter";
-    let late = Error::new(alloc, ErrorKind::Parse, message);
+    let late = Error::new(alloc, ErrorKind::Parse, late_words(front.text));
     front.refused_at(alloc, "advisory", late)
 }
 

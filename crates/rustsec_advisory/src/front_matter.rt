@@ -22,7 +22,7 @@ use crate::metadata::{Kinds, Metadata, Origin, Subject, Terms};
 use crate::requirements::{optional_requirements_at, requirements, requirements_at};
 use rustsec_error::{Error, ErrorKind, Result};
 use rustsec_texts::{FunctionPath, License};
-use rustsec_toml::Section;
+use rustsec_toml::{Section, TablePlace};
 use rustsec_values::{SortedMap, Text};
 use rustsec_versions::{Requirements, UnaffectedRange, Versions};
 use std::alloc::{AllocError, Global};
@@ -132,22 +132,28 @@ fn list_at_fault(alloc: Global, section: Section<'_>) -> (&'static str, Option<u
     }
 }
 
-/// Adds the place of the list at fault, or of its requirement, to an error about lists of requirements.
-fn placed_in_lists(alloc: Global, section: Section<'_>, error: Error) -> Error
+/// Adds the place of a list of requirements, or of a requirement in it, to an error.
+fn placed_in_list(
+    alloc: Global,
+    place: TablePlace<'_>,
+    key: &str,
+    position: Option<usize>,
+    error: Error,
+) -> Error
     ensures kind { IsOfKind error.kind result }
     ensures memory { IsMemory error → IsMemory result }
 {
-    let (key, position) = list_at_fault(alloc, section);
     match position {
-        Some(position) => section
-            .place
-            .at_element(position)
-            .refused_at(alloc, key, error),
-        None => section.place.refused_at(alloc, key, error),
+        Some(position) => place.at_element(position).refused_at(alloc, key, error),
+        None => place.refused_at(alloc, key, error),
     }
 }
 
-/// Turns an error about lists of requirements into the error of the table that holds them.
+/// What lists of requirements have to be.
+const LISTS: &str =
+    "requirements of one interval each, of which no unaffected one overlaps another";
+
+/// Turns an error about lists of requirements into the error of the list at fault, in the table that holds them.
 fn as_parse(alloc: Global, section: Section<'_>, error: Error) -> Error
     ensures memory { error ≡ out_of_memory → result ≡ out_of_memory }
     ensures kind { IsOfKind ErrorKind.Parse result }
@@ -155,12 +161,13 @@ fn as_parse(alloc: Global, section: Section<'_>, error: Error) -> Error
     if error.kind() == ErrorKind::OutOfMemory {
         return Error::from(AllocError);
     }
+    let (key, position) = list_at_fault(alloc, section);
     let (name, message) = (section.name, error.message());
-    let error = match format!(in alloc; "{name}: {message}") {
+    let error = match format!(in alloc; "key `{key}` in {name}: {message}, expected {LISTS}") {
         Ok(message) => Error::with_cause(alloc, ErrorKind::Parse, &message, error.cause()),
         Err(refused) => Error::from(refused),
     };
-    placed_in_lists(alloc, section, error)
+    placed_in_list(alloc, section.place, key, position, error)
 }
 
 /// Reads the lists of the table `versions`.

@@ -53,7 +53,7 @@ fn requirements_in(
     ensures ok { IfOk result (λ rs. read_all (text requirement_of) (list_of (array_view array.now)) ≡ Some (map comparators_of rs.items)) }
     ensures err { IfErr result (IsRefusal ErrorKind.Parse (read_all (text requirement_of) (list_of (array_view array.now)) ≡ None)) }
 {
-    let mut read = Vec::new(alloc);
+    let mut read = Vec::with_capacity(alloc, array.len())?;
     for value in array {
         match requirement_in(alloc, section.at_element(read.len()), key, value) {
             Ok(req) => read.push(req).map_err(|_| AllocError)?,

@@ -17,9 +17,11 @@ use Rattle.rustsec_folders.specs.Listed.{IsFile, Pairwise, Paths}
 use Rattle.rustsec_folders.specs.declared.source_file.SourceFile.{SourceFile}
 use Rattle.rustsec_database.specs.Filing.{IsFiled, IsMisfiled}
 use Rattle.rustsec_database.specs.Kept.{AreOpenedFor, HaveIdsAmong, IsKept, IsKeptLoadOf, IsKeptWith, KeptValue}
+use Rattle.rustsec_database.specs.Latest.{last_date, later}
 use Rattle.rustsec_database.specs.Loaded.{AreLoaded, IsAtFault, IsFault, IsFirstFault, has_id, is_known, is_stored}
 use Rattle.rustsec_database.specs.Opened.{AreRead, IsReadRefusal}
 use Rattle.rustsec_database.proofs.Files.{added, loaded-more, loaded-none, one-more}
+use Rattle.rustsec_database.proofs.Latest.{last-date-more}
 use Rattle.rustsec_database.proofs.Opening.{last-fault, opened, still-refused}
 use Rattle.rustsec_database.proofs.Places.{is-false, neither}
 
@@ -68,12 +70,13 @@ one-longer xs x = omega (arith, length-append xs (x ∷ []))
 pub kept-more : (test : Advisory → Bool) (all : List Advisory) (a : Advisory) (k n : KeptValue) → IsKept test all k
     → n.advisories ≡ cond (test a) (k.advisories ++ a ∷ []) k.advisories
     → ((q : IdValue) → list_any (id_eq q) n.ids ≡ (list_any (id_eq q) k.ids || id_eq q a.metadata.id)) → length n.ids ≡ length k.ids + 1
-    → IsKept test (all ++ a ∷ []) n
-kept-more test all a k n h advisories among number = record {
+    → n.last_date ≡ later k.last_date a.metadata.date → IsKept test (all ++ a ∷ []) n
+kept-more test all a k n h advisories among number date = record {
   advisories = advisories ∙ (one-more (test a) k.advisories a
       ∙ (ap (λ xs. xs ++ cond (test a) (a ∷ []) []) h.advisories ∙ sym (filter-append test all (a ∷ []))));
   ids = λ q. among q ∙ (ap (λ b. b || id_eq q a.metadata.id) (h.ids q) ∙ sym (any-more (has_id q) all a));
   number = number ∙ (ap (λ m. m + 1) h.number ∙ one-longer all a);
+  last_date = date ∙ (ap (λ o. later o a.metadata.date) h.last_date ∙ last-date-more all a);
 }
 
 -- an ID is new among the IDs exactly if no advisory of all has it
@@ -128,12 +131,12 @@ pub kept-with : (test : Advisory → Bool) (all : List Advisory) (path text : Li
     → is_stored a ≡ true → list_any (id_eq a.metadata.id) k.ids ≡ false → IsKept test all k
     → n.advisories ≡ cond (test a) (k.advisories ++ a ∷ []) k.advisories
     → ((q : IdValue) → list_any (id_eq q) n.ids ≡ (list_any (id_eq q) k.ids || id_eq q a.metadata.id)) → length n.ids ≡ length k.ids + 1
-    → IsKeptWith test all path text n
-kept-with test all path text a k n filed stored new h advisories among number = record {
+    → n.last_date ≡ later k.last_date a.metadata.date → IsKeptWith test all path text n
+kept-with test all path text a k n filed stored new h advisories among number date = record {
   place = Some (length all);
   more = all ++ a ∷ [];
   is_added = added all (all ++ a ∷ []) path text a (length all) filed stored (known-kept test all a k false h new) refl refl;
-  is_kept = kept-more test all a k n h advisories among number;
+  is_kept = kept-more test all a k n h advisories among number date;
 }
 
 -- a file that is misfiled is at fault, whatever is loaded
@@ -162,10 +165,10 @@ keep-refused test files f before answer e r was is same h =
     (tt, still-refused files f e (subst (λ (a : Result KeptValue Failure). IfErr a (λ x. IsFirstFault files x ⊎ IsMemory x)) was h.1))
 
 -- nothing is read yet
-pub keep-none : (test : Advisory → Bool) (a : Allowed) (paths : List (List ℕ)) (answer : KeptValue) → answer ≡ record { advisories = []; ids = [] }
+pub keep-none : (test : Advisory → Bool) (a : Allowed) (paths : List (List ℕ)) (answer : KeptValue) → answer ≡ record { advisories = []; ids = []; last_date = None }
     → (files : List SourceFile) × (Pairwise (IsFile a) [] files × IsKeptLoadOf test files (Ok answer))
 keep-none test a paths answer is =
-    ([], (tt, (([], (loaded-none, rw is (record { advisories = refl; ids = λ id. refl; number = refl }))), tt)))
+    ([], (tt, (([], (loaded-none, rw is (record { advisories = refl; ids = λ id. refl; number = refl; last_date = refl }))), tt)))
 
 -- the files that were read, with what is kept of them
 kept-read : (test : Advisory → Bool) (a : Allowed) (paths : List (List ℕ)) (k : KeptValue) (files : List SourceFile)

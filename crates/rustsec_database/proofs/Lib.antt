@@ -2,6 +2,7 @@ pub mod Files
 pub mod FurtherFile
 pub mod Indexes
 pub mod Keeping
+pub mod Latest
 pub mod Once
 pub mod OnlyWithId
 pub mod Opening

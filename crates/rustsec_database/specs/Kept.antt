@@ -1,4 +1,4 @@
--- The advisories under a root that pass a test, beside the IDs of all advisories there.
+-- The advisories under a root that pass a test, beside the IDs and the latest date of all advisories there.
 use Rattle.std.specs.Prelude.{◌≡◌, ◌⊎◌, ◌&&◌, ℕ, Bool, false, IfErr, IfOk, List, Option, Result, length, nat_eq}
 use Rattle.std.specs.Cmp.Lexicographic.{pointwise}
 use Rattle.std.specs.List.{filter, list_any}
@@ -10,19 +10,23 @@ use Rattle.rustsec_texts.specs.Ids.{IdValue}
 use Rattle.rustsec_advisory.specs.declared.advisory.Advisory.{Advisory}
 use Rattle.rustsec_folders.specs.Allowed.{Allowed}
 use Rattle.rustsec_folders.specs.declared.source_file.SourceFile.{SourceFile}
+use Rattle.rustsec_database.specs.Latest.{last_date}
 use Rattle.rustsec_database.specs.Loaded.{AreLoaded, IsAdded, IsFirstFault, has_id}
 use Rattle.rustsec_database.specs.Opened.{AreOpened}
 
--- some advisories, and some IDs
+-- some advisories, some IDs, and a date, if any
 pub record KeptValue : Type 0 where
   pub advisories : List Advisory
   pub ids : List IdValue
+  pub last_date : Option (List ℕ)
 
--- what is kept of some advisories: those that pass a test, in their order, and the IDs of all, each once
+-- what is kept of some advisories: those that pass a test, in their order; the IDs of all, each once; and the latest
+-- date of all
 pub record IsKept (test : Advisory → Bool) (all : List Advisory) (k : KeptValue) : Type 0 where
   pub advisories : k.advisories ≡ filter test all
   pub ids : (id : IdValue) → list_any (id_eq id) k.ids ≡ list_any (has_id id) all
   pub number : length k.ids ≡ length all
+  pub last_date : k.last_date ≡ last_date all
 
 -- what is kept of the advisories that are loaded from the files under a root
 abbrev pub AreOpenedFor : Allowed → List ℕ → (Advisory → Bool) → KeptValue → Type 0
@@ -37,6 +41,16 @@ touches a p = pointwise nat_eq a.metadata.«package» p.name && affected a.versi
 -- an advisory affects one of some packages
 abbrev pub touches_any : List PackageValue → Advisory → Bool
 touches_any packages a = list_any (touches a) packages
+
+-- ---- which advisories are about a package of a lockfile
+
+-- an advisory is about a package: it has its name
+abbrev pub is_about : Advisory → PackageValue → Bool
+is_about a p = pointwise nat_eq a.metadata.«package» p.name
+
+-- an advisory is about one of some packages
+abbrev pub is_about_any : List PackageValue → Advisory → Bool
+is_about_any packages a = list_any (is_about a) packages
 
 -- ---- one file more, for the functions that opening calls
 

@@ -1,6 +1,6 @@
-//! The advisories under a root that pass a test, beside the IDs of all advisories there.
+//! The advisories under a root that pass a test, beside the IDs and the latest date of all advisories there.
 
-ghost use Rattle.std.specs.Prelude.{◌≡◌, ◌++◌, ◌∷◌, ◌+◌, ◌||◌, ◌⊎◌, [], false, if◌then◌else◌, not, IfErr, IfOk, List, OnOk, length};
+ghost use Rattle.std.specs.Prelude.{◌≡◌, ◌++◌, ◌∷◌, ◌+◌, ◌||◌, ◌⊎◌, [], false, if◌then◌else◌, not, IfErr, IfOk, List, None, OnOk, length, option_map};
 ghost use Rattle.std.specs.List.{list_any};
 ghost use Rattle.rustsec_error.specs.Failure.{IsMemory};
 ghost use Rattle.rustsec_folders.specs.Allowed.{AllowSame};
@@ -9,6 +9,7 @@ ghost use Rattle.rustsec_texts.specs.IdOrder.{id_eq};
 ghost use Rattle.rustsec_texts.specs.Ids.{IdValue};
 ghost use Rattle.rustsec_advisory.specs.declared.advisory.Advisory as given;
 ghost use Rattle.rustsec_database.specs.Kept.{AreOpenedFor, IsKept, IsKeptLoadOf, IsKeptWith};
+ghost use Rattle.rustsec_database.specs.Latest.{later};
 ghost use Rattle.rustsec_database.specs.Loaded.{IsAtFault, IsFault, is_known};
 ghost use Rattle.rustsec_database.specs.Opened.{AreRead, IsOpenRefusal, IsReadRefusal};
 
@@ -18,17 +19,19 @@ use crate::filing::filed;
 use rustsec_advisory::Advisory;
 use rustsec_error::{Result, refused_file};
 use rustsec_folders::{Folders, source_paths};
-use rustsec_texts::Id;
+use rustsec_texts::{Date, Id};
 use rustsec_values::{Test, Text};
 use std::alloc::{AllocError, Global};
 use std::collections::BTreeSet;
 use std::marker::Model;
 
-/// A database of the advisories under a root that pass a test, beside the IDs of all advisories there.
+/// A database of the advisories under a root that pass a test, beside the IDs and the latest date of all advisories
+/// there.
 #[derive(Debug, Drop)]
 pub struct KeptDatabase {
     database: Database,
     ids: BTreeSet<Id>,
+    last_date: Option<Date>,
 }
 
 impl Model for KeptDatabase {
@@ -36,7 +39,7 @@ impl Model for KeptDatabase {
 
     ghost Value = { KeptValue };
 
-    ghost view = { λ k. record { advisories = k.database; ids = k.ids.keys } };
+    ghost view = { λ k. record { advisories = k.database; ids = k.ids.keys; last_date = k.last_date } };
 
     ghost invariant = { λ k. HaveIdsAmong k.ids.keys k.database };
 }
@@ -50,6 +53,19 @@ fn add_id(ids: &mut BTreeSet<Id>, id: &Id) -> std::result::Result<bool, AllocErr
     let id = Clone::clone(id)?;
     let fresh = ids.insert(id)?;
     Ok(fresh)
+}
+
+/// Returns the later of a date, if any, and another one.
+fn later(latest: Option<Date>, date: &Date) -> std::result::Result<Option<Date>, AllocError>
+    ensures { IfOk result (λ d. d ≡ later latest date.now) }
+{
+    match latest {
+        Some(other) if *date <= other => Ok(Some(other)),
+        _ => {
+            let date = Clone::clone(date)?;
+            Ok(Some(date))
+        }
+    }
 }
 
 /// Stores an advisory if it passes a test. No stored one has its ID.
@@ -71,18 +87,19 @@ fn store_if<T: Test<Advisory>>(
 }
 
 impl KeptDatabase {
-    /// Returns a database without advisories and without IDs.
+    /// Returns a database without advisories, IDs and a date.
     fn empty(alloc: Global) -> KeptDatabase
-        ensures { result ≡ record { advisories = []; ids = [] } }
+        ensures { result ≡ record { advisories = []; ids = []; last_date = None } }
     {
         KeptDatabase {
             database: Database::empty(alloc),
             ids: BTreeSet::new(alloc),
+            last_date: None,
         }
     }
 
-    /// Adds the advisory of a file, unless its ID is the placeholder: its ID, and the advisory itself if it passes a
-    /// test.
+    /// Adds the advisory of a file, unless its ID is the placeholder: its ID, its date if it is the latest,
+    /// and the advisory itself if it passes a test.
     fn added<T: Test<Advisory>>(
         self,
         alloc: Global,
@@ -99,13 +116,22 @@ impl KeptDatabase {
         if advisory.metadata.id.is_placeholder() {
             return Ok(self);
         }
-        let KeptDatabase { database, mut ids } = self;
+        let KeptDatabase {
+            database,
+            mut ids,
+            last_date,
+        } = self;
         let fresh = add_id(&mut ids, &advisory.metadata.id)?;
         if !fresh {
             return Err(duplicate(alloc, &advisory.metadata.id));
         }
+        let last_date = later(last_date, &advisory.metadata.date)?;
         let database = store_if(alloc, database, advisory, test)?;
-        Ok(KeptDatabase { database, ids })
+        Ok(KeptDatabase {
+            database,
+            ids,
+            last_date,
+        })
     }
 
     /// Loads one more file, with this path and this text, and returns the database.
@@ -148,8 +174,15 @@ impl KeptDatabase {
         self.ids.len()
     }
 
+    /// Returns the latest date of an advisory under the root, also of one that was not kept.
+    pub fn last_date(&self) -> Option<&Date>
+        ensures { option_map (λ d. d.now) result ≡ self.now.last_date }
+    {
+        self.last_date.as_ref()
+    }
+
     /// Opens the files under a root, read through `folders`, as `Database::open_with` does. An advisory that does not
-    /// pass a test is dropped as soon as its file was checked, and its ID is kept.
+    /// pass a test is dropped as soon as its file was checked. Its ID is kept, and its date if it is the latest.
     ///
     /// # Errors
     ///

@@ -16,7 +16,7 @@ pub use crate::database::{Database, Iter};
 pub use crate::entries::Entries;
 pub use crate::index::Index;
 pub use crate::kept::KeptDatabase;
-pub use crate::locked::Locked;
+pub use crate::locked::{Locked, Named};
 pub use crate::pair::{Pair, vulnerabilities_of};
 pub use crate::slot::Slot;
 pub use rustsec_folders::SourceFile;

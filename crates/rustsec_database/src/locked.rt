@@ -1,9 +1,9 @@
-//! Which advisories affect a package of a lockfile.
+//! Which advisories affect a package of a lockfile, and which are about one.
 
 ghost use Rattle.std.specs.Prelude.{◌≡◌, IfErr, IfOk};
 ghost use Rattle.std.specs.List.{list_any};
 ghost use Rattle.rustsec_error.specs.Failure.{IsMemory};
-ghost use Rattle.rustsec_database.specs.Kept.{touches_any};
+ghost use Rattle.rustsec_database.specs.Kept.{is_about_any, touches_any};
 ghost use Rattle.rustsec_database.specs.Places.{IsIndexByName, affects_at, is_named, places_from};
 
 use crate::index::Index;
@@ -100,5 +100,46 @@ impl<'a> Test<Advisory> for Locked<'a> {
     fn passes(&self, advisory: &Advisory) -> bool {
         let slots = self.slots(&advisory.metadata.package);
         affects_some(&advisory.versions, self.packages, slots)
+    }
+}
+
+/// The packages of a lockfile, with an index by their names. Contracts see it as the list of the packages. As a test it
+/// passes the advisories that are about one of them, whichever versions they affect.
+#[derive(Drop)]
+pub struct Named<'a> {
+    locked: Locked<'a>,
+}
+
+impl<'a> Model for Named<'a> {
+    ghost use Rattle.std.specs.Prelude.{List};
+    ghost use Rattle.rustsec_lock.specs.Package.{PackageValue};
+
+    ghost Value = { List PackageValue };
+
+    ghost view = { λ n. n.locked };
+}
+
+impl<'a> Named<'a> {
+    /// Returns the packages with their index.
+    ///
+    /// # Errors
+    ///
+    /// `OutOfMemory` alone.
+    pub fn new(alloc: Global, packages: &'a [Package]) -> Result<Named<'a>>
+        ensures ok { IfOk result (λ n. n ≡ packages.now) }
+        ensures err { IfErr result IsMemory }
+    {
+        let locked = Locked::new(alloc, packages)?;
+        Ok(Named { locked })
+    }
+}
+
+impl<'a> Test<Advisory> for Named<'a> {
+    ghost use Rattle.rustsec_database.specs.Kept.{is_about_any};
+
+    ghost passes = { λ packages a. is_about_any packages a };
+
+    fn passes(&self, advisory: &Advisory) -> bool {
+        !self.locked.slots(&advisory.metadata.package).is_empty()
     }
 }

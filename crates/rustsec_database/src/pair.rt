@@ -1,6 +1,6 @@
 //! Pairs of a package and an advisory that a query finds, as references.
 
-ghost use Rattle.std.specs.Prelude.{◌≡◌, ◌++◌, IfErr, IfOk, OnOk, map};
+ghost use Rattle.std.specs.Prelude.{◌≡◌, ◌++◌, ◌<◌, IfErr, IfOk, OnErr, OnOk, length, map};
 ghost use Rattle.rustsec_error.specs.Failure.{IsMemory};
 ghost use Rattle.rustsec_query.specs.Pairs.{as_vulnerability};
 
@@ -63,10 +63,13 @@ pub(crate) fn push_pairs<'a>(
 ///
 /// # Errors
 ///
-/// `OutOfMemory` alone.
+/// `OutOfMemory` alone, and only if there is a pair.
 pub fn vulnerabilities_of(alloc: Global, pairs: &[Pair<'_>]) -> Result<Items<Vulnerability>>
     ensures ok { IfOk result (λ v. v ≡ map as_vulnerability pairs.now) }
     ensures err { IfErr result IsMemory }
+
+    // An empty slice takes no memory.
+    ensures none { OnErr result (0 < length pairs.now) }
 {
     let mut vulnerabilities = Items::new(alloc);
     for pair in pairs {

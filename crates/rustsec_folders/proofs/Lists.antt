@@ -1,6 +1,6 @@
 -- Lists that are related place by place, and what one element more does.
-use Rattle.std.proofs.Common.{◌≡◌, ◌∙◌, ◌+◌, ◌<◌, ◌++◌, ℕ, List, [], ◌∷◌, get_or, length, take, sym, ap}
-use Rattle.std.specs.Prelude.{Contains, flat_map}
+use Rattle.std.proofs.Common.{◌≡◌, ◌∙◌, ◌+◌, ◌<◌, ◌++◌, ℕ, zero, suc, Bool, true, false, List, [], ◌∷◌, arith, cond, get_or, length, take, sym, ap}
+use Rattle.std.specs.Prelude.{Contains, filter, flat_map}
 use Rattle.std.proofs.lemmas.Grind.{flat_map-append}
 use Rattle.std.proofs.lemmas.List.{append-nil, take_more}
 use Rattle.rustsec_folders.specs.Listed.{Pairwise}
@@ -32,3 +32,15 @@ pub joined-push : {A : Type 0} (all : List A) (parts : List (List A)) (part : Li
     → all ++ part ≡ flat_map (λ p. p) (parts ++ part ∷ [])
 joined-push all parts part is =
     ap (λ xs. xs ++ part) is ∙ (ap (λ xs. flat_map (λ p. p) parts ++ xs) (sym (append-nil part)) ∙ sym (flat_map-append (λ p. p) parts (part ∷ [])))
+
+longer : {A : Type 0} (b : Bool) (x : A) (xs : List A) → 0 < length xs → 0 < length (cond b (x ∷ xs) xs)
+longer true x xs h = omega arith
+longer false x xs h = h
+
+-- a list with an element that is kept, at this place, is not empty after the others are left out
+pub filter-some : {A : Type 0} (p : A → Bool) (xs : List A) (i : ℕ) (x : A) → i < length xs → x ≡ get_or xs i x → p x ≡ true → 0 < length (filter p xs)
+filter-some p [] i x l is h = absurd (omega (arith, l))
+filter-some p (y ∷ ys) zero x l is h = rw (ap p (sym is) ∙ h) (omega arith)
+filter-some p (y ∷ ys) (suc i) x l is h =
+    let later : i < length ys = omega (arith, l) in
+    longer (p y) y (filter p ys) (filter-some p ys i x later is h)

@@ -1,6 +1,6 @@
 //! The names of a folder's entries, from its listing, which has a NUL after each name.
 
-ghost use Rattle.std.specs.Prelude.{◌≡◌, ◌⊎◌, ◌++◌, IfErr, IfOk, IsOkAnd, IsUtf8, OnOk, [], ◌∷◌, filter, not, option_map, string_bytes};
+ghost use Rattle.std.specs.Prelude.{◌≡◌, ◌⊎◌, ◌++◌, ◌<◌, IfErr, IfOk, IsOkAnd, IsUtf8, OnErr, OnOk, [], ◌∷◌, filter, length, not, option_map, string_bytes, true};
 ghost use Rattle.std.specs.Str.{is_utf8};
 ghost use Rattle.std.specs.Str.Lossy.{utf8_lossy, utf8_valid_len};
 ghost use Rattle.rustsec_files.specs.ReadFailures.{IsIoFailure, IsReadFailure, KeepsMemory, io_failure, read_message};
@@ -27,6 +27,7 @@ fn is_entry_name(name: &str) -> bool
 fn push_entry_name(alloc: Global, names: &mut Items<Text>, part: &str) -> Result<()>
     ensures ok { OnOk result (names.new ≡ names.old ++ filter is_entry_name (part.now ∷ [])) }
     ensures err { IfErr result IsMemory }
+    ensures none { OnErr result (is_entry_name part.now ≡ true) }
 {
     if is_entry_name(part) {
         let name = Text::from_str(alloc, part)?;
@@ -39,10 +40,13 @@ fn push_entry_name(alloc: Global, names: &mut Items<Text>, part: &str) -> Result
 ///
 /// # Errors
 ///
-/// `OutOfMemory` alone.
+/// `OutOfMemory` alone, and only if there is a name.
 pub fn entry_names(alloc: Global, listing: &str) -> Result<Items<Text>>
     ensures ok { IfOk result (λ names. names ≡ entry_names listing.now) }
     ensures err { IfErr result IsMemory }
+
+    // A listing without names takes no memory.
+    ensures none { OnErr result (0 < length (entry_names listing.now)) }
 {
     let mut names = Items::new(alloc);
     for part in listing.split('\0') {

@@ -1,5 +1,6 @@
 pub mod Closed
 pub mod Lists
+pub mod Prefixes
 pub mod Searches
 pub mod Shortest
 pub mod Sources

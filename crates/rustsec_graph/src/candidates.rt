@@ -7,6 +7,7 @@ ghost use Rattle.toml.specs.View.{table_view};
 ghost use Rattle.rustsec_graph.specs.Candidates.{candidate_of, in_entries, is_old, source_texts, texts_of, with_source, with_version, without_master, without_precise};
 ghost use Rattle.rustsec_graph.specs.Entries.{fits};
 
+use crate::releases::is_release;
 use rustsec_lock::package::Package;
 use rustsec_toml::{Section, TablePlace};
 use rustsec_values::{Items, Text};
@@ -20,19 +21,18 @@ use toml::Table;
 pub(crate) struct Candidate<'a> {
     old: bool,
     package: &'a Package,
-    release: Text,
     texts: Option<Items<Text>>,
 }
 
 impl<'a> Model for Candidate<'a> {
     ghost use Rattle.std.specs.Prelude.{◌≡◌, IfSome};
-    ghost use Rattle.rustsec_graph.specs.Candidates.{Candidate, candidate_of, texts_of, with_version};
+    ghost use Rattle.rustsec_graph.specs.Candidates.{Candidate, candidate_of, texts_of};
 
     ghost Value = { Candidate };
 
     ghost view = { λ c. candidate_of c.old c.«package».now };
 
-    ghost invariant = { λ c. (c.release ≡ with_version c.«package».now) × IfSome c.texts (λ texts. texts ≡ texts_of c.old c.«package».now) };
+    ghost invariant = { λ c. IfSome c.texts (λ texts. texts ≡ texts_of c.old c.«package».now) };
 }
 
 impl<'a> Candidate<'a> {
@@ -45,10 +45,10 @@ impl<'a> Candidate<'a> {
     }
 
     /// Returns the name and the version of the package.
-    pub(crate) fn release(&self) -> &str
-        ensures { result.now ≡ self.now.release }
+    pub(crate) fn release(&self, alloc: Global) -> Result<Text, AllocError>
+        ensures { IfOk result (λ text. text ≡ self.now.release) }
     {
-        self.release.as_str()
+        with_version(alloc, self.package)
     }
 
     /// Returns whether an entry is one of the texts that fit the package.
@@ -120,7 +120,7 @@ fn fits_alone(alloc: Global, candidate: &Candidate<'_>, entry: &str) -> Result<b
     ensures { IfOk result (λ b. b ≡ fits entry.now candidate.now) }
 {
     let package = candidate.package;
-    if package.name.as_str() == entry || candidate.release.as_str() == entry {
+    if package.name.as_str() == entry || is_release(package, entry) {
         return Ok(true);
     }
     fits_source(alloc, candidate.old, package, entry)
@@ -208,7 +208,6 @@ pub(crate) fn candidate_of<'a>(
 ) -> Result<Candidate<'a>, AllocError>
     ensures { IfOk result (λ candidate. candidate ≡ candidate_of old «package».now) }
 {
-    let release = with_version(alloc, package)?;
     let texts = if listed {
         Some(texts_of(alloc, old, package)?)
     } else {
@@ -217,7 +216,6 @@ pub(crate) fn candidate_of<'a>(
     Ok(Candidate {
         old,
         package,
-        release,
         texts,
     })
 }

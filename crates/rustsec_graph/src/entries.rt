@@ -10,7 +10,7 @@ ghost use Rattle.rustsec_graph.specs.Entries.{fits_at, found, is_local_at, is_sa
 use crate::candidates::Candidate;
 use crate::index::Index;
 use rustsec_toml::{Section, TablePlace};
-use rustsec_values::Items;
+use rustsec_values::{Items, Text};
 use std::alloc::{AllocError, Global};
 use toml::{Table, Value};
 
@@ -40,20 +40,27 @@ fn is_local_at(candidates: &[Candidate<'_>], place: usize) -> bool
 }
 
 /// Returns the name and the version of the package at a place.
-fn release_at<'c>(candidates: &'c [Candidate<'_>], place: usize) -> &'c str
-    ensures { result.now ≡ release_at candidates.now place }
+fn release_at(alloc: Global, candidates: &[Candidate<'_>], place: usize) -> Result<Text, AllocError>
+    ensures { IfOk result (λ text. text ≡ release_at candidates.now place) }
 {
     match candidates.get(place) {
-        Some(candidate) => candidate.release(),
-        None => "",
+        Some(candidate) => candidate.release(alloc),
+        None => Text::from_str(alloc, ""),
     }
 }
 
 /// Returns whether the packages at two places have the same name and version.
-fn is_same_release(candidates: &[Candidate<'_>], a: usize, b: usize) -> bool
-    ensures { result ≡ is_same_release candidates.now a b }
+fn is_same_release(
+    alloc: Global,
+    candidates: &[Candidate<'_>],
+    a: usize,
+    b: usize,
+) -> Result<bool, AllocError>
+    ensures { IfOk result (λ same. same ≡ is_same_release candidates.now a b) }
 {
-    release_at(candidates, a) == release_at(candidates, b)
+    let first = release_at(alloc, candidates, a)?;
+    let second = release_at(alloc, candidates, b)?;
+    Ok(first.as_str() == second.as_str())
 }
 
 /// Returns those of these places whose packages an entry fits.
@@ -116,33 +123,51 @@ fn only_local_among(candidates: &[Candidate<'_>], places: &[usize]) -> Option<us
 }
 
 /// Returns whether all packages of a list have the name and version of the one at a place.
-fn have_release(candidates: &[Candidate<'_>], places: &[usize], place: usize) -> bool
-    ensures { result ≡ list_all (λ x. is_same_release candidates.now x place) places.now }
+fn have_release(
+    alloc: Global,
+    candidates: &[Candidate<'_>],
+    places: &[usize],
+    place: usize,
+) -> Result<bool, AllocError>
+    ensures { IfOk result (λ all. all ≡ list_all (λ x. is_same_release candidates.now x place) places.now) }
 {
-    places
-        .iter()
-        .all(|other| is_same_release(candidates, *other, place))
+    for other in places {
+        if !is_same_release(alloc, candidates, *other, place)? {
+            return Ok(false);
+        }
+    }
+    Ok(true)
 }
 
 /// Returns the place of the only local package of a list, if all packages of the list have its name and version.
-fn only_local(candidates: &[Candidate<'_>], places: &[usize]) -> Option<usize>
-    ensures { result ≡ only_local candidates.now places.now }
+fn only_local(
+    alloc: Global,
+    candidates: &[Candidate<'_>],
+    places: &[usize],
+) -> Result<Option<usize>, AllocError>
+    ensures { IfOk result (λ place. place ≡ only_local candidates.now places.now) }
 {
-    let place = only_local_among(candidates, places)?;
-    if have_release(candidates, places, place) {
-        Some(place)
+    let Some(place) = only_local_among(candidates, places) else {
+        return Ok(None);
+    };
+    if have_release(alloc, candidates, places, place)? {
+        Ok(Some(place))
     } else {
-        None
+        Ok(None)
     }
 }
 
 /// Returns the place that an entry names, by the places of the packages that it fits.
-fn named_among(candidates: &[Candidate<'_>], places: &[usize]) -> Option<usize>
-    ensures { result ≡ option_or (only places.now) (only_local candidates.now places.now) }
+fn named_among(
+    alloc: Global,
+    candidates: &[Candidate<'_>],
+    places: &[usize],
+) -> Result<Option<usize>, AllocError>
+    ensures { IfOk result (λ place. place ≡ option_or (only places.now) (only_local candidates.now places.now)) }
 {
     match only(places) {
-        Some(place) => Some(place),
-        None => only_local(candidates, places),
+        Some(place) => Ok(Some(place)),
+        None => only_local(alloc, candidates, places),
     }
 }
 
@@ -172,7 +197,7 @@ fn named(alloc: Global, index: &Index<'_>, entry: &str) -> Result<Option<usize>,
         return fitting_alone(alloc, candidates, entry, *place);
     }
     let fitting = fitting_among(alloc, candidates, entry, near)?;
-    Ok(named_among(candidates, fitting.as_slice()))
+    named_among(alloc, candidates, fitting.as_slice())
 }
 
 /// Returns the place that a value of a list of entries names.

@@ -6,6 +6,7 @@ mod edges;
 mod entries;
 mod graph;
 mod index;
+mod releases;
 mod search;
 
 pub use crate::graph::Graph;

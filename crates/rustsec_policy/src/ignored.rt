@@ -1,6 +1,6 @@
 //! The entries of `ignore`: advisories that do not count.
 
-ghost use Rattle.std.specs.Prelude.{◌≡◌, ◌++◌, ◌∷◌, [], IfErr, IfOk, None, OnOk, Some, codes, option_map};
+ghost use Rattle.std.specs.Prelude.{◌≡◌, ◌++◌, ◌<◌, ◌∷◌, [], IfErr, IfOk, None, OnErr, OnOk, Some, codes, length, option_map};
 ghost use Rattle.std.specs.List.{filter_map};
 ghost use Rattle.toml.specs.View.{array_view, table_view, view};
 ghost use Rattle.rustsec_toml.specs.Fields.{list_of, required, text};
@@ -208,6 +208,9 @@ fn add_id(alloc: Global, ids: &mut Items<Id>, today: Option<&Date>, entry: &Igno
 pub(crate) fn ids_on(alloc: Global, today: Option<&Date>, entries: &[Ignored]) -> Result<Items<Id>>
     ensures ok { IfOk result (λ ids. ids_on (option_map (λ d. d.now) today.entry) entries.now ≡ Some ids) }
     ensures err { IfErr result (IsRefusal ErrorKind.BadParam (ids_on (option_map (λ d. d.now) today.entry) entries.now ≡ None)) }
+
+    // An empty slice takes no memory.
+    ensures none { OnErr result (0 < length entries.now) }
 {
     let mut ids = Items::new(alloc);
     for entry in entries {

@@ -1,6 +1,6 @@
 //! The tables of a policy file that decide what an audit finds and how it is written.
 
-ghost use Rattle.std.specs.Prelude.{◌≡◌, ◌∷◌, [], IfErr, IfOk, None, Some, codes, option_map};
+ghost use Rattle.std.specs.Prelude.{◌≡◌, ◌<◌, ◌∷◌, [], IfErr, IfOk, None, OnErr, Some, codes, length, option_map};
 ghost use Rattle.toml.specs.View.{table_view};
 ghost use Rattle.rustsec_lock.specs.Platforms.{arch_of, os_of};
 ghost use Rattle.rustsec_texts.specs.Informational.{informational_of};
@@ -129,10 +129,14 @@ impl AdvisoryPolicy {
     ///
     /// # Errors
     ///
-    /// `BadParam` if an entry has a last day and no day is given, with a message that names it; else `OutOfMemory`.
+    /// `BadParam` if an entry has a last day and no day is given, with a message that names it; else `OutOfMemory`, and
+    /// only if there is an entry.
     pub fn ignored_ids(&self, alloc: Global, today: Option<&Date>) -> Result<Items<Id>>
         ensures ok { IfOk result (λ ids. ids_on (option_map (λ d. d.now) today.entry) self.now.ignore ≡ Some ids) }
         ensures err { IfErr result (IsRefusal ErrorKind.BadParam (ids_on (option_map (λ d. d.now) today.entry) self.now.ignore ≡ None)) }
+
+        // A policy without entries takes no memory.
+        ensures none { OnErr result (0 < length self.now.ignore) }
     {
         ids_on(alloc, today, self.ignore.as_slice())
     }

@@ -1,6 +1,6 @@
 //! The affected functions of a vulnerability.
 
-ghost use Rattle.std.specs.Prelude.{◌≡◌, ◌≢◌, IfErr, IfOk, List, None, OnErr, map, option_map};
+ghost use Rattle.std.specs.Prelude.{◌≡◌, ◌≢◌, ◌<◌, [], IfErr, IfOk, List, None, OnErr, Some, length, map, option_map};
 ghost use Rattle.std.specs.List.{list_any};
 ghost use Rattle.semver.specs.EvalViews.{matches_views};
 ghost use Rattle.semver.specs.Identifiers.{parts_of};
@@ -40,7 +40,8 @@ fn matching(
     functions: &SortedMap<FunctionPath, Requirements>,
     version: &Version,
 ) -> Result<Vec<FunctionPath>, AllocError>
-    ensures { IfOk result (λ v. v.items ≡ matching (parts_of version.now) functions.now) }
+    ensures ok { IfOk result (λ v. v.items ≡ matching (parts_of version.now) functions.now) }
+    ensures none { OnErr result (0 < length (matching (parts_of version.now) functions.now)) }
 {
     let mut paths = Vec::new(alloc);
     for (path, reqs) in functions.as_map() {
@@ -53,12 +54,11 @@ fn matching(
 
 impl Vulnerability {
     /// Returns the paths of the listed functions with a requirement that the package's version matches, by Cargo's
-    /// rule
-    /// of matching, in the order of paths. The result is `None` if no function is listed.
+    /// rule of matching, in the order of paths. The result is `None` if no function is listed.
     ///
     /// # Errors
     ///
-    /// `OutOfMemory` alone.
+    /// `OutOfMemory` alone, and only if there is such a function.
     pub fn affected_functions(
         &self,
         alloc: Global,
@@ -68,6 +68,9 @@ impl Vulnerability {
 
         // The answer that no function is listed takes no memory.
         ensures refused { OnErr result (functions_of self.now ≢ None) }
+
+        // The answer that functions are listed, and none of them has such a requirement, takes no memory.
+        ensures none { OnErr result (functions_of self.now ≢ Some []) }
     {
         match &self.affected {
             Some(affected) => {

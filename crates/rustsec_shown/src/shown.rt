@@ -1,6 +1,6 @@
 //! Escapes texts of files, so that a terminal may show them and none of them adds a line.
 
-ghost use Rattle.std.specs.Prelude.{◌≡◌, ◌++◌, OnOk, string_bytes};
+ghost use Rattle.std.specs.Prelude.{◌≡◌, ◌++◌, ◌<◌, OnErr, OnOk, length, string_bytes};
 ghost use Rattle.std.specs.Char.Escape.{escape_unicode};
 ghost use Rattle.std.specs.Str.{encode_utf8_all};
 ghost use Rattle.rustsec_shown.specs.Shown.{is_hidden, shown, shown_char};
@@ -58,9 +58,12 @@ fn push_char(text: &mut String, c: char) -> Result<(), AllocError>
 ///
 /// # Errors
 ///
-/// Out of memory.
+/// Out of memory, and only if the text is not empty.
 pub fn push_shown(note: &mut String, text: &str) -> Result<(), AllocError>
-    ensures { OnOk result (string_bytes note.new ≡ string_bytes note.old ++ shown text.now) }
+    ensures ok { OnOk result (string_bytes note.new ≡ string_bytes note.old ++ shown text.now) }
+
+    // The empty text takes no memory.
+    ensures none { OnErr result (0 < length text.now) }
 {
     for c in text.chars() {
         push_char(note, c)?;

@@ -1,8 +1,9 @@
 -- The places at which a text is cut by a pattern.
-use Rattle.std.proofs.Common.{◌≡◌, MatchOption, Bor, ℕ, zero, suc, ◌==◌, ◌<◌, ◌≤◌, Bool, true, false, if◌then◌else◌, List, [], ◌∷◌, ◌++◌, length, take, drop, Option, Some, None, option_map, refl, ap, subst, ◌∙◌, arith, eq-eqb}
+use Rattle.std.proofs.Common.{◌≡◌, ◌≢◌, ◌+◌, MatchOption, Bor, ℕ, zero, suc, ◌==◌, append_assoc, get_or, get_or-drop, length-append, sym, ◌<◌, ◌≤◌, Bool, true, false, if◌then◌else◌, List, [], ◌∷◌, ◌++◌, length, take, drop, Option, Some, None, option_map, refl, ap, subst, ◌∙◌, arith, eq-eqb}
 use Rattle.std.proofs.Math.Seq.{drop-append_seam, take-append_seam}
 use Rattle.std.specs.Option.{option_or}
 use Rattle.std.proofs.lemmas.Bool.{eqb-true}
+use Rattle.std.proofs.lemmas.List.{get_or_append_left}
 use Rattle.std.specs.Str.Pattern.{FindsText, FindsTextPrefix, LacksTextAt, SplitsAroundMatch, StripsPrefix}
 use Rattle.rustsec_texts.specs.PatternCuts.{IsFirstCut, after_prefix, cut_at}
 
@@ -103,3 +104,16 @@ cut_at-from p text before after cut =
     cut_at-first p text after (length before) cut.first (ap (drop (length before)) cut.whole ∙ drop-append_seam before (p ++ after)) in
     let front : take (length before) text ≡ before = ap (take (length before)) cut.whole ∙ take-append_seam before (p ++ after) in
     found ∙ ap (λ (xs : List ℕ). Some (xs, after)) front
+
+-- a text is cut at the line that its first backquote begins
+pub cut_at-backquote : (text before after front rest : List ℕ) → text ≡ before ++ (96 ∷ after) → ((i : ℕ) → i < length before → get_or before i 0 ≢ 96)
+    → before ≡ front ++ (10 ∷ []) → after ≡ 96 ∷ 96 ∷ rest → cut_at (10 ∷ 96 ∷ 96 ∷ 96 ∷ []) text ≡ Some (front, rest)
+cut_at-backquote text before after front rest whole none line more =
+    cut_at-from (10 ∷ 96 ∷ 96 ∷ 96 ∷ []) text front rest (record {
+      whole = rw (whole, line, more) (append_assoc front (10 ∷ []) (96 ∷ 96 ∷ 96 ∷ rest));
+      first = λ i low later occurs.
+          let long : length before ≡ length front + 1 = rw line (length-append front (10 ∷ [])) in
+          let within : i + 1 < length before = omega arith in
+          let here : get_or text (i + 1) 0 ≡ 96 = sym (get_or-drop i text 1 0) ∙ ap (λ xs. get_or xs 1 0) occurs in
+          none (i + 1) within (sym (get_or_append_left before (96 ∷ after) 0 (i + 1) within) ∙ (ap (λ xs. get_or xs (i + 1) 0) (sym whole) ∙ here));
+    })

@@ -1,9 +1,9 @@
 //! The parts of an advisory file.
 
-ghost use Rattle.std.specs.Prelude.{◌≡◌, ◌↔◌, IfErr, IfOk, MatchOption, Some, None};
+ghost use Rattle.std.specs.Prelude.{◌≡◌, ◌↔◌, IfErr, IfOk, IfSome, MatchOption, Some, None};
 ghost use Rattle.rustsec_error.specs.Failure.{IsRefusal};
 ghost use Rattle.rustsec_texts.specs.PatternCuts.{IsSliceOf, after_prefix, cut_at};
-ghost use Rattle.rustsec_texts.specs.Parts.{AreParts, FileParts, ShowsBeginning, opening, parts_of};
+ghost use Rattle.rustsec_texts.specs.Parts.{AreParts, FileParts, ShowsBeginning, closing, opening, parts_of};
 
 use rustsec_error::{Error, ErrorKind, Result, refused_text};
 use rustsec_values::beginning_of;
@@ -50,11 +50,11 @@ impl<'a> Parts<'a> {
         let Some(body) = after_prefix(text, "```toml") else {
             return Err(wrong_start(alloc, text));
         };
-        let Some((front, rest)) = cut_at(body, "\n```") else {
+        let Some((front, rest)) = cut_at_end(body) else {
             return Err(refused_text(
                 alloc,
                 "the front matter has no end",
-                body,
+                first_line(body.trim_start()),
                 "a line that begins with three backquotes",
             ));
         };
@@ -63,7 +63,7 @@ impl<'a> Parts<'a> {
             return Err(refused_text(
                 alloc,
                 "no title below the front matter",
-                markdown,
+                first_line(markdown),
                 "`# ` and the title",
             ));
         };
@@ -96,6 +96,36 @@ fn cut_at<'a>(text: &'a str, pattern: &'static str) -> Option<(&'a str, &'a str)
     ensures { MatchOption result (cut_at pattern.now text.now ≡ None) (λ c. cut_at pattern.now text.now ≡ Some (c.0.now, c.1.now)) }
 {
     text.split_once(pattern)
+}
+
+/// Returns the text before the line that ends the front matter, and the text after its backquotes, if no other backquote is
+/// before them.
+fn cut_at_backquote(body: &str) -> Option<(&str, &str)>
+    ensures { IfSome result (λ c. cut_at closing body.now ≡ Some (c.0.now, c.1.now)) }
+{
+    let (before, after) = body.split_once('`')?;
+    let front = before.strip_suffix('\n')?;
+    let rest = after_prefix(after, "``")?;
+    Some((front, rest))
+}
+
+/// Returns the text before the line that ends the front matter, and the text after its backquotes. A front matter seldom has
+/// a backquote, and a character is found faster than a text.
+fn cut_at_end(body: &str) -> Option<(&str, &str)>
+    ensures { MatchOption result (cut_at closing body.now ≡ None) (λ c. cut_at closing body.now ≡ Some (c.0.now, c.1.now)) }
+{
+    if let Some(cut) = cut_at_backquote(body) {
+        return Some(cut);
+    }
+    cut_at(body, "\n```")
+}
+
+/// Returns the first line of a text.
+fn first_line(text: &str) -> &str {
+    match cut_at(text, "\n") {
+        Some((line, _)) => line,
+        None => text,
+    }
 }
 
 /// Returns the error for a text that does not begin as an advisory file; it shows the beginning.

@@ -8,7 +8,7 @@ use Rattle.rustsec_toml.proofs.Arrays.{items_more, items_start, items_stop}
 use Rattle.rustsec_advisory.proofs.requirements.requirements_in.Goals as goal
 
 pub loop-value-init : goal.loop-value-init
-loop-value-init c = rw c.new-read.ensures.items (items_start (text requirement_of))
+loop-value-init c = rw c.in_ok-read.ensures.items (items_start (text requirement_of))
 
 pub returns-in-Err-clause-err : goal.returns-in-Err-clause-err
 returns-in-Err-clause-err c =
