@@ -1,6 +1,8 @@
 -- Filters that keep each element of a list, and updates that no ignored advisory moves.
 use Rattle.std.proofs.Common.{◌≡◌, ◌∙◌, ◌≤◌, ◌&&◌, suc, Bool, true, false, List, [], ◌∷◌, Option, ap, arith, length, map, not, refl, subst, sym}
+use Rattle.std.specs.Borrow.{Bor}
 use Rattle.std.specs.List.{filter}
+use Rattle.std.proofs.lemmas.List.{length-map}
 use Rattle.semver.specs.Parse.{Parts}
 use Rattle.rustsec_lock.specs.Package.{PackageValue}
 use Rattle.rustsec_texts.specs.Ids.{IdValue}
@@ -39,6 +41,14 @@ left-case p q false x xs e k none = rw e (none (omega (arith, rw e at k)))
 pub none-left : {A : Type 0} (p q : A → Bool) (xs : List A) → length (filter (λ x. not (p x)) xs) ≡ length xs → filter (λ x. p x && q x) xs ≡ []
 none-left p q [] h = refl
 none-left p q (x ∷ xs) h = left-case p q (p x) x xs refl h (none-left p q xs)
+
+-- as many advisories in force as there are at all are the same ones
+pub kept-same : (ids : List IdValue) (kept all : List (Bor Advisory)) → map (λ (a : Bor Advisory). a.now) kept ≡ in_force ids (map (λ (a : Bor Advisory). a.now) all)
+    → length kept ≡ length all → map (λ (a : Bor Advisory). a.now) kept ≡ map (λ (a : Bor Advisory). a.now) all
+kept-same ids kept all is same =
+    let now : Bor Advisory → Advisory = λ a. a.now in
+    is ∙ all-kept (λ (b : Advisory). not (is_among ids b.metadata.id)) (map now all)
+    (ap length (sym is) ∙ (length-map kept now ∙ (same ∙ sym (length-map all now))))
 
 -- ---- updates
 

@@ -1,7 +1,10 @@
+pub mod Advised
 pub mod AllKept
 pub mod AsReport
 pub mod BothKinds
 pub mod Fixes
+pub mod FoundPackages
+pub mod KeptChecks
 pub mod Known
 pub mod MoreFindings
 pub mod MoreYanked

@@ -1,31 +1,28 @@
 -- There is one check of a subject: two answers that meet the definition are equal.
-use Rattle.std.proofs.Common.{◌≡◌, ◌≢◌, ◌∙◌, ◌+◌, ℕ, List, [], ◌∷◌, Option, Some, None, ap, map, refl, subst, sym}
-use Rattle.std.specs.Prelude.{not, option_and_then, option_map}
+use Rattle.std.proofs.Common.{◌≡◌, ◌≢◌, ◌∙◌, ℕ, List, [], ◌∷◌, Option, Some, None, ap, map, refl, subst, sym}
+use Rattle.std.specs.Prelude.{not}
 use Rattle.std.specs.Cmp.Lexicographic.{slice_cmp}
 use Rattle.std.specs.FinMap.{nat_cmp-IsAntisymmetric, slice_cmp-IsAntisymmetric}
-use Rattle.std.specs.List.{All, enumerate_from, filter, filter_map, flat_map}
+use Rattle.std.specs.List.{All, filter}
 use Rattle.std.specs.Ordering.{nat_cmp, ordering_reverse}
 use Rattle.std.specs.declared.cmp.Ordering.{Ordering}
 use Rattle.std.specs.declared.cmp.Ordering.TheVariants.{Equal, Greater, Less}
 use Rattle.std.proofs.lemmas.Cmp.{nat_list_cmp_total}
-use Rattle.std.proofs.lemmas.List.Elements.{All-append, All-cons, All-filter, All-head, All-map, All-nil, All-same, All-tail}
+use Rattle.std.proofs.lemmas.List.Elements.{All-filter, All-head, All-same, All-tail}
 use Rattle.rustsec_versions.specs.order.Precedence.{IsVersion}
 use Rattle.rustsec_lock.specs.Lockfile.{AreValid}
 use Rattle.rustsec_lock.specs.Package.{PackageValue}
 use Rattle.rustsec_graph.specs.Paths.{IsAnswer}
 use Rattle.rustsec_texts.specs.Ids.{IdValue}
-use Rattle.rustsec_texts.specs.declared.warning_kind.WarningKind.{WarningKind}
 use Rattle.rustsec_advisory.specs.declared.advisory.Advisory.{Advisory}
-use Rattle.rustsec_query.specs.Pairs.{finds}
-use Rattle.rustsec_report.specs.Report.{informational_query, query_of, wanted_kind}
-use Rattle.rustsec_report.specs.declared.settings.Settings.{Settings}
 use Rattle.rustsec_graph.specs.Edges.{dependents}
 use Rattle.rustsec_check.specs.Checks.{IsCheckOf, is_unused}
 use Rattle.rustsec_check.specs.Compatible.{is_compatible_with}
 use Rattle.rustsec_check.specs.Findings.{AreFindings, IsFinding, IsUpdate, is_denied, is_old, pair_of}
-use Rattle.rustsec_check.specs.Pairs.{as_vulnerable, as_wanted, counted, found, found_at, is_ignored, vulnerable_at, wanted_at}
+use Rattle.rustsec_check.specs.Pairs.{counted, found, is_ignored}
 use Rattle.rustsec_check.specs.Updates.{IsUpdateBy, UpdateValue, in_force, lists_with, movers}
 use Rattle.rustsec_check.specs.Values.{CheckValue, FindingValue, Found, SubjectValue}
+use Rattle.rustsec_check.proofs.FoundPackages.{found-of}
 use Rattle.rustsec_check.proofs.OneAnswer.{one-answer}
 
 -- ---- paths
@@ -85,9 +82,12 @@ one-finding-of s f g valid pair h k =
       update = update i;
     }
 
--- a pair whose package has a valid version
+-- a package with a valid version, and a pair of one
+abbrev pub HasVersion : PackageValue → Type 0
+HasVersion p = IsVersion p.version
+
 abbrev pub IsValidPair : Found → Type 0
-IsValidPair f = IsVersion f.«package».version
+IsValidPair f = HasVersion f.«package»
 
 one-list : (s : SubjectValue) (fs gs : List FindingValue) → All IsValidPair (map pair_of fs) → map pair_of fs ≡ map pair_of gs
     → All (IsFinding s) fs → All (IsFinding s) gs → fs ≡ gs
@@ -103,74 +103,12 @@ one-list s (f ∷ fs) (g ∷ gs) valid pairs h k =
     = one-list s fs gs (All-tail IsValidPair (pair_of f) (map pair_of fs) valid) tail (All-tail (IsFinding s) f fs h) (All-tail (IsFinding s) g gs k) in
     λ i. first i ∷ rest i
 
--- ---- the pairs of valid packages
-
-all-same : {A : Type 0} (P : A → Type 0) → ((x : A) → P x) → (xs : List A) → All P xs
-all-same P h [] = All-nil P
-all-same P h (x ∷ xs) = All-cons P x xs (h x) (all-same P h xs)
-
-vulnerable-valid : (advisories : List Advisory) (s : Settings) (placed : ℕ × PackageValue) → IsVersion placed.1.version
-    → All IsValidPair (vulnerable_at advisories s placed)
-unfolding vulnerable_at
-vulnerable-valid advisories s placed valid =
-    All-map IsValidPair (as_vulnerable placed) (filter (finds (query_of s) placed.1) advisories) (all-same _ (λ a. valid) _)
-
--- a pair of this package for a kind, if any
-abbrev pub of_kind : ℕ × PackageValue → Advisory → Option WarningKind → Option Found
-of_kind placed a kind = option_map (λ k. record { kind = Some k; advisory = a; «package» = placed.1; place = placed.0 }) kind
-
--- one more element
-one-more : {A : Type 0} (f : A → Option Found) → ((x : A) (y : Found) → f x ≡ Some y → IsValidPair y) → (x : A) (xs : List A)
-    → All IsValidPair (filter_map f xs) → (o : Option Found) → f x ≡ o → All IsValidPair (filter_map f (x ∷ xs))
-one-more f h x xs before None is = rw is before
-one-more f h x xs before (Some y) is = rw is (All-cons IsValidPair y (filter_map f xs) (h x y is) before)
-
-chosen-valid : {A : Type 0} (f : A → Option Found) → ((x : A) (y : Found) → f x ≡ Some y → IsValidPair y) → (xs : List A) → All IsValidPair (filter_map f xs)
-chosen-valid f h [] = All-nil IsValidPair
-chosen-valid f h (x ∷ xs) = one-more f h x xs (chosen-valid f h xs) (f x) refl
-
-some-same : {A : Type 0} (a b : A) → Some a ≡ Some b → a ≡ b
-some-same a b h = cc h
-
-of-kind-valid : (placed : ℕ × PackageValue) (a : Advisory) (kind : Option WarningKind) (y : Found) → IsVersion placed.1.version
-    → of_kind placed a kind ≡ Some y → IsValidPair y
-of-kind-valid placed a None y valid is = cc is
-of-kind-valid placed a (Some k) y valid is = subst IsValidPair (some-same _ y is) valid
-
-wanted-valid : (advisories : List Advisory) (s : Settings) (placed : ℕ × PackageValue) → IsVersion placed.1.version
-    → All IsValidPair (wanted_at advisories s placed)
-unfolding wanted_at
-wanted-valid advisories s placed valid =
-    chosen-valid (as_wanted s placed) (λ a y is. of-kind-valid placed a (option_and_then (wanted_kind s) a.metadata.informational) y valid is)
-    (filter (finds (informational_query s) placed.1) advisories)
-
-found-at-valid : (advisories : List Advisory) (s : Settings) (placed : ℕ × PackageValue) → IsVersion placed.1.version
-    → All IsValidPair (found_at advisories s placed)
-found-at-valid advisories s placed valid =
-    All-append IsValidPair (vulnerable_at advisories s placed) (wanted_at advisories s placed) (vulnerable-valid advisories s placed valid)
-    (wanted-valid advisories s placed valid)
-
--- a package with a valid version
-abbrev pub HasVersion : PackageValue → Type 0
-HasVersion p = IsVersion p.version
-
-found-from-valid : (advisories : List Advisory) (s : Settings) (n : ℕ) (packages : List PackageValue) → AreValid packages
-    → All IsValidPair (flat_map (found_at advisories s) (enumerate_from n packages))
-found-from-valid advisories s n [] valid = All-nil IsValidPair
-found-from-valid advisories s n (p ∷ ps) valid =
-    All-append IsValidPair (found_at advisories s (n, p)) (flat_map (found_at advisories s) (enumerate_from (n + 1) ps))
-    (found-at-valid advisories s (n, p) (All-head HasVersion p ps valid)) (found-from-valid advisories s (n + 1) ps (All-tail HasVersion p ps valid))
-
-found-valid : (advisories : List Advisory) (packages : List PackageValue) (s : Settings) → AreValid packages → All IsValidPair (found advisories packages s)
-unfolding found
-found-valid advisories packages s valid = found-from-valid advisories s 0 packages valid
-
 -- ---- the check
 
 one-findings : (s : SubjectValue) (fs gs : List FindingValue) → AreValid s.packages → AreFindings s fs → AreFindings s gs → fs ≡ gs
 one-findings s fs gs valid h k =
     let pairs = found s.advisories s.packages s.settings in
-    let all_valid = All-filter (λ f. not (is_ignored s.settings.ignore f)) IsValidPair pairs (found-valid s.advisories s.packages s.settings valid) in
+    let all_valid = All-filter (λ f. not (is_ignored s.settings.ignore f)) IsValidPair pairs (found-of HasVersion s.advisories s.packages s.settings valid) in
     one-list s fs gs (All-same IsValidPair (map pair_of fs) (counted s.settings.ignore pairs) h.pairs all_valid) (h.pairs ∙ sym k.pairs) h.each k.each
 
 pub one_check : (s : SubjectValue) (c d : CheckValue) → AreValid s.packages → IsCheckOf s c → IsCheckOf s d → d ≡ c

@@ -1,6 +1,7 @@
 -- The whole answer of a check.
 use Rattle.std.specs.Prelude.{◌≡◌, ◌&&◌, ◌-◌, not, ℕ, Bool, List, None, length, map}
 use Rattle.std.specs.List.{filter, list_any}
+use Rattle.rustsec_texts.specs.IdOrder.{id_eq}
 use Rattle.rustsec_texts.specs.Ids.{IdValue}
 use Rattle.rustsec_advisory.specs.declared.advisory.Advisory.{Advisory}
 use Rattle.rustsec_database.specs.Loaded.{has_id}
@@ -38,3 +39,9 @@ pub record IsCheckOf (s : SubjectValue) (c : CheckValue) : Type 0 where
   pub unknown : c.unknown ≡ filter (λ id. not (is_known s.advisories id)) s.settings.ignore
   -- the pairs that the least severity alone leaves out
   pub below_threshold : c.below_threshold ≡ count_of s (any_severity s.settings) - count_of s s.settings
+
+-- ---- ignored IDs by the IDs of all advisories, where a check is by some of them
+
+-- whether an ID is one of these, and no ignored pair has it
+abbrev pub is_unused_of : List IdValue → List IgnoredValue → IdValue → Bool
+is_unused_of ids ignored id = list_any (id_eq id) ids && not (list_any (λ (i : IgnoredValue). has_id id i.advisory) ignored)

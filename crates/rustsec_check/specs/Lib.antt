@@ -1,6 +1,7 @@
 pub mod AsReport
 pub mod Checks
 pub mod Compatible
+pub mod Facts
 pub mod Findings
 pub mod LeastFree
 pub mod Pairs

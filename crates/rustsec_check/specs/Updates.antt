@@ -32,9 +32,12 @@ counting advisories p = filter (selects (about p)) advisories
 abbrev pub in_force : List IdValue → List Advisory → List Advisory
 in_force ids advisories = filter (λ a. not (is_among ids a.metadata.id)) advisories
 
--- the requirements of an advisory and of others
+-- the requirements of advisories, and of an advisory and of others
+abbrev pub lists_of : List Advisory → List Lists
+lists_of advisories = map (λ (a : Advisory). a.versions) advisories
+
 abbrev pub lists_with : Advisory → List Advisory → List Lists
-lists_with a others = a.versions ∷ map (λ (o : Advisory). o.versions) others
+lists_with a others = a.versions ∷ lists_of others
 
 -- whether an advisory leaves a version affected; none is left if there is no version
 abbrev pub affects : Option Parts → Advisory → Bool
@@ -54,3 +57,17 @@ pub record IsUpdateBy (ids : List IdValue) (others : List Advisory) (p : Package
   pub rest : Option Parts
   pub least_rest : IsLeastFree (lists_with a (in_force ids others)) p.version rest
   pub moved_by : u.moved_by ≡ movers ids rest others
+
+-- ---- what the findings about one package share, which only helps proofs
+
+-- the advisories that count, the answer by these alone, and the least free version without the ignored ones
+pub record AdviceValue : Type 0 where
+  pub others : List Advisory
+  pub update : UpdateValue
+  pub rest : Option Parts
+
+pub record IsAdvice (ids : List IdValue) (p : PackageValue) (v : AdviceValue) : Type 0 where
+  pub least_free : IsLeastFree (lists_of v.others) p.version v.update.least_free
+  pub is_compatible : v.update.is_compatible ≡ is_compatible_with p.version v.update.least_free
+  pub least_rest : IsLeastFree (lists_of (in_force ids v.others)) p.version v.rest
+  pub moved_by : v.update.moved_by ≡ movers ids v.rest v.others

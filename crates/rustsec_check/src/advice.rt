@@ -1,12 +1,12 @@
 //! How a finding can be mended: the version to update to.
 
-ghost use Rattle.std.specs.Prelude.{◌≡◌, IfErr, IfOk, map, option_map};
+ghost use Rattle.std.specs.Prelude.{◌≡◌, IfErr, IfOk, length, map, option_map};
 ghost use Rattle.semver.specs.Identifiers.{parts_of};
 ghost use Rattle.rustsec_error.specs.Failure.{IsMemory};
 ghost use Rattle.rustsec_versions.specs.order.Precedence.{IsVersion};
 ghost use Rattle.rustsec_report.specs.Report.{is_among};
 ghost use Rattle.rustsec_check.specs.LeastFree.{IsLeastFree};
-ghost use Rattle.rustsec_check.specs.Updates.{IsUpdateBy, about, affects, counting, in_force, lists_with, movers};
+ghost use Rattle.rustsec_check.specs.Updates.{IsAdvice, IsUpdateBy, about, affects, counting, in_force, lists_of, lists_with, movers};
 
 use crate::compatible::is_compatible_with;
 use crate::update::least_free;
@@ -47,6 +47,47 @@ impl<'a> Model for Update<'a> {
       least_free = option_map parts_of u.least_free;
       is_compatible = u.is_compatible;
       moved_by = map (λ i. i.now) u.moved_by.items;
+    } };
+}
+
+impl<'a> Update<'a> {
+    /// Returns a copy.
+    fn copy(&self, alloc: Global) -> std::result::Result<Update<'a>, AllocError>
+        ensures { IfOk result (λ u. u ≡ self.now) }
+    {
+        let least_free = match &self.least_free {
+            Some(version) => Some(version.clone()?),
+            None => None,
+        };
+        let moved_by = self.moved_by.as_slice().to_vec(alloc)?;
+        Ok(Update {
+            least_free,
+            is_compatible: self.is_compatible,
+            moved_by,
+        })
+    }
+}
+
+/// What the findings about one package share: the advisories that count, and the answer by these alone.
+#[derive(Drop)]
+pub(crate) struct Advice<'a> {
+    others: Vec<&'a Advisory>,
+    update: Update<'a>,
+    /// The least free version without the ignored advisories.
+    rest: Option<Version>,
+}
+
+impl<'a> Model for Advice<'a> {
+    ghost use Rattle.std.specs.Prelude.{map, option_map};
+    ghost use Rattle.semver.specs.Identifiers.{parts_of};
+    ghost use Rattle.rustsec_check.specs.Updates.{AdviceValue};
+
+    ghost Value = { AdviceValue };
+
+    ghost view = { λ v. record {
+      others = map (λ a. a.now) v.others.items;
+      update = v.update;
+      rest = option_map parts_of v.rest;
     } };
 }
 
@@ -128,35 +169,101 @@ fn movers<'a>(
     Ok(moving)
 }
 
-/// Returns the requirements of an advisory and of others.
-fn lists_with<'a>(
+/// Returns the requirements of advisories.
+fn lists_of<'a>(
     alloc: Global,
-    advisory: &'a Advisory,
-    others: &[&'a Advisory],
+    advisories: &[&'a Advisory],
 ) -> std::result::Result<Vec<&'a Versions>, AllocError>
-    ensures { IfOk result (λ v. map (λ l. l.now) v.items ≡ lists_with advisory.now (map (λ a. a.now) others.now)) }
+    ensures { IfOk result (λ v. map (λ l. l.now) v.items ≡ lists_of (map (λ a. a.now) advisories.now)) }
 {
     let mut lists = Vec::new(alloc);
-    lists.push(&advisory.versions)?;
-    for other in others {
-        lists.push(&other.versions)?;
+    for advisory in advisories {
+        lists.push(&advisory.versions)?;
     }
     Ok(lists)
 }
 
 /// Returns the least free version of an advisory and of others.
-fn least_with(
+fn least_with<'a>(
     alloc: Global,
     version: &Version,
-    advisory: &Advisory,
-    others: &[&Advisory],
+    advisory: &'a Advisory,
+    others: &[&'a Advisory],
 ) -> Result<Option<Version>>
     ensures ok { IsVersion (parts_of version.now) → IfOk result (λ found.
         IsLeastFree (lists_with advisory.now (map (λ a. a.now) others.now)) (parts_of version.now) (option_map parts_of found)) }
     ensures err { IfErr result IsMemory }
 {
-    let lists = lists_with(alloc, advisory, others)?;
+    let mut lists = lists_of(alloc, others)?;
+    lists.insert(0, &advisory.versions).map_err(|_| AllocError)?;
     least_free(alloc, lists.as_slice(), version)
+}
+
+/// Returns the least free version of advisories.
+fn least_of(alloc: Global, version: &Version, advisories: &[&Advisory]) -> Result<Option<Version>>
+    ensures ok { IsVersion (parts_of version.now) → IfOk result (λ found.
+        IsLeastFree (lists_of (map (λ a. a.now) advisories.now)) (parts_of version.now) (option_map parts_of found)) }
+    ensures err { IfErr result IsMemory }
+{
+    let lists = lists_of(alloc, advisories)?;
+    least_free(alloc, lists.as_slice(), version)
+}
+
+/// Returns the least free version of the advisories that are kept of some, by that of all.
+fn least_of_kept(
+    alloc: Global,
+    version: &Version,
+    least: &Option<Version>,
+    all: &[&Advisory],
+    kept: &[&Advisory],
+) -> Result<Option<Version>>
+    requires same { length kept.now ≡ length all.now → map (λ a. a.now) kept.now ≡ map (λ a. a.now) all.now }
+    requires least { IsVersion (parts_of version.now) → IsLeastFree (lists_of (map (λ a. a.now) all.now)) (parts_of version.now) (option_map parts_of least.now) }
+    ensures ok { IsVersion (parts_of version.now) → IfOk result (λ found.
+        IsLeastFree (lists_of (map (λ a. a.now) kept.now)) (parts_of version.now) (option_map parts_of found)) }
+    ensures err { IfErr result IsMemory }
+{
+    if kept.len() != all.len() {
+        return least_of(alloc, version, kept);
+    }
+    match least {
+        Some(version) => Ok(Some(version.clone()?)),
+        None => Ok(None),
+    }
+}
+
+/// Returns what the findings about a package share.
+pub(crate) fn advice_about<'a>(
+    alloc: Global,
+    database: &'a Database,
+    ids: &[Id],
+    package: &Package,
+) -> Result<Advice<'a>>
+    ensures others { IfOk result (λ v. v.others ≡ counting database.now «package».now) }
+    ensures ok { IsVersion «package».now.version → IfOk result (IsAdvice ids.now «package».now) }
+    ensures err { IfErr result IsMemory }
+{
+    let others = counting(alloc, database, package)?;
+    let least_free = least_of(alloc, &package.version, others.as_slice())?;
+    let is_compatible = is_compatible_with(alloc, &package.version, &least_free)?;
+    let kept = in_force(alloc, ids, others.as_slice())?;
+    let rest = least_of_kept(
+        alloc,
+        &package.version,
+        &least_free,
+        others.as_slice(),
+        kept.as_slice(),
+    )?;
+    let moved_by = movers(alloc, ids, &rest, others.as_slice())?;
+    Ok(Advice {
+        others,
+        update: Update {
+            least_free,
+            is_compatible,
+            moved_by,
+        },
+        rest,
+    })
 }
 
 /// Returns how the finding of an advisory about a package can be mended, by the advisories that count.
@@ -189,17 +296,22 @@ fn update_by<'a>(
     })
 }
 
-/// Returns how the finding of an advisory about a package can be mended.
+/// Returns how the finding of an advisory about a package can be mended. An advisory that leaves neither answer of the
+/// others affected moves none.
 pub(crate) fn update_of<'a>(
     alloc: Global,
-    database: &'a Database,
     ids: &[Id],
+    advice: &Advice<'a>,
     package: &Package,
     advisory: &'a Advisory,
 ) -> Result<Update<'a>>
-    ensures ok { IsVersion «package».now.version → IfOk result (IsUpdateBy ids.now (counting database.now «package».now) «package».now advisory.now) }
+    requires { IsVersion «package».now.version → IsAdvice ids.now «package».now advice.now }
+    ensures ok { IsVersion «package».now.version → IfOk result (IsUpdateBy ids.now advice.now.others «package».now advisory.now) }
     ensures err { IfErr result IsMemory }
 {
-    let others = counting(alloc, database, package)?;
-    update_by(alloc, ids, others.as_slice(), package, advisory)
+    if affects(&advice.update.least_free, advisory) || affects(&advice.rest, advisory) {
+        return update_by(alloc, ids, advice.others.as_slice(), package, advisory);
+    }
+    let update = advice.update.copy(alloc)?;
+    Ok(update)
 }

@@ -37,7 +37,7 @@ fn is_about(id: &Id, pair: &IgnoredPair<'_>) -> bool
 }
 
 /// Returns whether some ignored pair has an advisory with an ID.
-fn has_pair(ignored: &[IgnoredPair<'_>], id: &Id) -> bool
+pub(crate) fn has_pair(ignored: &[IgnoredPair<'_>], id: &Id) -> bool
     ensures { result ≡ list_any (λ i. has_id id.now i.advisory) ignored.now }
 {
     ignored.iter().any(|pair| is_about(id, pair))

@@ -3,10 +3,12 @@
 ghost use Rattle.std.specs.Prelude.{◌≡◌, IfErr, IfOk, map, option_map};
 ghost use Rattle.std.specs.List.{list_any};
 ghost use Rattle.rustsec_error.specs.Failure.{IsMemory};
+ghost use Rattle.rustsec_check.specs.Facts.{AreAbout, AreFacts, ArePlaced};
 ghost use Rattle.rustsec_check.specs.Findings.{AreFindingsOf, IsFinding, denies, is_denied, is_old, is_same, pair_of};
 ghost use Rattle.rustsec_check.specs.Pairs.{as_ignored, left_out};
 
 use crate::advice::{Update, update_of};
+use crate::facts::{Facts, facts_about};
 use crate::found::{Found, is_ignored};
 use crate::subject::Viewed;
 use rustsec_advisory::Advisory;
@@ -132,26 +134,30 @@ pub(crate) fn is_old(baseline: Option<&Lockfile>, package: &Package) -> bool
     }
 }
 
-/// Returns the finding of a pair.
-fn finding_of<'a>(alloc: Global, subject: &Viewed<'a>, found: &Found<'a>) -> Result<Finding<'a>>
+/// Returns the finding of a pair, by the facts about its package.
+fn finding_of<'a>(
+    alloc: Global,
+    subject: &Viewed<'a>,
+    facts: &Facts<'a>,
+    found: &Found<'a>,
+) -> Result<Finding<'a>>
+    requires about { AreAbout facts.now found.now }
+    requires facts { AreFacts subject.now facts.now }
     ensures pair { IfOk result (λ f. pair_of f ≡ found.now) }
     ensures ok { IfOk result (IsFinding subject.now) }
     ensures err { IfErr result IsMemory }
 {
-    let package = found.package;
     let ids = subject.settings.ignore.as_slice();
-    let path = subject.graph.path_to(alloc, found.place)?;
-    let dependents = subject.graph.dependents(alloc, found.place)?;
-    let update = update_of(alloc, subject.database, ids, package, found.advisory)?;
+    let update = update_of(alloc, ids, &facts.advice, found.package, found.advisory)?;
     Ok(Finding {
         kind: found.kind,
         advisory: found.advisory,
-        package,
+        package: found.package,
         place: found.place,
         is_denied: is_denied(subject.denied, found.kind),
-        is_old: is_old(subject.baseline, package),
-        path,
-        dependents,
+        is_old: facts.is_old,
+        path: facts.path(alloc)?,
+        dependents: facts.dependents(alloc)?,
         update,
     })
 }
@@ -162,15 +168,19 @@ pub(crate) fn findings_of<'a>(
     subject: &Viewed<'a>,
     found: &[Found<'a>],
 ) -> Result<Vec<Finding<'a>>>
+    requires { ArePlaced subject.now.packages found.now }
     ensures ok { IfOk result (λ v. AreFindingsOf subject.now found.now v.items) }
     ensures err { IfErr result IsMemory }
 {
     let ids = subject.settings.ignore.as_slice();
     let mut findings = Vec::new(alloc);
+    let mut last = None;
     for pair in found {
         if !is_ignored(ids, pair) {
-            let finding = finding_of(alloc, subject, pair)?;
+            let facts = facts_about(alloc, subject, last.take(), pair)?;
+            let finding = finding_of(alloc, subject, &facts, pair)?;
             findings.push(finding).map_err(|_| AllocError)?;
+            last = Some(facts);
         }
     }
     Ok(findings)

@@ -5,8 +5,10 @@
 mod advice;
 mod checking;
 mod compatible;
+mod facts;
 mod findings;
 mod found;
+mod kept;
 mod outcome;
 mod ranges;
 mod subject;

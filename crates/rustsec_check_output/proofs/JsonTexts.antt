@@ -30,7 +30,7 @@ use Rattle.rustsec_check.specs.Values.{FindingValue, IgnoredValue, YankedValue}
 use Rattle.rustsec_check_output.specs.JsonParts.{first_json, key_json}
 use Rattle.rustsec_check_output.specs.declared.part.First.TheVariants as first
 use Rattle.rustsec_check_output.specs.declared.part.Key.TheVariants as key
-use Rattle.rustsec_check_output.specs.CheckTree.{WrittenValue, advisory_entries, advisory_tree, check_entries, check_tree, command, database_tree, finding_entries, finding_tree, ignored_tree, kind_text, last_date, many_tree, named_tree, packages_at, places_tree, reason_of, refused_tree, score_text, severity_of, sourced_tree, tenths_of, tree_line, until_of, update_tree, yanked_tree}
+use Rattle.rustsec_check_output.specs.CheckTree.{DatedValue, WrittenValue, advisory_entries, advisory_tree, check_entries, check_tree, command, database_tree, finding_entries, finding_tree, ignored_tree, kind_text, many_tree, named_tree, packages_at, places_tree, reason_of, refused_tree, score_text, severity_of, sourced_tree, tenths_of, tree_line, until_of, update_tree, yanked_tree}
 use Rattle.rustsec_check_output.specs.CheckJson.{named_rating_json, dated_json, moved_json, mended_json, yanked_there_json, reasons_json, listed_json, unneeded_json, advisory_json, boolean_json, check_json, command_json, cvss_json, database_json, database_pieces, entry_json, finding_json, found_json, found_pieces, ids_json, ignored_json, ignored_pieces, later_json, list_json, lockfile_json, looked_at_json, looked_at_pieces, many_json, named_json, optional_json, pair_json, pair_pieces, path_json, places_json, quoted, rating_json, rating_pieces, refused_json, requirements_json, said_json, said_pieces, score_json, severity_json, source_json, sourced_json, sourced_pieces, subject_json, subject_pieces, update_json, update_pieces, versions_json, versions_pieces, yanked_json, yanked_pieces}
 
 -- ---- values
@@ -197,9 +197,9 @@ all-ignored-is entries ps = list-is (ignored_tree entries) (ignored_json entries
 
 -- ---- the check
 
-database-is : (advisories : List Advisory) → compact_text (database_tree advisories) ≡ database_json advisories
+database-is : (d : DatedValue) → compact_text (database_tree d) ≡ database_json d
 unfolding database_json with_members first_json key_json serde_json_on_literals
-database-is advisories = λ i. database_pieces (decimal (length advisories)) (text-is (last_date advisories) i)
+database-is d = λ i. database_pieces (decimal d.count) (text-is d.last_date i)
 
 abbrev found_then : List ℕ → List ℕ → List ℕ → List ℕ → List ℕ → List ℕ
 found_then below database findings ignored rest =
@@ -213,11 +213,11 @@ pub check_is : (w : WrittenValue) → compact_text (check_tree w) ≡ check_json
 unfolding check_tree check_entries check_json found_json listed_json looked_at_json unneeded_json lockfile_json with_members first_json key_json serde_json_on_literals
 check_is w =
     let below = decimal w.check.below_threshold in
-    let database = database_json w.advisories in
+    let database = database_json w.database in
     let findings = list_json (finding_json w.packages) w.check.findings in
     let ignored = list_json (ignored_json w.entries) w.check.ignored in
     let pieces : compact_text (check_tree w) ≡ found_then below database findings ignored (looked_at_json w) =
-    λ i. found_then below (database-is w.advisories i) (findings-is w.packages w.check.findings i) (all-ignored-is w.entries w.check.ignored i)
+    λ i. found_then below (database-is w.database i) (findings-is w.packages w.check.findings i) (all-ignored-is w.entries w.check.ignored i)
     (looked_at_pieces (lockfile_json (length w.packages)) (texts-is w.notes i) (ids-is w.check.unknown i) (ids-is w.check.unused i) (all-yanked-is w.packages w.yanked i)) in
     pieces ∙ sym (found-then below database findings ignored (looked_at_json w))
 

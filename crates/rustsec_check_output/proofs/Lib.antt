@@ -1,5 +1,4 @@
 pub mod JsonTexts
-pub mod Latest
 pub mod NoFloats
 pub mod Pieces
 pub mod Places

@@ -27,7 +27,7 @@ use Rattle.rustsec_check.specs.Values.{FindingValue, IgnoredValue, YankedValue}
 use Rattle.rustsec_check_output.specs.JsonParts.{first_json, key_json}
 use Rattle.rustsec_check_output.specs.declared.part.First.TheVariants as first
 use Rattle.rustsec_check_output.specs.declared.part.Key.TheVariants as key
-use Rattle.rustsec_check_output.specs.CheckTree.{WrittenValue, kind_text, last_date, packages_at, reason_of, score_text, severity_of, tenths_of, until_of}
+use Rattle.rustsec_check_output.specs.CheckTree.{DatedValue, WrittenValue, kind_text, packages_at, reason_of, score_text, severity_of, tenths_of, until_of}
 
 -- ---- values
 
@@ -211,8 +211,8 @@ ignored_json entries i = entry_json (entry_with entries i.advisory.metadata.id) 
 abbrev pub database_pieces : List ℕ → List ℕ → List ℕ
 database_pieces count date = first_json first.AdvisoryCount ++ (count ++ (key_json key.LastDate ++ (date ++ codes "}")))
 
-unfoldable pub database_json : List Advisory → List ℕ
-database_json advisories = database_pieces (decimal (length advisories)) (optional_json quoted (last_date advisories))
+unfoldable pub database_json : DatedValue → List ℕ
+database_json d = database_pieces (decimal d.count) (optional_json quoted d.last_date)
 
 unfoldable pub lockfile_json : ℕ → List ℕ
 lockfile_json packages = first_json first.DependencyCount ++ (decimal packages ++ codes "}")
@@ -233,7 +233,7 @@ listed_json w = key_json key.Findings ++ (list_json (finding_json w.packages) w.
 
 -- the beginning, with it
 unfoldable pub found_json : WrittenValue → List ℕ
-found_json w = first_json first.BelowThreshold ++ (decimal w.check.below_threshold ++ (key_json key.Database ++ (database_json w.advisories ++ listed_json w)))
+found_json w = first_json first.BelowThreshold ++ (decimal w.check.below_threshold ++ (key_json key.Database ++ (database_json w.database ++ listed_json w)))
 
 -- the rest of it
 unfoldable pub unneeded_json : WrittenValue → List ℕ

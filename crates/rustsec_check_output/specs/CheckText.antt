@@ -284,7 +284,7 @@ looked_at_words advisories packages =
     counted advisories (codes " advisory and ") (codes " advisories and ") ++ (counted packages (codes " package\n") (codes " packages\n"))
 
 unfoldable pub last_line : WrittenValue → List ℕ
-last_line w = found_words w.check.findings w.yanked (length w.check.ignored) ++ looked_at_words (length w.advisories) (length w.packages)
+last_line w = found_words w.check.findings w.yanked (length w.check.ignored) ++ looked_at_words w.database.count (length w.packages)
 
 -- ---- the whole text
 

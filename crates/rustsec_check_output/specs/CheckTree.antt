@@ -23,10 +23,10 @@ use Rattle.rustsec_json.specs.Trees.{list_tree, optional_tree, text_tree}
 use Rattle.rustsec_report.specs.Trees.{Entry, ids_tree, lockfile_tree, object_of, severity_tree, versions_tree}
 use Rattle.rustsec_policy.specs.Entries.{entry_with}
 use Rattle.rustsec_policy.specs.declared.ignored.Ignored.{Ignored}
+use Rattle.rustsec_database.specs.Latest.{last_date}
 use Rattle.rustsec_fixer.specs.Words.{package_word, program_of}
 use Rattle.rustsec_check.specs.Updates.{UpdateValue}
 use Rattle.rustsec_check.specs.Values.{CheckValue, FindingValue, IgnoredValue, YankedValue}
-use Rattle.rustsec_check_output.specs.Latest.{latest}
 
 -- ---- packages
 
@@ -188,29 +188,36 @@ ignored_tree entries i = object_of (ignored_entries (entry_with entries i.adviso
 
 -- ---- the database and the lockfile
 
--- the latest date of an advisory
-abbrev pub last_date : List Advisory → Option (List ℕ)
-last_date advisories = latest (map (λ (a : Advisory). a.metadata.date) advisories)
+-- how many advisories a database has, and their latest date
+pub record DatedValue : Type 0 where
+  pub count : ℕ
+  pub last_date : Option (List ℕ)
 
-abbrev pub database_entries : List Advisory → List Entry
-database_entries advisories =
-    (codes "advisory-count", number (unsigned (length advisories)))
-    ∷ (codes "last-date", optional_tree text_tree (last_date advisories))
+-- the same for a list of advisories
+abbrev pub dated_of : List Advisory → DatedValue
+dated_of advisories = record { count = length advisories; last_date = last_date advisories }
+
+abbrev pub database_entries : DatedValue → List Entry
+database_entries d =
+    (codes "advisory-count", number (unsigned d.count))
+    ∷ (codes "last-date", optional_tree text_tree d.last_date)
     ∷ []
 
-abbrev pub database_tree : List Advisory → Data
-database_tree advisories = object_of (database_entries advisories)
+abbrev pub database_tree : DatedValue → Data
+database_tree d = object_of (database_entries d)
 
 -- ---- the check
 
--- a check with what it is written with: the advisories of the database, the packages of the lockfile, the entries of the
--- policy that ignore advisories, notes, and the yanked packages, if an index was asked
+-- a check with what it is written with
 pub record WrittenValue : Type 0 where
-  pub advisories : List Advisory
+  pub database : DatedValue
+  -- those of the lockfile
   pub packages : List PackageValue
   pub check : CheckValue
+  -- those of the policy that ignore advisories
   pub entries : List Ignored
   pub notes : List (List ℕ)
+  -- the yanked packages, if an index was asked
   pub yanked : Option (List YankedValue)
 
 -- what was found
@@ -226,7 +233,7 @@ found_entries w =
 -- what was looked at, notes, and what an index says, if one was asked
 abbrev pub looked_at_entries : WrittenValue → List Entry
 looked_at_entries w =
-    (codes "database", database_tree w.advisories)
+    (codes "database", database_tree w.database)
     ∷ (codes "lockfile", lockfile_tree (record { dependency_count = length w.packages }))
     ∷ (codes "notes", list_tree text_tree w.notes)
     ∷ (codes "yanked", optional_tree (list_tree (yanked_tree w.packages)) w.yanked)

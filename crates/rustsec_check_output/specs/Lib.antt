@@ -2,4 +2,3 @@ pub mod CheckJson
 pub mod CheckText
 pub mod CheckTree
 pub mod JsonParts
-pub mod Latest

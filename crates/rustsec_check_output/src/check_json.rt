@@ -2,7 +2,6 @@
 
 ghost use Rattle.std.specs.Prelude.{◌≡◌, ◌++◌, OnOk, string_bytes};
 ghost use Rattle.std.specs.Fmt.{decimal};
-ghost use Rattle.rustsec_check_output.specs.CheckTree.{last_date};
 ghost use Rattle.rustsec_check_output.specs.CheckJson.{listed_json, unneeded_json, check_json, database_json, found_json, lockfile_json, looked_at_json, optional_json, quoted};
 
 use crate::dated::Dated;
@@ -26,7 +25,7 @@ fn push_number(json: &mut String, number: usize) -> Result<(), AllocError>
 
 /// Appends the latest date of an advisory, null without an advisory.
 fn push_last_date(alloc: Global, json: &mut String, database: &Dated<'_>) -> Result<(), AllocError>
-    ensures { OnOk result (string_bytes json.new ≡ string_bytes json.old ++ optional_json quoted (last_date database.now)) }
+    ensures { OnOk result (string_bytes json.new ≡ string_bytes json.old ++ optional_json quoted database.now.last_date) }
 {
     match database.last_date() {
         Some(date) => push_quoted(alloc, json, date.as_str()),
@@ -43,7 +42,7 @@ fn push_database(alloc: Global, json: &mut String, database: &Dated<'_>) -> Resu
     ensures { OnOk result (string_bytes json.new ≡ string_bytes json.old ++ database_json database.now) }
 {
     push_first(json, First::AdvisoryCount)?;
-    push_number(json, database.advisories().len())?;
+    push_number(json, database.count())?;
     push_key(json, Key::LastDate)?;
     push_last_date(alloc, json, database)?;
     json.push_str("}")?;

@@ -1,31 +1,28 @@
-//! A database with the latest date of its advisories.
+//! How many advisories a database has, and their latest date.
 
-ghost use Rattle.std.specs.Prelude.{◌≡◌, option_map};
-ghost use Rattle.rustsec_check_output.specs.CheckTree.{last_date};
-ghost use Rattle.rustsec_check_output.specs.Latest.{later};
+ghost use Rattle.std.specs.Prelude.{◌≡◌, length, option_map};
+ghost use Rattle.rustsec_database.specs.Latest.{last_date, later};
+ghost use Rattle.rustsec_check_output.specs.CheckTree.{dated_of};
 
 use rustsec_advisory::Advisory;
-use rustsec_database::Database;
+use rustsec_database::{Database, KeptDatabase};
 use rustsec_texts::Date;
 use std::marker::Model;
 
-/// A database with the latest date of its advisories, which is found once. Contracts see it as its advisories.
+/// How many advisories a database has, and their latest date, which is found once.
 #[derive(Drop)]
 pub struct Dated<'a> {
-    database: &'a Database,
+    count: usize,
     latest: Option<&'a Date>,
 }
 
 impl<'a> Model for Dated<'a> {
-    ghost use Rattle.std.specs.Prelude.{◌≡◌, List, option_map};
-    ghost use Rattle.rustsec_advisory.specs.declared.advisory.Advisory as given;
-    ghost use Rattle.rustsec_check_output.specs.CheckTree.{last_date};
+    ghost use Rattle.std.specs.Prelude.{option_map};
+    ghost use Rattle.rustsec_check_output.specs.CheckTree.{DatedValue};
 
-    ghost Value = { List given.Advisory };
+    ghost Value = { DatedValue };
 
-    ghost view = { λ d. d.database.now };
-
-    ghost invariant = { λ d. option_map (λ date. date.now) d.latest ≡ last_date d.database.now };
+    ghost view = { λ d. record { count = d.count; last_date = option_map (λ date. date.now) d.latest } };
 }
 
 /// Returns the later of a date, if any, and another one.
@@ -56,32 +53,38 @@ fn last_date(advisories: &[Advisory]) -> Option<&Date>
 }
 
 impl<'a> Dated<'a> {
-    /// Returns a database with the latest date of its advisories.
+    /// Returns how many advisories a database has, and their latest date.
     pub fn new(database: &'a Database) -> Dated<'a>
-        ensures { result ≡ database.now }
+        ensures { result ≡ dated_of database.now }
     {
         let advisories = database.iter().as_slice();
-        let latest = last_date(advisories);
-        Dated { database, latest }
+        Dated {
+            count: advisories.len(),
+            latest: last_date(advisories),
+        }
     }
 
-    /// Returns the database.
-    pub fn database(&self) -> &'a Database
-        ensures { result.now ≡ self.now }
+    /// Returns how many advisories there are under the root of a kept database, and their latest date. Those that were
+    /// not kept count too.
+    pub fn of_kept(kept: &'a KeptDatabase) -> Dated<'a>
+        ensures { result ≡ record { count = length kept.now.ids; last_date = kept.now.last_date } }
     {
-        self.database
+        Dated {
+            count: kept.number(),
+            latest: kept.last_date(),
+        }
     }
 
-    /// Returns the advisories, in the order of the database.
-    pub fn advisories(&self) -> &[Advisory]
-        ensures { result.now ≡ self.now }
+    /// Returns how many advisories the database has.
+    pub fn count(&self) -> usize
+        ensures { result ≡ self.now.count }
     {
-        self.database.iter().as_slice()
+        self.count
     }
 
     /// Returns the latest date of an advisory.
     pub(crate) fn last_date(&self) -> Option<&Date>
-        ensures { option_map (λ d. d.now) result ≡ last_date self.now }
+        ensures { option_map (λ d. d.now) result ≡ self.now.last_date }
     {
         self.latest
     }

@@ -263,6 +263,6 @@ pub(crate) fn push_last(text: &mut String, written: &Written<'_, '_>) -> Result<
         written.yanked,
         check.ignored.len(),
     )?;
-    let advisories = written.database.advisories().len();
+    let advisories = written.database.count();
     push_looked_at(text, advisories, written.lockfile.packages.len())
 }

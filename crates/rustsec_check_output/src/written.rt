@@ -10,7 +10,7 @@ use std::marker::Model;
 /// A check, with what it is written with.
 #[derive(Drop)]
 pub struct Written<'a, 'b> {
-    /// The database that the check looked at.
+    /// How many advisories the database has that the check looked at, and their latest date.
     pub database: &'a Dated<'a>,
     /// The lockfile that the check looked at. Places of packages are places in it.
     pub lockfile: &'a Lockfile,
@@ -32,7 +32,7 @@ impl<'a, 'b> Model for Written<'a, 'b> {
     ghost Value = { WrittenValue };
 
     ghost view = { λ w. record {
-      advisories = w.database.now;
+      database = w.database.now;
       packages = w.lockfile.now.packages;
       check = w.check.now;
       entries = w.entries.now;

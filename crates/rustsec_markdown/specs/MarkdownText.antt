@@ -205,7 +205,7 @@ looked_at_words packages advisories =
     ++ counted advisories (codes " advisory.\n") (codes " advisories.\n"))
 
 unfoldable pub head : WrittenValue → List ℕ
-head w = found_words w.check.findings ++ looked_at_words (length w.packages) (length w.advisories)
+head w = found_words w.check.findings ++ looked_at_words (length w.packages) w.database.count
 
 -- ---- the whole text
 

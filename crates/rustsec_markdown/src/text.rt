@@ -61,10 +61,10 @@ fn push_looked_at(
 
 /// Appends how many packages and advisories a check looked at.
 fn push_sizes(text: &mut String, written: &Written<'_, '_>) -> std::result::Result<(), AllocError>
-    ensures ok { OnOk result (string_bytes text.new ≡ string_bytes text.old ++ looked_at_words (length written.now.packages) (length written.now.advisories)) }
+    ensures ok { OnOk result (string_bytes text.new ≡ string_bytes text.old ++ looked_at_words (length written.now.packages) written.now.database.count) }
     ensures short { OnOk result (length (string_bytes text.new) ≤ length (string_bytes text.old) + 150) }
 {
-    let advisories = written.database.advisories().len();
+    let advisories = written.database.count();
     push_looked_at(text, written.lockfile.packages.len(), advisories)
 }
 

@@ -52,7 +52,7 @@ below n = if n == 0 then [] else below_words n
 -- the page up to the findings
 unfoldable pub header : WrittenValue → List Piece
 header w =
-    found w.check.findings (length w.check.ignored) ++ (looked_at (length w.advisories) (length w.packages)
+    found w.check.findings (length w.check.ignored) ++ (looked_at w.database.count (length w.packages)
     ++ (below w.check.below_threshold ++ (frame part.MainStart ∷ [])))
 
 unfoldable pub head : WrittenValue → List Piece

@@ -1,6 +1,6 @@
 //! Writes texts of files as text of HTML (HTML Living Standard, sections 13.1.2.4 and 13.1.4).
 
-ghost use Rattle.std.specs.Prelude.{◌≡◌, ◌++◌, OnOk, string_bytes};
+ghost use Rattle.std.specs.Prelude.{◌≡◌, ◌++◌, ◌<◌, OnErr, OnOk, length, string_bytes};
 ghost use Rattle.std.specs.Str.{encode_utf8_all};
 ghost use Rattle.rustsec_shown.specs.Shown.{is_hidden};
 ghost use Rattle.rustsec_page.specs.Escaped.{escaped, is_veiled, referred, written_char};
@@ -45,7 +45,10 @@ fn push_char(text: &mut String, c: char) -> Result<(), AllocError>
 
 /// Appends a text as it is written.
 pub(crate) fn push_escaped(text: &mut String, content: &str) -> Result<(), AllocError>
-    ensures { OnOk result (string_bytes text.new ≡ string_bytes text.old ++ escaped content.now) }
+    ensures ok { OnOk result (string_bytes text.new ≡ string_bytes text.old ++ escaped content.now) }
+
+    // The empty text takes no memory.
+    ensures none { OnErr result (0 < length content.now) }
 {
     for c in content.chars() {
         push_char(text, c)?;

@@ -156,7 +156,7 @@ fn push_header(
 {
     let check = written.check;
     push_found(alloc, text, check.findings.as_slice(), check.ignored.len())?;
-    let advisories = written.database.advisories().len();
+    let advisories = written.database.count();
     push_looked_at(alloc, text, advisories, written.lockfile.packages.len())?;
     push_below(alloc, text, check.below_threshold)?;
     push_frame(text, Frame::MainStart)

@@ -1,6 +1,6 @@
 //! Appends the pieces of the page: its markup, and texts.
 
-ghost use Rattle.std.specs.Prelude.{◌≡◌, ◌++◌, [], ◌∷◌, OnOk, string_bytes};
+ghost use Rattle.std.specs.Prelude.{◌≡◌, ◌++◌, ◌<◌, [], ◌∷◌, OnErr, OnOk, length, string_bytes};
 ghost use Rattle.semver.specs.Identifiers.{parts_of, parts_text};
 ghost use Rattle.rustsec_page.specs.Pieces.{bytes_of, card, content, drawing, frame, item, number, section, style, text_of};
 
@@ -72,10 +72,13 @@ pub(crate) fn push_drawing(text: &mut String, part: Drawing) -> Result<(), Alloc
 ///
 /// # Errors
 ///
-/// Out of memory.
+/// Out of memory, and only if the text is not empty.
 #[tactic(auto, unfolding(crate::specs::Pieces::bytes_of))]
 pub fn push_content(text: &mut String, words: &str) -> Result<(), AllocError>
-    ensures { OnOk result (string_bytes text.new ≡ string_bytes text.old ++ text_of (content words.now ∷ [])) }
+    ensures ok { OnOk result (string_bytes text.new ≡ string_bytes text.old ++ text_of (content words.now ∷ [])) }
+
+    // The empty text takes no memory.
+    ensures none { OnErr result (0 < length words.now) }
 {
     push_escaped(text, words)?;
     Ok(())

@@ -1,4 +1,4 @@
-use Rattle.rustsec_check_output.proofs.Latest.{dates-all, dates-more}
+use Rattle.rustsec_database.proofs.Latest.{dates-all, dates-more}
 use Rattle.rustsec_check_output.proofs.dated.last_date.Goals as goal
 
 pub loop-advisory-preserved : goal.loop-advisory-preserved

@@ -1,6 +1,6 @@
 use Rattle.std.proofs.Common.{map, option_map, take}
 use Rattle.rustsec_advisory.specs.declared.advisory.Advisory.{Advisory}
-use Rattle.rustsec_check_output.proofs.Latest.{IsLatest}
+use Rattle.rustsec_database.proofs.Latest.{IsLatest}
 use Rattle.rustsec_check_output.proofs.dated.last_date.Given as goal
 
 -- the latest date so far
