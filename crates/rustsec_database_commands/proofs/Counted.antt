@@ -12,7 +12,7 @@ use Rattle.rustsec_osv_database.specs.declared.exported.Choice.{Choice}
 use Rattle.rustsec_commands.specs.Output.{Output, refused_as}
 use Rattle.rustsec_program.proofs.OneReading.{real}
 use Rattle.rustsec_database_commands.specs.Lint.{form_named}
-use Rattle.rustsec_database_commands.specs.Osv.{IsAnswered, IsExportedBy, answer_output, choice_of, status_for}
+use Rattle.rustsec_database_commands.specs.Osv.{IsAnswered, IsExportedBy, answer_output, choice_for, status_for}
 use Rattle.rustsec_database_commands.specs.Osv as documents
 use Rattle.rustsec_database_commands.specs.Stats.{IsCountedIn, stats_output}
 use Rattle.rustsec_database_commands.specs.Stats as counts
@@ -29,15 +29,15 @@ module _ (allowed : Allowed) (root : List ℕ) where
   not-counted name f e is h other =
       subst (λ (g : Option Form). IsCountedIn allowed root g (refused_as e.kind)) (sym is) (counts.refused e h other refl)
 
-  pub exported-by : (modified : List ℕ) (words : List (List ℕ)) (c : Choice) (o : Output) → Some c ≡ choice_of words
+  pub exported-by : (modified : List ℕ) (words : List (List ℕ)) (c : Choice) (o : Output) → Some c ≡ choice_for modified words
       → (advisories : List Advisory) × ((text : List ℕ) × ((missing : Bool) × (AreOpened allowed root advisories
       × (AreParts c modified advisories text missing × (o ≡ record { text = text; status = status_for missing })))))
-      → IsExportedBy allowed root modified (choice_of words) o
+      → IsExportedBy allowed root modified (choice_for modified words) o
   exported-by modified words c o is (advisories, (text, (missing, (opened, (parts, made))))) =
       subst (λ (d : Option Choice). IsExportedBy allowed root modified d o) is (documents.exported advisories text missing opened parts made)
 
-  pub not-exported : (modified : List ℕ) (words : List (List ℕ)) (c : Choice) (e : Failure) (o : Output) → Some c ≡ choice_of words
-      → IsOpenRefusal allowed root e → e.kind ≢ kind.OutOfMemory → o ≡ refused_as e.kind → IsExportedBy allowed root modified (choice_of words) o
+  pub not-exported : (modified : List ℕ) (words : List (List ℕ)) (c : Choice) (e : Failure) (o : Output) → Some c ≡ choice_for modified words
+      → IsOpenRefusal allowed root e → e.kind ≢ kind.OutOfMemory → o ≡ refused_as e.kind → IsExportedBy allowed root modified (choice_for modified words) o
   not-exported modified words c e o is h other made =
       subst (λ (d : Option Choice). IsExportedBy allowed root modified d o) is (documents.refused e h other made)
 

@@ -20,7 +20,7 @@ use Rattle.rustsec_program.proofs.Once as audits
 use Rattle.rustsec_database_commands.specs.Commands.{HaveOneOutput, IsOutputOf, IsOwnOutput, reads_input_of}
 use Rattle.rustsec_database_commands.specs.Lint.{IsLinted, IsLintedBy, IsLintedIn, entries_output, form_named, linted, unlisted}
 use Rattle.rustsec_database_commands.specs.Options.{AskedValue, asked_of}
-use Rattle.rustsec_database_commands.specs.Osv.{IsAnswered, IsAnsweredFor, IsExported, IsExportedBy, answer_output, choice_of, status_for}
+use Rattle.rustsec_database_commands.specs.Osv.{IsAnswered, IsAnsweredFor, IsExported, IsExportedBy, answer_output, choice_for, status_for}
 use Rattle.rustsec_database_commands.specs.Osv as documents
 use Rattle.rustsec_database_commands.specs.Stats.{IsCounted, IsCountedBy, IsCountedIn, asked_form, stats_output}
 use Rattle.rustsec_database_commands.specs.Stats as counts
@@ -125,7 +125,7 @@ module _ (allowed : Allowed) (once : AnswersOnce allowed) where
   own-once : (c : Command) (o p : Output) → IsOwnOutput allowed c o → IsOwnOutput allowed c p → o ≡ p
   own-once (lint root options) o p h k = lint-once root (asked_of options) o p h k
   own-once (stats root options) o p h k = stats-once root (asked_form options) o p h k
-  own-once (osv root modified options) o p h k = osv-once root modified (choice_of options) o p h k
+  own-once (osv root modified options) o p h k = osv-once root modified (choice_for modified options) o p h k
   own-once (query root name version) o p h k = query-once root (name_of name) (value_of (version_parts version)) o p h k
   own-once short o p h k = h ∙ sym k
 

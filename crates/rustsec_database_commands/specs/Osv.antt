@@ -1,6 +1,6 @@
 -- The outputs of `osv-database` and `query-osv`.
-use Rattle.std.specs.Prelude.{◌≡◌, ◌≢◌, ◌||◌, ℕ, Bool, List, Option, Some, None, codes, if◌then◌else◌}
-use Rattle.std.specs.List.{list_all, list_any}
+use Rattle.std.specs.Prelude.{◌≡◌, ◌≢◌, ◌||◌, ℕ, Bool, List, Option, Some, None, codes, if◌then◌else◌, nat_eq}
+use Rattle.std.specs.List.{list_all, list_any, starts_with}
 use Rattle.std.specs.Str.{bytes_eq}
 use Rattle.semver.specs.Parse.{Parts, version_parts}
 use Rattle.rustsec_values.specs.Reading.{value_of}
@@ -32,6 +32,14 @@ choice_of words =
     if list_all is_osv_option words then Some (record { skip_withdrawn = list_any is_skip words; normalized = list_any is_normalized words })
     else None
 
+-- whether a text has the form of an option: whether it begins with two hyphens
+abbrev pub is_option_form : List ℕ → Bool
+is_option_form text = starts_with nat_eq text (codes "--")
+
+-- the same, if the text for the time of the last change has not the form of an option
+abbrev pub choice_for : List ℕ → List (List ℕ) → Option Choice
+choice_for modified words = if is_option_form modified then None else choice_of words
+
 -- ---- osv-database
 
 -- status 1 if an advisory has no document, though it is not left out
@@ -44,14 +52,14 @@ pub data IsExported (allowed : Allowed) (root modified : List ℕ) (c : Choice) 
       → o ≡ record { text = text; status = status_for missing } → IsExported allowed root modified c o
   refused : (e : Failure) → IsOpenRefusal allowed root e → e.kind ≢ kind.OutOfMemory → o ≡ refused_as e.kind → IsExported allowed root modified c o
 
--- the same, or that the words are not options
+-- the same, or that the words are not options, or that an option is where the time is expected
 abbrev pub IsExportedBy : Allowed → List ℕ → List ℕ → Option Choice → Output → Type 0
 IsExportedBy allowed root modified None o = o ≡ usage
 IsExportedBy allowed root modified (Some c) o = IsExported allowed root modified c o
 
 -- an output of `osv-database` for a root, the time of the last change and the words after it
 abbrev pub IsDatabaseOutput : Allowed → List ℕ → List ℕ → List (List ℕ) → Output → Type 0
-IsDatabaseOutput allowed root modified words o = IsExportedBy allowed root modified (choice_of words) o
+IsDatabaseOutput allowed root modified words o = IsExportedBy allowed root modified (choice_for modified words) o
 
 -- ---- query-osv
 

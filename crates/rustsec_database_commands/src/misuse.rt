@@ -75,6 +75,18 @@ pub fn of_options(alloc: Global, words: &[&str]) -> Result<String, AllocError> {
     Ok(note)
 }
 
+/// Returns a note on an option where a time is expected, and the page on usage.
+pub fn of_no_time(alloc: Global, found: &str) -> Result<String, AllocError> {
+    let mut note = String::from_str(
+        alloc,
+        "rustsec_audit: the time of the last change is expected after the root, found `",
+    )?;
+    push_shown(&mut note, found)?;
+    note.push_str("`\n")?;
+    note.push_str(PAGE)?;
+    Ok(note)
+}
+
 /// Returns a note on words that are not all among these options, and the page on usage.
 pub fn of_unknown(alloc: Global, words: &[&str], names: &[&str]) -> Result<String, AllocError> {
     let mut note = String::from_str(alloc, "rustsec_audit: ")?;

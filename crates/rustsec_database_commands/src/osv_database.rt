@@ -6,7 +6,8 @@ ghost use Rattle.rustsec_advisory.specs.declared.advisory.Advisory.{Advisory};
 ghost use Rattle.rustsec_database.specs.Opened.{AreOpened, IsOpenRefusal};
 ghost use Rattle.rustsec_osv_database.specs.Lines.{AreParts};
 ghost use Rattle.std.specs.List.{list_all, list_any};
-ghost use Rattle.rustsec_database_commands.specs.Osv.{IsDatabaseOutput, choice_of, is_normalized, is_osv_option, is_skip, status_for};
+ghost use Rattle.rustsec_commands.specs.Output.{usage};
+ghost use Rattle.rustsec_database_commands.specs.Osv.{IsDatabaseOutput, choice_for, choice_of, is_normalized, is_osv_option, is_skip, status_for};
 
 use crate::misuse;
 use rustsec_database::Database;
@@ -72,6 +73,27 @@ fn choice_of(words: &[&str]) -> Option<Choice>
     })
 }
 
+/// Returns the same, if the text for the time of the last change has not the form of an option.
+fn choice_for(modified: &str, words: &[&str]) -> Option<Choice>
+    ensures { result ≡ choice_for modified.now (map (λ w. w.now) words.now) }
+{
+    if modified.starts_with("--") {
+        return None;
+    }
+    choice_of(words)
+}
+
+/// Returns the output on words that are not options, or on an option where the time is expected.
+fn misused(alloc: Global, modified: &str, words: &[&str]) -> std::result::Result<Output, AllocError>
+    ensures { IfOk result (λ o. o ≡ usage) }
+{
+    if modified.starts_with("--") {
+        return output::usage(alloc, misuse::of_no_time(alloc, modified).ok());
+    }
+    let names = &["--skip-withdrawn", "--normalized"];
+    output::usage(alloc, misuse::of_unknown(alloc, words, names).ok())
+}
+
 /// Exports all advisories of a database.
 fn exported_of(
     alloc: Global,
@@ -123,9 +145,8 @@ pub fn osv_database<F: Folders>(
     ensures ok { IfOk result (IsDatabaseOutput (F.allowed folders.old) root.now modified.now (map (λ w. w.now) words.now)) }
     ensures same { AllowSame (F.allowed folders.old) (F.allowed folders.new) }
 {
-    let Some(choice) = choice_of(words) else {
-        let names = &["--skip-withdrawn", "--normalized"];
-        return output::usage(alloc, misuse::of_unknown(alloc, words, names).ok());
+    let Some(choice) = choice_for(modified, words) else {
+        return misused(alloc, modified, words);
     };
     match export_root(alloc, folders, root, modified, choice) {
         Ok(output) => Ok(output),

@@ -2,6 +2,7 @@
 
 use crate::edition::form_note;
 use crate::file_path::FilePath;
+use crate::hints::lint_help;
 use crate::lines::{KeyIn, after_line, push_remarks};
 use crate::placement::{push_collection, push_folder, push_name};
 use crate::readings::reading_notes;
@@ -26,27 +27,30 @@ pub(crate) struct Source<'a> {
     pub found: Option<FoundForm>,
 }
 
-/// Returns a lint error after its line in the text of the advisory, if the line is known.
-fn placed(alloc: Global, text: &str, error: &linter::Error) -> Result<Option<Text>, AllocError> {
+/// Returns a lint error, and what helps against it, after its line in the text of the advisory, if the line is known.
+fn placed(
+    alloc: Global,
+    text: &str,
+    linter: &Linter,
+    error: &linter::Error,
+) -> Result<Option<Text>, AllocError> {
     let Some(line) = lint_error_line(alloc, text, error)? else {
         return Ok(None);
     };
-    let words = error.to_string(alloc)?;
+    let mut words = error.to_string(alloc)?;
+    words.push_str(&lint_help(alloc, linter, error)?)?;
     let placed = after_line(alloc, Some(line), &words)?;
     Ok(Some(placed))
 }
 
 /// Returns the lint errors of an advisory's text after their lines; of a very long text the first ones, and how many more
 /// there are.
-fn lint_words(
-    alloc: Global,
-    text: &str,
-    errors: &[linter::Error],
-) -> Result<Items<Text>, AllocError> {
+fn lint_words(alloc: Global, text: &str, linter: &Linter) -> Result<Items<Text>, AllocError> {
+    let errors = linter.errors();
     let mut words = Items::new(alloc);
     let shown = placed_errors(text);
     for error in errors.iter().take(shown) {
-        if let Some(line) = placed(alloc, text, error)? {
+        if let Some(line) = placed(alloc, text, linter, error)? {
             words.push(line)?;
         }
     }
@@ -100,7 +104,7 @@ pub(crate) fn words_of(
     remarks: &[Remark],
 ) -> Result<Items<Text>, AllocError> {
     let (text, advisory) = (source.text, source.linter.advisory());
-    let mut words = lint_words(alloc, text, source.linter.errors())?;
+    let mut words = lint_words(alloc, text, source.linter)?;
     if has_kind(remarks, RemarkKind::Misplaced) {
         push_place(alloc, &mut words, source)?;
     }

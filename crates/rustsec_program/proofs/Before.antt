@@ -62,11 +62,11 @@ module _ (a b : Allowed) (same : AllowSame a b) where
   -- ---- checks
 
   pub output-before : (form : Form) (g : Ground) (path : List ℕ) (o : Output) → IsLockfileOutput b form g path o → IsLockfileOutput a form g path o
-  output-before form g path o (l, (loaded, is)) = (l, (loaded-before (places_of g path) l loaded, is))
+  output-before form g path o (l, (loaded, is)) = (l, (loaded-before (places_of g.plan path) l loaded, is))
 
   pub check-refused-before : (g : Ground) (path : List ℕ) (e : Failure) → IsCheckedRefusal b g path e → IsCheckedRefusal a g path e
-  check-refused-before g path e (inl h) = inl (load-refused-before (places_of g path) e h)
-  check-refused-before g path e (inr (l, (loaded, h))) = inr (l, (loaded-before (places_of g path) l loaded, h))
+  check-refused-before g path e (inl h) = inl (load-refused-before (places_of g.plan path) e h)
+  check-refused-before g path e (inr (l, (loaded, h))) = inr (l, (loaded-before (places_of g.plan path) l loaded, h))
 
   pub answer-before : (form : Form) (g : Ground) (path : List ℕ) (o : Output) → IsAnswer b form g path o → IsAnswer a form g path o
   answer-before form g path o (checked h) = checked (output-before form g path o h)

@@ -5,4 +5,5 @@ pub mod NoteLists
 pub mod OneReading
 pub mod Once
 pub mod Grounds
+pub mod Kept
 pub mod ExplainPlain

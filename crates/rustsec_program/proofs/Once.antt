@@ -17,7 +17,7 @@ use Rattle.rustsec_page.proofs.Once.{page_once}
 use Rattle.rustsec_commands.proofs.lemmas.Once.{one-output-of}
 use Rattle.rustsec_program.specs.Check.{AreAnswers, AreAnswersTo, IsCheckOutput, IsCheckRefusal, IsCheckResult, IsManyOutput, IsManyRefusal, answered, checked, misused, misused_many, names_none, paths_of, refused, refused_many, separator, worst}
 use Rattle.rustsec_program.specs.CheckOptions.{CheckOption, options_of}
-use Rattle.rustsec_program.specs.Checked.{AreYankedIf, Form, FoundValue, Ground, IsAnswer, IsCheckedOutput, IsCheckedRefusal, IsFound, IsLockfileOutput, IsOutputFor, IsWrittenText, form_of, is_empty, line, places_of, subject_of, written_of}
+use Rattle.rustsec_program.specs.Checked.{AreYankedIf, BasisValue, Form, FoundValue, Ground, IsAnswer, IsCheckedOutput, IsCheckedRefusal, IsFound, IsLockfileOutput, IsOutputFor, IsWrittenText, basis_of, form_of, is_empty, line, places_of, subject_of, written_of}
 use Rattle.rustsec_program.specs.Checked as one
 use Rattle.rustsec_program.specs.Commands.{HaveOneOutput, IsOutputOf, IsOwnOutput, reads_input, reads_input_of}
 use Rattle.rustsec_program.specs.Explain.{IsExplainOutput, IsExplainRefusal, IsExplained, pairs_output}
@@ -48,9 +48,9 @@ module _ (allowed : Allowed) (once : AnswersOnce allowed) where
   text-once-for one.markdown lock w t u h k = h ∙ sym k
   text-once-for (one.line path) lock w t u h k = h ∙ sym k
 
-  output-once-for : (form : Form) (g : Ground) (l : LoadedValue) (f : FoundValue) (o p : Output) → IsOutputFor form g l f o → IsOutputFor form g l f p → o ≡ p
-  output-once-for form g l f o p h k =
-      let text : o.text ≡ p.text = text-once-for form l.locked.text (written_of g l f) o.text p.text h.text k.text in
+  output-once-for : (form : Form) (b : BasisValue) (l : LoadedValue) (f : FoundValue) (o p : Output) → IsOutputFor form b l f o → IsOutputFor form b l f p → o ≡ p
+  output-once-for form b l f o p h k =
+      let text : o.text ≡ p.text = text-once-for form l.locked.text (written_of b l f) o.text p.text h.text k.text in
       let status : o.status ≡ p.status = h.status ∙ sym k.status in
       λ i. record { text = text i; status = status i }
 
@@ -58,26 +58,26 @@ module _ (allowed : Allowed) (once : AnswersOnce allowed) where
       → IsCheckedOutput form g l p → o ≡ p
   checked-once form g l o p valid h k =
       let same = found-once g l h.found k.found valid h.is_found k.is_found in
-      output-once-for form g l k.found o p (subst (λ (f : FoundValue). IsOutputFor form g l f o) same h.is_output) k.is_output
+      output-once-for form (basis_of g) l k.found o p (subst (λ (f : FoundValue). IsOutputFor form (basis_of g) l f o) same h.is_output) k.is_output
 
   lockfile-output-once : (form : Form) (g : Ground) (path : List ℕ) (o p : Output) → IsLockfileOutput allowed form g path o
       → IsLockfileOutput allowed form g path p → o ≡ p
   lockfile-output-once form g path o p (l, (at, h)) (m, (there, k)) =
-      let same = loaded-once allowed once (places_of g path) l m at there in
+      let same = loaded-once allowed once (places_of g.plan path) l m at there in
       checked-once form g m o p (locked-valid allowed once path m.locked there.locked) (subst (λ (x : LoadedValue). IsCheckedOutput form g x o) same h) k
 
   output-or-refused : {P : Type 0} (form : Form) (g : Ground) (path : List ℕ) (o : Output) (e : Failure) → e.kind ≢ kind.OutOfMemory
       → IsLockfileOutput allowed form g path o → IsCheckedRefusal allowed g path e → P
-  output-or-refused form g path o e u (l, (at, h)) (inl k) = loaded-or-refused allowed once (places_of g path) l e u at k
+  output-or-refused form g path o e u (l, (at, h)) (inl k) = loaded-or-refused allowed once (places_of g.plan path) l e u at k
   output-or-refused form g path o e u (l, (at, h)) (inr (m, (there, k))) =
-      let same = loaded-once allowed once (places_of g path) m l there at in
-      true-or-false (is_empty g l) (subst (λ (x : LoadedValue). is_empty g x ≡ true) same (real kind.NotFound e u k).1) h.is_not_empty
+      let same = loaded-once allowed once (places_of g.plan path) m l there at in
+      true-or-false (is_empty (basis_of g) l) (subst (λ (x : LoadedValue). is_empty (basis_of g) x ≡ true) same (real kind.NotFound e u k).1) h.is_not_empty
 
   checked-refused-once : (g : Ground) (path : List ℕ) (e f : Failure) → e.kind ≢ kind.OutOfMemory → f.kind ≢ kind.OutOfMemory
       → IsCheckedRefusal allowed g path e → IsCheckedRefusal allowed g path f → e.kind ≡ f.kind
-  checked-refused-once g path e f u v (inl h) (inl k) = load-refused-once allowed once (places_of g path) e f u v h k
-  checked-refused-once g path e f u v (inl h) (inr (m, (there, k))) = loaded-or-refused allowed once (places_of g path) m e u there h
-  checked-refused-once g path e f u v (inr (l, (at, h))) (inl k) = loaded-or-refused allowed once (places_of g path) l f v at k
+  checked-refused-once g path e f u v (inl h) (inl k) = load-refused-once allowed once (places_of g.plan path) e f u v h k
+  checked-refused-once g path e f u v (inl h) (inr (m, (there, k))) = loaded-or-refused allowed once (places_of g.plan path) m e u there h
+  checked-refused-once g path e f u v (inr (l, (at, h))) (inl k) = loaded-or-refused allowed once (places_of g.plan path) l f v at k
   checked-refused-once g path e f u v (inr (l, (at, h))) (inr (m, (there, k))) = (real kind.NotFound e u h).0 ∙ sym (real kind.NotFound f v k).0
 
   -- ---- check

@@ -9,7 +9,7 @@ use Rattle.rustsec_check.specs.Findings.{fails}
 use Rattle.rustsec_check.specs.Values.{CheckValue, SubjectValue, YankedValue}
 use Rattle.rustsec_check.specs.Yanked.{AreYanked, yanked_fails}
 use Rattle.rustsec_check_output.specs.CheckText.{check_text}
-use Rattle.rustsec_check_output.specs.CheckTree.{WrittenValue, check_tree, many_tree, refused_tree, tree_line}
+use Rattle.rustsec_check_output.specs.CheckTree.{DatedValue, WrittenValue, check_tree, dated_of, many_tree, refused_tree, tree_line}
 use Rattle.rustsec_commands.specs.Output.{Output, refused_as}
 use Rattle.rustsec_index.specs.declared.yanked.YankedPackages.{YankedPackages}
 use Rattle.rustsec_markdown.specs.MarkdownText.{markdown_text}
@@ -17,7 +17,7 @@ use Rattle.rustsec_page.specs.Page.{IsPage}
 use Rattle.rustsec_places.specs.Places.{package_places}
 use Rattle.rustsec_sarif.specs.SarifTree.{sarif_tree}
 use Rattle.rustsec_program.specs.Locked.{AreLoadedAt, IsLoadRefusal, LoadedValue, Places}
-use Rattle.rustsec_program.specs.Notes.{dependency_notes, empty_notes, kind_notes}
+use Rattle.rustsec_program.specs.Notes.{dependency_notes, empty_notes, kind_notes, source_notes}
 use Rattle.rustsec_program.specs.Plan.{PlanValue}
 use Rattle.rustsec_program.specs.declared.shapes.Shape.{Shape}
 use Rattle.rustsec_program.specs.declared.shapes.Shape.TheVariants as shape
@@ -73,9 +73,18 @@ pub record Ground : Type 0 where
   pub plan : PlanValue
   pub advisories : List Advisory
 
+-- what the outputs for lockfiles have in common: the plan, how many advisories the database has, and their latest date
+pub record BasisValue : Type 0 where
+  pub plan : PlanValue
+  pub database : DatedValue
+
+-- likewise for a plan and all advisories
+abbrev pub basis_of : Ground → BasisValue
+basis_of g = record { plan = g.plan; database = dated_of g.advisories }
+
 -- whether the database or the lockfile is empty, and that is refused
-abbrev pub is_empty : Ground → LoadedValue → Bool
-is_empty g l = not g.plan.allow_empty && (length g.advisories == 0 || length l.locked.packages == 0)
+abbrev pub is_empty : BasisValue → LoadedValue → Bool
+is_empty b l = not b.plan.allow_empty && (b.database.count == 0 || length l.locked.packages == 0)
 
 -- what is checked
 abbrev pub subject_of : Ground → LoadedValue → SubjectValue
@@ -93,12 +102,13 @@ abbrev pub index_notes : Option YankedPackages → List (List ℕ)
 index_notes None = []
 index_notes (Some y) = y.unlisted
 
--- the notes on a check: those on the policy, on the kinds of warnings, on what is empty, on the lockfile's dependencies,
--- and on the index
-abbrev pub notes_of : Ground → LoadedValue → List (List ℕ)
-notes_of g l =
-    (((g.plan.wanted.notes ++ kind_notes g.plan.wanted.settings.informational_warnings)
-    ++ empty_notes (length g.advisories) (length l.locked.packages))
+-- the notes on a check: those on the policy, on the kinds of warnings, on what is empty, on the sources and the
+-- dependencies of the lockfile's packages, and on the index
+abbrev pub notes_of : BasisValue → LoadedValue → List (List ℕ)
+notes_of b l =
+    ((((b.plan.wanted.notes ++ kind_notes b.plan.wanted.settings.informational_warnings)
+    ++ empty_notes b.database.count (length l.locked.packages))
+    ++ source_notes l.locked.packages)
     ++ dependency_notes l.locked.packages l.locked.graph.unresolved)
     ++ index_notes l.yanked
 
@@ -117,13 +127,13 @@ pub record IsFound (g : Ground) (l : LoadedValue) (f : FoundValue) : Type 0 wher
   pub yanked : AreYankedIf (subject_of g l) l.yanked f.yanked
 
 -- what is written of it
-abbrev pub written_of : Ground → LoadedValue → FoundValue → WrittenValue
-written_of g l f = record {
-  advisories = g.advisories;
+abbrev pub written_of : BasisValue → LoadedValue → FoundValue → WrittenValue
+written_of b l f = record {
+  database = b.database;
   packages = l.locked.packages;
   check = f.check;
-  entries = g.plan.entries;
-  notes = notes_of g l;
+  entries = b.plan.entries;
+  notes = notes_of b l;
   yanked = f.yanked;
 }
 
@@ -137,30 +147,30 @@ abbrev pub status_of : FoundValue → ℕ
 status_of f = if fails f.check.findings || some_yanked_fail f.yanked then 1 else 0
 
 -- the output for what is found
-pub record IsOutputFor (form : Form) (g : Ground) (l : LoadedValue) (f : FoundValue) (o : Output) : Type 0 where
-  pub text : IsWrittenText form l.locked.text (written_of g l f) o.text
+pub record IsOutputFor (form : Form) (b : BasisValue) (l : LoadedValue) (f : FoundValue) (o : Output) : Type 0 where
+  pub text : IsWrittenText form l.locked.text (written_of b l f) o.text
   pub status : o.status ≡ status_of f
 
 -- the output for lockfiles that were loaded
 pub record IsCheckedOutput (form : Form) (g : Ground) (l : LoadedValue) (o : Output) : Type 0 where
-  pub is_not_empty : is_empty g l ≡ false
+  pub is_not_empty : is_empty (basis_of g) l ≡ false
   pub found : FoundValue
   pub is_found : IsFound g l found
-  pub is_output : IsOutputFor form g l found o
+  pub is_output : IsOutputFor form (basis_of g) l found o
 
 -- the files that are looked at for the lockfile at a path
-abbrev pub places_of : Ground → List ℕ → Places
-places_of g path = record { lock = path; baseline = g.plan.baseline; index = g.plan.wanted.index }
+abbrev pub places_of : PlanValue → List ℕ → Places
+places_of p path = record { lock = path; baseline = p.baseline; index = p.wanted.index }
 
 -- the output for the lockfile at a path
 abbrev pub IsLockfileOutput : Allowed → Form → Ground → List ℕ → Output → Type 0
-IsLockfileOutput allowed form g path o = (l : LoadedValue) × (AreLoadedAt allowed (places_of g path) l × IsCheckedOutput form g l o)
+IsLockfileOutput allowed form g path o = (l : LoadedValue) × (AreLoadedAt allowed (places_of g.plan path) l × IsCheckedOutput form g l o)
 
 -- how a lockfile is refused: a file is; or the database or the lockfile is empty
 abbrev pub IsCheckedRefusal : Allowed → Ground → List ℕ → Failure → Type 0
 IsCheckedRefusal allowed g path e =
-    IsLoadRefusal allowed (places_of g path) e
-    ⊎ ((l : LoadedValue) × (AreLoadedAt allowed (places_of g path) l × IsRefusal kind.NotFound (is_empty g l ≡ true) e))
+    IsLoadRefusal allowed (places_of g.plan path) e
+    ⊎ ((l : LoadedValue) × (AreLoadedAt allowed (places_of g.plan path) l × IsRefusal kind.NotFound (is_empty (basis_of g) l ≡ true) e))
 
 -- an output for the lockfile at a path, or the kind of its refusal, which is not out of memory
 pub data IsAnswer (allowed : Allowed) (form : Form) (g : Ground) (path : List ℕ) (o : Output) : Type 0 where

@@ -1,9 +1,12 @@
 -- The notes on what a check looks at.
-use Rattle.std.specs.Prelude.{◌++◌, ◌==◌, ℕ, Bool, if◌then◌else◌, List, [], ◌∷◌, codes, slice_index_or}
+use Rattle.std.specs.Prelude.{◌++◌, ◌==◌, ◌&&◌, not, ℕ, Bool, true, false, if◌then◌else◌, List, [], ◌∷◌, Option, None, Some, codes, slice_index_or}
 use Rattle.std.specs.Fmt.{decimal}
-use Rattle.std.specs.List.{enumerate_from, flat_map}
+use Rattle.std.specs.List.{enumerate_from, flat_map, list_any}
 use Rattle.semver.specs.Identifiers.{parts_text}
 use Rattle.rustsec_lock.specs.Package.{PackageValue}
+use Rattle.rustsec_lock.specs.Source.{Source, is_default}
+use Rattle.rustsec_lock.specs.declared.source.SourceKind.{SourceKind}
+use Rattle.rustsec_lock.specs.declared.source.SourceKind.TheVariants as kind
 use Rattle.rustsec_texts.specs.Informational.{informational_name, is_other_kind}
 use Rattle.rustsec_texts.specs.declared.informational.Informational.{Informational}
 
@@ -26,6 +29,39 @@ kind_notes kinds = flat_map kind_note kinds
 abbrev pub empty_notes : ℕ → ℕ → List (List ℕ)
 empty_notes advisories packages =
     note_if (advisories == 0) (codes "the database has no advisory") ++ note_if (packages == 0) (codes "the lockfile has no package")
+
+-- whether a kind of source is a sparse index
+abbrev pub is_sparse : SourceKind → Bool
+is_sparse kind.Registry = false
+is_sparse kind.SparseRegistry = true
+is_sparse kind.Git = false
+is_sparse kind.Path = false
+is_sparse kind.LocalRegistry = false
+is_sparse kind.Directory = false
+
+-- whether a source, if any, is not the default registry
+abbrev pub is_other_source : Option Source → Bool
+is_other_source None = false
+is_other_source (Some s) = not (is_default s)
+
+-- whether a source, if any, is the sparse index of the default registry
+abbrev pub is_sparse_source : Option Source → Bool
+is_sparse_source None = false
+is_sparse_source (Some s) = is_sparse s.kind && is_default s
+
+-- whether a package has a source that is not the default registry, or is from its sparse index
+unfoldable pub is_from_elsewhere : PackageValue → Bool
+is_from_elsewhere p = is_other_source p.source
+
+unfoldable pub is_from_sparse : PackageValue → Bool
+is_from_sparse p = is_sparse_source p.source
+
+-- the notes on packages from elsewhere, which are not audited, and on those from the sparse index
+abbrev pub source_notes : List PackageValue → List (List ℕ)
+source_notes packages =
+    note_if (list_any is_from_elsewhere packages) (codes "some packages are not from the default registry, and are not audited")
+    ++ note_if (list_any is_from_sparse packages)
+    (codes "some packages are from the sparse index of the default registry, which advisories without a source do not match")
 
 -- the note on a package whose dependency entries name no package of the lockfile, or several, by how many do
 unfoldable pub dependency_note : PackageValue → ℕ → List ℕ

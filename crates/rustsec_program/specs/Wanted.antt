@@ -1,5 +1,6 @@
 -- How the policy of a file and the words of a command join.
-use Rattle.std.specs.Prelude.{◌≡◌, ◌⊎◌, ◌++◌, ℕ, Bool, true, false, List, [], ◌∷◌, Option, Some, None, codes, is_some, unwrap_or}
+use Rattle.std.specs.Prelude.{◌≡◌, ◌⊎◌, ◌++◌, ◌&&◌, not, ℕ, Bool, true, false, List, [], ◌∷◌, Option, Some, None, codes, is_some, unwrap_or}
+use Rattle.std.specs.List.{list_any}
 use Rattle.rustsec_values.specs.ClosedTables.{value_named}
 use Rattle.rustsec_values.specs.Reading.{◌>>=◌, read_all, read_optional}
 use Rattle.rustsec_folders.specs.Allowed.{Allowed}
@@ -10,14 +11,16 @@ use Rattle.rustsec_texts.specs.Dates.{date_of}
 use Rattle.rustsec_texts.specs.Ids.{IdValue, id_of}
 use Rattle.rustsec_texts.specs.declared.informational.Informational.{Informational}
 use Rattle.rustsec_texts.specs.declared.informational.Informational.TheVariants as informational
-use Rattle.rustsec_policy.specs.Notes.{notes_of}
+use Rattle.rustsec_policy.specs.Notes.{is_yanked, notes_of}
 use Rattle.rustsec_policy.specs.Policies.{ids_on, index_of, policy_of}
 use Rattle.rustsec_policy.specs.Words.{denied_of, severity_named}
 use Rattle.rustsec_policy.specs.declared.policy.Policy.{Policy}
+use Rattle.rustsec_policy.specs.declared.words.Denied.{Denied}
 use Rattle.rustsec_policy.specs.declared.words.OutputFormat.{OutputFormat}
 use Rattle.rustsec_policy.specs.declared.words.OutputFormat.TheVariants as format
 use Rattle.rustsec_report.specs.declared.settings.Settings.{Settings}
 use Rattle.rustsec_program.specs.CheckOptions.{CheckOption, last_value, values_of}
+use Rattle.rustsec_program.specs.Notes.{note_if}
 use Rattle.rustsec_program.specs.declared.keys.Key.TheVariants as key
 use Rattle.rustsec_program.specs.declared.request.Request.{Request}
 use Rattle.rustsec_program.specs.declared.shapes.Coloring.{Coloring}
@@ -136,6 +139,11 @@ settings_of p r ids = record {
 abbrev pub index_by : Policy → Request → Option (List ℕ)
 index_by p r = or_else r.index (index_of p.yanked)
 
+-- the note on a word that denies yanked packages, if no index is asked
+abbrev pub word_notes : Bool → List Denied → List (List ℕ)
+word_notes has_index words =
+    note_if (not has_index && list_any is_yanked words) (codes "`--deny yanked` denies nothing without an index: no package is looked up")
+
 -- what is wanted; `None` if an entry of the policy has a last day and the words name no day
 abbrev pub wanted : Policy → Request → Option Wanted
 wanted p r = ids_on r.today p.advisories.ignore >>= λ ids. Some (record {
@@ -144,5 +152,5 @@ wanted p r = ids_on r.today p.advisories.ignore >>= λ ids. Some (record {
   shape = unwrap_or r.shape (policy_shape p.output.format);
   colored = has_colors r.color;
   index = index_by p r;
-  notes = notes_of (is_some (index_by p r)) p;
+  notes = notes_of (is_some (index_by p r)) p ++ word_notes (is_some (index_by p r)) r.denied;
 })

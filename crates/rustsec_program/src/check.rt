@@ -1,26 +1,57 @@
-//! The command `check`.
+//! The command `check`. Of the database it keeps the advisories about the lockfile's packages alone.
 
-ghost use Rattle.std.specs.Prelude.{◌≡◌, ◌⊎◌, IfErr, IfOk, List, map};
+ghost use Rattle.std.specs.Prelude.{◌≡◌, ◌⊎◌, [], IfErr, IfOk, List, map};
 ghost use Rattle.rustsec_advisory.specs.declared.advisory.Advisory.{Advisory};
+ghost use Rattle.rustsec_database.specs.Kept.{AreOpenedFor, is_about_any};
 ghost use Rattle.rustsec_database.specs.Opened.{AreOpened, IsOpenRefusal};
 ghost use Rattle.rustsec_folders.specs.Allowed.{AllowSame};
+ghost use Rattle.rustsec_lock.specs.Package.{PackageValue};
 ghost use Rattle.rustsec_program.specs.Check.{IsCheckOutput, IsCheckRefusal, IsCheckResult};
 ghost use Rattle.rustsec_program.specs.Checked.{IsCheckedRefusal, IsLockfileOutput, form_of};
 
-use crate::checked::{Ground, check_lockfile};
+use crate::checked::{kept_output, places_of};
 use crate::forms::form_of;
+use crate::locked::{Locked, locked_at, with_others};
 use crate::misuse;
 use crate::options::{Options, options_of};
 use crate::output::{self, Output, refusal};
 use crate::plan::Plan;
-use rustsec_check_output::Dated;
 use rustsec_commands::Paths;
-use rustsec_database::Database;
+use rustsec_database::{KeptDatabase, Named};
 use rustsec_error::Result;
 use rustsec_folders::Folders;
+use rustsec_lock::package::Package;
 use std::alloc::{AllocError, Global};
 
-/// Opens the database and checks the lockfile by a plan.
+/// Returns the packages of a lockfile that was read, or none if it was refused.
+fn packages_read(read: &Result<Locked>) -> &[Package]
+    ensures ok { IfOk read.now (λ l. result.now ≡ l.packages) }
+    ensures err { IfErr read.now (λ e. result.now ≡ []) }
+{
+    match read {
+        Ok(locked) => locked.lockfile.packages.as_slice(),
+        Err(_) => &[],
+    }
+}
+
+/// Opens the database under a root, and keeps of its advisories those about a package of a lockfile that was read.
+fn kept_for<F: Folders>(
+    alloc: Global,
+    folders: &mut F,
+    root: &str,
+    read: &Result<Locked>,
+) -> Result<KeptDatabase>
+    ensures ok { IfOk result (λ k. (packages : List PackageValue) × (AreOpenedFor (F.allowed folders.old) root.now (is_about_any packages) k
+        × IfOk read.now (λ l. packages ≡ l.packages))) }
+    ensures err { IfErr result (IsOpenRefusal (F.allowed folders.old) root.now) }
+    ensures same { AllowSame (F.allowed folders.old) (F.allowed folders.new) }
+{
+    let named = Named::new(alloc, packages_read(read))?;
+    KeptDatabase::open_with(alloc, folders, root, &named)
+}
+
+/// Reads the lockfile, opens the database and checks the lockfile by a plan. A refusal of the database is the answer also
+/// if the lockfile was refused.
 fn check_by_plan<'x, F: Folders>(
     alloc: Global,
     folders: &mut F,
@@ -34,17 +65,14 @@ fn check_by_plan<'x, F: Folders>(
         × IsCheckedRefusal (F.allowed folders.old) (record { plan = plan.now; advisories = advisories }) paths.entry.lock.now e))) }
     ensures same { AllowSame (F.allowed folders.old) (F.allowed folders.new) }
 {
-    let database = Database::open_with(alloc, folders, paths.root)?;
-    let dated = Dated::new(&database);
-    let ground = Ground {
-        plan,
-        database: &dated,
-    };
-    let form = form_of(plan, paths.lock);
-    check_lockfile(alloc, folders, form, &ground, paths.lock)
+    let read = locked_at(alloc, folders, paths.lock);
+    let kept = kept_for(alloc, folders, paths.root, &read)?;
+    let locked = read?;
+    let loaded = with_others(alloc, folders, places_of(plan, paths.lock), locked)?;
+    kept_output(alloc, form_of(plan, paths.lock), plan, &kept, &loaded)
 }
 
-/// Reads the options' values, the policy, the database and the lockfiles, in this order, and checks the lockfile.
+/// Reads the options' values and the policy, in this order, and checks the lockfile by the plan.
 fn check_options<F: Folders>(
     alloc: Global,
     folders: &mut F,

@@ -1,11 +1,15 @@
 //! Checks a lockfile, and writes what is found.
 
-ghost use Rattle.std.specs.Prelude.{◌≡◌, IfErr, IfOk, option_map, string_bytes, true};
+ghost use Rattle.std.specs.Prelude.{◌≡◌, IfErr, IfOk, List, option_map, string_bytes, true};
 ghost use Rattle.std.specs.Option.{option_copied};
 ghost use Rattle.rustsec_folders.specs.Allowed.{AllowSame};
 ghost use Rattle.rustsec_error.specs.Failure.{IsMemory, IsOfKind, IsRefusal};
+ghost use Rattle.rustsec_advisory.specs.declared.advisory.Advisory as given;
+ghost use Rattle.rustsec_check.specs.Checks.{IsCheckOf};
 ghost use Rattle.rustsec_check.specs.Subjects.{subject_view};
-ghost use Rattle.rustsec_program.specs.Checked.{AreYankedIf, FoundValue, IsCheckedOutput, IsCheckedRefusal, IsFound, IsLockfileOutput, IsOutputFor, IsWrittenText, is_empty, places_of, some_yanked_fail, status_of, subject_of};
+ghost use Rattle.rustsec_check.specs.Values.{SubjectValue};
+ghost use Rattle.rustsec_database.specs.Kept.{IsKept, is_about_any};
+ghost use Rattle.rustsec_program.specs.Checked.{AreYankedIf, FoundValue, IsCheckedOutput, IsCheckedRefusal, IsFound, IsLockfileOutput, IsOutputFor, IsWrittenText, basis_of, is_empty, places_of, some_yanked_fail, status_of, subject_of};
 ghost use Rattle.rustsec_program.specs.Places.{places_view};
 ghost use Rattle.rustsec_program.specs.Forms.{form_view};
 
@@ -18,6 +22,7 @@ use crate::readings::readings_note;
 use crate::wanted::Wanted;
 use rustsec_check::{Check, Subject, Yanked, check, yanked_fail, yanked_packages};
 use rustsec_check_output::{Dated, Written, check_line, check_text, many_line};
+use rustsec_database::{Database, KeptDatabase};
 use rustsec_error::{Error, ErrorKind, Result};
 use rustsec_folders::Folders;
 use rustsec_index::YankedPackages;
@@ -25,33 +30,90 @@ use rustsec_markdown::markdown_text;
 use rustsec_page::page_text;
 use rustsec_places::package_places;
 use rustsec_sarif::sarif_text;
+use rustsec_texts::Id;
 use std::alloc::Global;
 use std::marker::Model;
 
-/// What the checks of lockfiles have in common.
+/// What the outputs for lockfiles have in common.
 #[derive(Drop)]
-pub struct Ground<'a> {
+pub struct Basis<'a> {
     /// The plan.
     pub plan: &'a Plan<'a>,
-    /// The database, with the latest date of its advisories.
+    /// How many advisories the database has, and their latest date.
     pub database: &'a Dated<'a>,
 }
 
+impl<'a> Model for Basis<'a> {
+    ghost use Rattle.rustsec_program.specs.Checked.{BasisValue};
+
+    ghost Value = { BasisValue };
+
+    ghost view = { λ b. record { plan = b.plan.now; database = b.database.now } };
+}
+
+/// What the checks of lockfiles by all advisories have in common.
+#[derive(Drop)]
+pub struct Ground<'a> {
+    plan: &'a Plan<'a>,
+    database: &'a Database,
+    dated: Dated<'a>,
+}
+
 impl<'a> Model for Ground<'a> {
+    ghost use Rattle.std.specs.Prelude.{◌≡◌};
+    ghost use Rattle.rustsec_check_output.specs.CheckTree.{dated_of};
     ghost use Rattle.rustsec_program.specs.Checked.{Ground};
 
     ghost Value = { Ground };
 
     ghost view = { λ g. record { plan = g.plan.now; advisories = g.database.now } };
+
+    ghost invariant = { λ g. g.dated ≡ dated_of g.database.now };
+}
+
+impl<'a> Ground<'a> {
+    /// Returns what the checks by a plan and a database have in common. The latest date of the advisories is found once.
+    pub fn new(plan: &'a Plan<'a>, database: &'a Database) -> Ground<'a>
+        ensures { result ≡ record { plan = plan.now; advisories = database.now } }
+    {
+        Ground {
+            plan,
+            database,
+            dated: Dated::new(database),
+        }
+    }
+
+    /// Returns the plan.
+    pub fn plan(&self) -> &'a Plan<'a>
+        ensures { result.now ≡ self.now.plan }
+    {
+        self.plan
+    }
+
+    /// Returns the database.
+    pub fn database(&self) -> &'a Database
+        ensures { result.now ≡ self.now.advisories }
+    {
+        self.database
+    }
+
+    /// Returns what the outputs have in common.
+    fn basis(&self) -> Basis<'_>
+        ensures { result ≡ basis_of self.now }
+    {
+        Basis {
+            plan: self.plan,
+            database: &self.dated,
+        }
+    }
 }
 
 /// Returns whether the database or the lockfile is empty, and that is refused.
-fn is_empty(ground: &Ground<'_>, loaded: &Loaded) -> bool
-    ensures { result ≡ is_empty ground.now loaded.now }
+fn is_empty(basis: &Basis<'_>, loaded: &Loaded) -> bool
+    ensures { result ≡ is_empty basis.now loaded.now }
 {
-    let plan = ground.plan;
-    !plan.allow_empty
-        && (ground.database.advisories().is_empty() || loaded.locked.lockfile.packages.is_empty())
+    let plan = basis.plan;
+    !plan.allow_empty && (basis.database.count() == 0 || loaded.locked.lockfile.packages.is_empty())
 }
 
 /// Returns the text of a check of the lockfile with the text `lock`.
@@ -100,6 +162,19 @@ impl<'a> Found<'a> {
             None => None,
         }
     }
+
+    /// Returns what is found by all advisories under a root. This was found by those in `kept`, which are about the
+    /// lockfile's packages. `ids` are the ignored IDs.
+    fn with_all_ids(self, alloc: Global, kept: &KeptDatabase, ids: &'a [Id]) -> Result<Found<'a>>
+        ensures yanked { IfOk result (λ f. f.yanked ≡ self.entry.yanked) }
+        ensures check { IfOk result (λ f. (all : List given.Advisory) (s : SubjectValue) → IsKept (is_about_any s.packages) all kept.now
+            → s.advisories ≡ kept.now.advisories → s.settings.ignore ≡ ids.now → IsCheckOf s self.entry.check → IsCheckOf (record s { advisories = all }) f.check) }
+        ensures err { IfErr result IsMemory }
+    {
+        let Found { check, yanked } = self;
+        let check = check.with_all_ids(alloc, kept, ids)?;
+        Ok(Found { check, yanked })
+    }
 }
 
 /// Returns whether a yanked package, if an index was asked, is denied and not old.
@@ -138,18 +213,17 @@ fn with_readings(alloc: Global, form: Form<'_>, found: &Found<'_>, output: Outpu
 fn check_output<'x, 'c>(
     alloc: Global,
     form: Form<'_>,
-    ground: &'x Ground<'x>,
+    basis: &Basis<'_>,
     loaded: &'x Loaded,
     found: &'c Found<'x>,
 ) -> Result<Output>
-    ensures ok { IfOk result (IsOutputFor (form_view form.entry) ground.now loaded.now found.now) }
+    ensures ok { IfOk result (IsOutputFor (form_view form.entry) basis.now loaded.now found.now) }
     ensures err { IfErr result IsMemory }
 {
-    let plan = ground.plan;
-    let advisories = ground.database.advisories().len();
-    let notes = notes_of(alloc, &plan.wanted, advisories, loaded)?;
+    let plan = basis.plan;
+    let notes = notes_of(alloc, &plan.wanted, basis.database.count(), loaded)?;
     let written = Written {
-        database: ground.database,
+        database: basis.database,
         lockfile: &loaded.locked.lockfile,
         check: &found.check,
         entries: plan.policy.advisories.ignore.as_slice(),
@@ -163,12 +237,11 @@ fn check_output<'x, 'c>(
 }
 
 /// Returns what a check looks at.
-fn subject_of<'x>(ground: &'x Ground<'x>, loaded: &'x Loaded) -> Subject<'x>
-    ensures { subject_view result ≡ subject_of ground.now loaded.now }
+fn subject_of<'x>(plan: &'x Plan<'x>, database: &'x Database, loaded: &'x Loaded) -> Subject<'x>
+    ensures { subject_view result ≡ subject_of (record { plan = plan.now; advisories = database.now }) loaded.now }
 {
-    let plan = ground.plan;
     Subject {
-        database: ground.database.database(),
+        database,
         lockfile: &loaded.locked.lockfile,
         graph: &loaded.locked.graph,
         settings: &plan.wanted.settings,
@@ -194,11 +267,16 @@ fn yanked_of<'x>(
 }
 
 /// Returns what is found in a lockfile.
-fn found_in<'x>(alloc: Global, ground: &'x Ground<'x>, loaded: &'x Loaded) -> Result<Found<'x>>
-    ensures ok { IfOk result (IsFound ground.now loaded.now) }
+fn found_in<'x>(
+    alloc: Global,
+    plan: &'x Plan<'x>,
+    database: &'x Database,
+    loaded: &'x Loaded,
+) -> Result<Found<'x>>
+    ensures ok { IfOk result (IsFound (record { plan = plan.now; advisories = database.now }) loaded.now) }
     ensures err { IfErr result IsMemory }
 {
-    let subject = subject_of(ground, loaded);
+    let subject = subject_of(plan, database, loaded);
     let check = check(alloc, subject)?;
     let yanked = yanked_of(alloc, subject, loaded.yanked.as_ref())?;
     Ok(Found { check, yanked })
@@ -212,18 +290,22 @@ fn checked<'x>(
     loaded: &'x Loaded,
 ) -> Result<Output>
     ensures ok { IfOk result (λ o. (f : FoundValue) × (IsFound ground.now loaded.now f
-        × IsOutputFor (form_view form.entry) ground.now loaded.now f o)) }
+        × IsOutputFor (form_view form.entry) (basis_of ground.now) loaded.now f o)) }
     ensures err { IfErr result IsMemory }
 {
-    let found = found_in(alloc, ground, loaded)?;
-    check_output(alloc, form, ground, loaded, &found)
+    let found = found_in(alloc, ground.plan, ground.database, loaded)?;
+    check_output(alloc, form, &ground.basis(), loaded, &found)
 }
 
-/// Returns the error for an empty database or lockfile.
-fn empty(alloc: Global) -> Error
+/// Returns the error for an empty database or lockfile, by the number of advisories.
+fn empty(alloc: Global, advisories: usize) -> Error
     ensures { IsOfKind ErrorKind.NotFound result }
 {
-    let message = "there is no advisory in the database, or no package in the lockfile";
+    let message = if advisories == 0 {
+        "there is no advisory in the database (`--allow-empty` takes one)"
+    } else {
+        "there is no package in the lockfile (`--allow-empty` takes one)"
+    };
     Error::new(alloc, ErrorKind::NotFound, message)
 }
 
@@ -235,10 +317,10 @@ fn checked_output<'x>(
     loaded: &'x Loaded,
 ) -> Result<Output>
     ensures ok { IfOk result (IsCheckedOutput (form_view form.entry) ground.now loaded.now) }
-    ensures err { IfErr result (IsRefusal ErrorKind.NotFound (is_empty ground.now loaded.now ≡ true)) }
+    ensures err { IfErr result (IsRefusal ErrorKind.NotFound (is_empty (basis_of ground.now) loaded.now ≡ true)) }
 {
-    if is_empty(ground, loaded) {
-        return Err(empty(alloc));
+    if is_empty(&ground.basis(), loaded) {
+        return Err(empty(alloc, ground.dated.count()));
     }
     checked(alloc, form, ground, loaded)
 }
@@ -254,10 +336,9 @@ fn index_of(wanted: &Wanted) -> Option<&str>
 }
 
 /// Returns the files that are looked at for the lockfile at a path.
-fn places_of<'x>(ground: &'x Ground<'x>, path: &'x str) -> Places<'x>
-    ensures { places_view result ≡ places_of ground.now path.now }
+pub fn places_of<'x>(plan: &'x Plan<'x>, path: &'x str) -> Places<'x>
+    ensures { places_view result ≡ places_of plan.now path.now }
 {
-    let plan = ground.plan;
     Places {
         lock: path,
         baseline: plan.baseline,
@@ -281,6 +362,51 @@ pub fn check_lockfile<'x, F: Folders>(
     ensures err { IfErr result (IsCheckedRefusal (F.allowed folders.old) ground.now path.now) }
     ensures same { AllowSame (F.allowed folders.old) (F.allowed folders.new) }
 {
-    let loaded = load(alloc, folders, places_of(ground, path))?;
+    let loaded = load(alloc, folders, places_of(ground.plan(), path))?;
     checked_output(alloc, form, ground, &loaded)
+}
+
+/// Returns what is found in a lockfile by all advisories. `kept` has those about its packages.
+fn found_by_kept<'x>(
+    alloc: Global,
+    plan: &'x Plan<'x>,
+    kept: &'x KeptDatabase,
+    loaded: &'x Loaded,
+) -> Result<Found<'x>>
+    ensures ok { IfOk result (λ f. (all : List given.Advisory) → IsKept (is_about_any loaded.now.locked.packages) all kept.now
+        → IsFound (record { plan = plan.now; advisories = all }) loaded.now f) }
+    ensures err { IfErr result IsMemory }
+{
+    let found = found_in(alloc, plan, kept.database(), loaded)?;
+    found.with_all_ids(alloc, kept, plan.wanted.settings.ignore.as_slice())
+}
+
+/// Checks lockfiles that were loaded, and makes the output. `kept` has the advisories about the lockfile's packages. The
+/// output is that of a check by all advisories.
+///
+/// # Errors
+///
+/// `NotFound` if the database or the lockfile is empty and that is refused; else `OutOfMemory`.
+pub fn kept_output<'x>(
+    alloc: Global,
+    form: Form<'_>,
+    plan: &'x Plan<'x>,
+    kept: &'x KeptDatabase,
+    loaded: &'x Loaded,
+) -> Result<Output>
+    ensures ok { IfOk result (λ o. (all : List given.Advisory) → IsKept (is_about_any loaded.now.locked.packages) all kept.now
+        → IsCheckedOutput (form_view form.entry) (record { plan = plan.now; advisories = all }) loaded.now o) }
+    ensures err { IfErr result (λ e. (all : List given.Advisory) → IsKept (is_about_any loaded.now.locked.packages) all kept.now
+        → IsRefusal ErrorKind.NotFound (is_empty (basis_of (record { plan = plan.now; advisories = all })) loaded.now ≡ true) e) }
+{
+    let dated = Dated::of_kept(kept);
+    let basis = Basis {
+        plan: &*plan,
+        database: &dated,
+    };
+    if is_empty(&basis, loaded) {
+        return Err(empty(alloc, basis.database.count()));
+    }
+    let found = found_by_kept(alloc, plan, kept, loaded)?;
+    check_output(alloc, form, &basis, loaded, &found)
 }

@@ -103,17 +103,18 @@ pub fn finish<W: Write, N: Write>(
 
 /// Carries out the command that the words name, and returns its status:
 ///
-/// - `check`, a root, the path of a lockfile and options: reads the options' values, the policy, the database and the
-///   lockfiles, in this order, and writes what is found. Status 1 if a finding is denied and not old, else 0. A refusal
-///   gives `refused: KIND`, status 2. The input is not read;
+/// - `check`, a root, the path of a lockfile and options: writes what is found. Status 1 if a finding is denied and not
+///   old, else 0. A refusal gives `refused: KIND`, status 2: the first one of the options' values, the policy, the
+///   database, the lockfile, the older one and the index, in this order. The lockfile is read before the database. The
+///   input is not read;
 /// - `check-many`, a root and options: for each path of the input a line of JSON: the check of the lockfile there, or why
 ///   it is refused, which stops nothing. The status is the worst one. If an option, the policy, the database or the
 ///   list of paths is refused there are no lines, but `refused: KIND`, status 2. A list without a path is refused unless
 ///   `--allow-empty` is given;
-/// - `explain`, a root, the path of a lockfile, an ID or a name, and options: reads as `check` does, except the older
-///   lockfile, and writes for each pair of a package and an advisory of that ID or name why it is not a finding, or that
-///   it is affected; as lines, or as a list of JSON on one line. Status 0. A refusal is answered as under `check`. The
-///   input is not read;
+/// - `explain`, a root, the path of a lockfile, an ID or a name, and options: reads the options' values, the policy, the
+///   database and the lockfile, in this order, and writes for each pair of a package and an advisory of that ID or name
+///   why it is not a finding, or that it is affected; as lines, or as a list of JSON on one line. Status 0. A refusal is
+///   answered as under `check`. The input is not read;
 /// - one of these with too few words, or with a word that is not an option: the usage line, status 2;
 /// - any other words: as `rustsec_commands::run_over`.
 ///

@@ -18,7 +18,6 @@ use crate::options::{Options, options_of};
 use crate::output::{self, Output, refusal};
 use crate::plan::Plan;
 use crate::shapes::Shape;
-use rustsec_check_output::Dated;
 use rustsec_commands::{Paths, tree_line};
 use rustsec_database::Database;
 use rustsec_error::{ErrorKind, Result};
@@ -84,9 +83,9 @@ fn pairs_of<'x>(
     ensures ok { IfOk result (λ v. v.items ≡ pairs_of ground.now lockfile.now.packages text.now) }
     ensures err { IfErr result IsMemory }
 {
-    let plan = ground.plan;
+    let plan = ground.plan();
     let settings = &plan.wanted.settings;
-    let advisories = ground.database.advisories();
+    let advisories = ground.database().iter().as_slice();
     let packages = lockfile.packages.as_slice();
     match known_id(alloc, text)? {
         Some(id) => explain_id(alloc, settings, advisories, packages, &id),
@@ -114,7 +113,7 @@ fn pairs_output<'x>(
     ensures ok { IfOk result (λ o. o ≡ pairs_output ground.now lockfile.now.packages text.now) }
     ensures err { IfErr result IsMemory }
 {
-    let plan = ground.plan;
+    let plan = ground.plan();
     let pairs = pairs_of(alloc, ground, lockfile, text)?;
     let rules = rules_of(plan);
     let text = pairs_text(alloc, plan.wanted.shape, &rules, &pairs)?;
@@ -139,11 +138,7 @@ fn explain_by_plan<'x, F: Folders>(
 {
     let database = Database::open_with(alloc, folders, paths.root)?;
     let lockfile = Lockfile::load_with(alloc, folders, paths.lock)?;
-    let dated = Dated::new(&database);
-    let ground = Ground {
-        plan,
-        database: &dated,
-    };
+    let ground = Ground::new(plan, &database);
     let output = pairs_output(alloc, &ground, &lockfile, text)?;
     Ok(output)
 }

@@ -1,13 +1,16 @@
 //! Reads the lockfile of a check with the graph of its packages, the older lockfile of its baseline, and which packages are
 //! yanked.
 
-ghost use Rattle.std.specs.Prelude.{◌≡◌, IfErr, IfOk, None, Some, option_map};
+ghost use Rattle.std.specs.Prelude.{◌≡◌, ◌⊎◌, IfErr, IfOk, List, None, Option, Some, option_map};
+ghost use Rattle.toml.specs.Data.{Members};
+ghost use Rattle.toml.specs.Parse.{parse_document};
 ghost use Rattle.toml.specs.View.{table_view};
 ghost use Rattle.rustsec_folders.specs.Allowed.{AllowSame};
 ghost use Rattle.rustsec_graph.specs.Graph.{graph_of};
 ghost use Rattle.rustsec_lock.specs.Lockfile.{IsLockfileRefusal, lockfile_of, packages_of};
+ghost use Rattle.rustsec_lock.specs.Package.{PackageValue};
 ghost use Rattle.rustsec_error.specs.Failure.{IsOfKind, IsRefusal};
-ghost use Rattle.rustsec_program.specs.Locked.{AreLoadedAt, IsBaselineAt, IsBaselineRefusal, IsIndexRefusal, IsLoadRefusal, IsLockedAt, IsLockedTable, IsLockedText, IsYankedAt};
+ghost use Rattle.rustsec_program.specs.Locked.{AreLoadedAt, IsBaselineAt, IsBaselineRefusal, IsIndexRefusal, IsLoadRefusal, IsLockedAt, IsLockedText, IsYankedAt};
 ghost use Rattle.rustsec_program.specs.Places.{places_view};
 
 use rustsec_error::{Error, ErrorKind, Result, refused_file};
@@ -16,6 +19,7 @@ use rustsec_graph::Graph;
 use rustsec_index::{YankedPackages, yanked_in};
 use rustsec_lock::Lockfile;
 use rustsec_lock::package::Package;
+use rustsec_plain::plain_document;
 use rustsec_values::Text;
 use std::alloc::{AllocError, Global};
 use std::marker::Model;
@@ -49,46 +53,56 @@ impl Locked {
     }
 }
 
-/// Reads the lockfile of a TOML table, whose text this is.
-fn locked_of_table(alloc: Global, table: &Table, text: Text) -> Result<Locked>
-    ensures ok { IfOk result (λ l. (l.text ≡ text) × IsLockedTable (table_view table.now) l) }
+/// Reads the lockfile of a TOML table, and makes the graph of its packages.
+fn packages_of_table(alloc: Global, table: &Table) -> Result<(Lockfile, Graph)>
+    ensures ok { IfOk result (λ r. (packages_of (table_view table.now) ≡ Some r.0.packages)
+        × (r.1 ≡ graph_of (table_view table.now) r.0.packages)) }
     ensures err { IfErr result (IsRefusal ErrorKind.Parse (packages_of (table_view table.now) ≡ None)) }
 {
     let lockfile = Lockfile::from_table(alloc, table)?;
     let graph = Graph::from_table(alloc, table, &lockfile)?;
-    Ok(Locked {
-        text,
-        lockfile,
-        graph,
-    })
+    Ok((lockfile, graph))
 }
 
-/// Returns the error for a text that is not a TOML document; its cause is the reason of `toml`.
-fn no_document(alloc: Global, error: &toml::de::Error) -> Error
+/// Returns the error for a text that is not a TOML document.
+fn no_document(alloc: Global) -> Error
     ensures { IsOfKind ErrorKind.Parse result }
 {
-    match format!(in alloc; "{error}") {
-        Ok(cause) => {
-            let message = "the lockfile is not a TOML document";
-            Error::with_source(alloc, ErrorKind::Parse, message, &cause)
-        }
-        Err(refused) => Error::from(refused),
-    }
+    Error::new(
+        alloc,
+        ErrorKind::Parse,
+        "the lockfile is not a TOML document",
+    )
 }
 
-/// Reads the lockfile of a text.
-fn locked_of_text(alloc: Global, text: Text) -> Result<Locked>
-    ensures ok { IfOk result (IsLockedText text) }
-    ensures err { IfErr result (IsRefusal ErrorKind.Parse (lockfile_of text ≡ None)) }
+/// Reads the lockfile of a text, and makes the graph of its packages.
+fn packages_of_text(alloc: Global, text: &str) -> Result<(Lockfile, Graph)>
+    ensures ok { IfOk result (λ r. (table : Members) × ((parse_document text.now ≡ Some table)
+        × ((packages_of table ≡ Some r.0.packages) × (r.1 ≡ graph_of table r.0.packages)))) }
+    ensures err { IfErr result (IsRefusal ErrorKind.Parse (lockfile_of text.now ≡ None)) }
 {
-    match toml::table_from_str(alloc, text.as_str()) {
-        Ok(table) => locked_of_table(alloc, &table, text),
+    if let Some(table) = plain_document(alloc, text)? {
+        return packages_of_table(alloc, &table);
+    }
+    match toml::table_from_str(alloc, text) {
+        Ok(table) => packages_of_table(alloc, &table),
         Err(e) => {
             if e.is_memory() {
                 return Err(Error::from(AllocError));
             }
-            Err(no_document(alloc, &e))
+            Err(no_document(alloc))
         }
+    }
+}
+
+/// Returns the error for a text that is not a lockfile with the place of the fault, by the error without it.
+fn with_place(alloc: Global, text: &str, error: Error) -> Error
+    requires { IsRefusal ErrorKind.Parse (lockfile_of text.now ≡ None) error }
+    ensures { IsRefusal ErrorKind.Parse (lockfile_of text.now ≡ None) result }
+{
+    match Lockfile::from_str(alloc, text) {
+        Ok(_) => error,
+        Err(placed) => placed,
     }
 }
 
@@ -97,14 +111,25 @@ fn locked_of_file(alloc: Global, path: &str, text: Text) -> Result<Locked>
     ensures ok { IfOk result (IsLockedText text) }
     ensures err { IfErr result (IsRefusal ErrorKind.Parse (lockfile_of text ≡ None)) }
 {
-    match locked_of_text(alloc, text) {
-        Ok(locked) => Ok(locked),
-        Err(e) => Err(refused_file(alloc, path, &e)),
+    match packages_of_text(alloc, text.as_str()) {
+        Ok((lockfile, graph)) => Ok(Locked {
+            text,
+            lockfile,
+            graph,
+        }),
+        Err(e) => {
+            let placed = with_place(alloc, text.as_str(), e);
+            Err(refused_file(alloc, path, &placed))
+        }
     }
 }
 
 /// Reads the lockfile at a path, with the graph of its packages.
-fn locked_at<F: Folders>(alloc: Global, folders: &mut F, path: &str) -> Result<Locked>
+///
+/// # Errors
+///
+/// `Io` if the file cannot be read; `Parse` if its text is not a lockfile; else `OutOfMemory`.
+pub fn locked_at<F: Folders>(alloc: Global, folders: &mut F, path: &str) -> Result<Locked>
     ensures ok { IfOk result (IsLockedAt (F.allowed folders.old) path.now) }
     ensures err { IfErr result (IsLockfileRefusal (F.allowed folders.old) path.now) }
     ensures same { AllowSame (F.allowed folders.old) (F.allowed folders.new) }
@@ -179,6 +204,36 @@ impl Model for Loaded {
     ghost view = { λ l. record { locked = l.locked; baseline = option_map (λ b. b.packages) l.baseline; yanked = l.yanked } };
 }
 
+/// Reads the older lockfile, if one is named, and then which packages are yanked, if an index is asked. Returns them with
+/// a lockfile that was read before.
+///
+/// # Errors
+///
+/// `Io` if a file cannot be read; `Parse` if the older text is not a lockfile, or a file of the index is damaged; else
+/// `OutOfMemory`.
+pub fn with_others<F: Folders>(
+    alloc: Global,
+    folders: &mut F,
+    places: Places<'_>,
+    locked: Locked,
+) -> Result<Loaded>
+    ensures locked { IfOk result (λ l. l.locked ≡ locked) }
+    ensures baseline { IfOk result (λ l. IsBaselineAt (F.allowed folders.old) (places_view places.entry).baseline l.baseline) }
+    ensures yanked { IfOk result (λ l. IsYankedAt (F.allowed folders.old) (places_view places.entry).index locked.packages l.yanked) }
+    ensures err { IfErr result (λ e. IsBaselineRefusal (F.allowed folders.old) (places_view places.entry).baseline e
+        ⊎ ((b : Option (List PackageValue)) × (IsBaselineAt (F.allowed folders.old) (places_view places.entry).baseline b
+        × IsIndexRefusal (F.allowed folders.old) (places_view places.entry).index locked.packages e))) }
+    ensures same { AllowSame (F.allowed folders.old) (F.allowed folders.new) }
+{
+    let baseline = baseline_at(alloc, folders, places.baseline)?;
+    let yanked = yanked_at(alloc, folders, places.index, locked.packages())?;
+    Ok(Loaded {
+        locked,
+        baseline,
+        yanked,
+    })
+}
+
 /// Reads the lockfile, then the older one, if one is named, and then which packages are yanked, if an index is asked.
 ///
 /// # Errors
@@ -191,11 +246,5 @@ pub fn load<F: Folders>(alloc: Global, folders: &mut F, places: Places<'_>) -> R
     ensures same { AllowSame (F.allowed folders.old) (F.allowed folders.new) }
 {
     let locked = locked_at(alloc, folders, places.lock)?;
-    let baseline = baseline_at(alloc, folders, places.baseline)?;
-    let yanked = yanked_at(alloc, folders, places.index, locked.packages())?;
-    Ok(Loaded {
-        locked,
-        baseline,
-        yanked,
-    })
+    with_others(alloc, folders, places, locked)
 }

@@ -19,7 +19,7 @@ use crate::misuse;
 use crate::options::{Options, options_of};
 use crate::output::{self, Output, refusal, why};
 use crate::plan::Plan;
-use rustsec_check_output::{Dated, refused_line};
+use rustsec_check_output::refused_line;
 use rustsec_commands::Fault;
 use rustsec_database::Database;
 use rustsec_error::{Error, ErrorKind, Result};
@@ -204,7 +204,7 @@ fn write_lines<'x, F: Folders, W: Write, N: Write>(
 {
     let ground = job.ground;
     let paths = job.paths;
-    let plan = ground.plan;
+    let plan = ground.plan();
     let mut done = Done {
         status: 0,
         count: 0,
@@ -285,11 +285,7 @@ impl<'a> Prepared<'a> {
         ensures read { IfErr result (λ e. e ≢ fault.Read) }
         ensures same { AllowSame (F.allowed folders.old) (F.allowed folders.new) }
     {
-        let dated = Dated::new(&self.database);
-        let ground = Ground {
-            plan: &self.plan,
-            database: &dated,
-        };
+        let ground = Ground::new(&self.plan, &self.database);
         let job = Job {
             ground: &ground,
             paths: self.paths.as_slice(),

@@ -1,34 +1,20 @@
 //! Makes the notes on what a check looks at.
 
 ghost use Rattle.std.specs.Prelude.{◌≡◌, ◌++◌, IfOk, OnOk, length, slice_index_or};
+ghost use Rattle.std.specs.List.{list_any};
 ghost use Rattle.std.specs.Option.{option_copied};
 ghost use Rattle.rustsec_program.specs.Checked.{index_notes};
-ghost use Rattle.rustsec_program.specs.Notes.{dependency_note, dependency_notes, dependency_notes_at, empty_notes, kind_note, kind_notes, note_if, unknown_kind};
+ghost use Rattle.rustsec_program.specs.Notes.{dependency_note, dependency_notes, dependency_notes_at, empty_notes, is_from_elsewhere, is_from_sparse, is_sparse, kind_note, kind_notes, note_if, source_notes, unknown_kind};
 
 use crate::locked::Loaded;
-use crate::wanted::{Wanted, joined};
+use crate::wanted::{Wanted, joined, push_if};
 use rustsec_index::YankedPackages;
+use rustsec_lock::SourceKind;
 use rustsec_lock::package::Package;
 use rustsec_texts::Informational;
 use rustsec_values::{Items, Text};
 use std::alloc::{AllocError, Global};
 use std::fmt::Write as _;
-
-/// Appends a note, if it applies.
-fn push_if(
-    alloc: Global,
-    notes: &mut Items<Text>,
-    applies: bool,
-    note: &str,
-) -> Result<(), AllocError>
-    ensures { OnOk result (notes.new ≡ notes.old ++ note_if applies note.now) }
-{
-    if applies {
-        let note = Text::from_str(alloc, note)?;
-        notes.push(note)?;
-    }
-    Ok(())
-}
 
 /// Returns the note on a kind of informational advisories that gives no warnings.
 #[tactic(auto, unfolding(crate::specs::Notes::unknown_kind))]
@@ -87,6 +73,74 @@ fn push_empty(
         "the database has no advisory",
     )?;
     push_if(alloc, notes, packages == 0, "the lockfile has no package")
+}
+
+/// Returns whether a kind of source is a sparse index.
+fn is_sparse(kind: SourceKind) -> bool
+    ensures { result ≡ is_sparse kind }
+{
+    match kind {
+        SourceKind::SparseRegistry => true,
+        _ => false,
+    }
+}
+
+/// Returns whether a package has a source that is not the default registry.
+#[tactic(auto, unfolding(crate::specs::Notes::is_from_elsewhere))]
+fn is_from_elsewhere(package: &Package) -> bool
+    ensures { result ≡ is_from_elsewhere «package».now }
+{
+    match &package.source {
+        Some(source) => !source.is_default_registry(),
+        None => false,
+    }
+}
+
+/// Returns whether a package is from the sparse index of the default registry.
+#[tactic(auto, unfolding(crate::specs::Notes::is_from_sparse))]
+fn is_from_sparse(package: &Package) -> bool
+    ensures { result ≡ is_from_sparse «package».now }
+{
+    match &package.source {
+        Some(source) => is_sparse(source.kind()) && source.is_default_registry(),
+        None => false,
+    }
+}
+
+/// Returns whether some package has a source that is not the default registry.
+fn some_from_elsewhere(packages: &[Package]) -> bool
+    ensures { result ≡ list_any is_from_elsewhere packages.now }
+{
+    packages.iter().any(|package| is_from_elsewhere(package))
+}
+
+/// Returns whether some package is from the sparse index of the default registry.
+fn some_from_sparse(packages: &[Package]) -> bool
+    ensures { result ≡ list_any is_from_sparse packages.now }
+{
+    packages.iter().any(|package| is_from_sparse(package))
+}
+
+/// Appends the notes on packages from elsewhere, which are not audited, and on those from the sparse index.
+fn push_source_notes(
+    alloc: Global,
+    notes: &mut Items<Text>,
+    packages: &[Package],
+) -> Result<(), AllocError>
+    ensures { OnOk result (notes.new ≡ notes.old ++ source_notes packages.now) }
+{
+    push_if(
+        alloc,
+        notes,
+        some_from_elsewhere(packages),
+        "some packages are not from the default registry, and are not audited",
+    )?;
+    push_if(
+        alloc,
+        notes,
+        some_from_sparse(packages),
+        "some packages are from the sparse index of the default registry, which advisories without a source do not match",
+    )
 }
 
 /// Returns the note on a package whose dependency entries name no package of the lockfile, or several, by how many do.
@@ -161,15 +215,16 @@ fn with_index_notes(
 }
 
 /// Returns the notes on a check: those on the policy and on the kinds of warnings, those on what is empty, by the number
-/// of advisories, those on the dependencies of the lockfile's packages, and those on the index.
+/// of advisories, those on the sources and the dependencies of the lockfile's packages, and those on the index.
 pub fn notes_of(
     alloc: Global,
     wanted: &Wanted,
     advisories: usize,
     loaded: &Loaded,
 ) -> Result<Items<Text>, AllocError>
-    ensures { IfOk result (λ notes. notes ≡ (((wanted.now.notes ++ kind_notes wanted.now.settings.informational_warnings)
+    ensures { IfOk result (λ notes. notes ≡ ((((wanted.now.notes ++ kind_notes wanted.now.settings.informational_warnings)
         ++ empty_notes advisories (length loaded.now.locked.packages))
+        ++ source_notes loaded.now.locked.packages)
         ++ dependency_notes loaded.now.locked.packages loaded.now.locked.graph.unresolved)
         ++ index_notes loaded.now.yanked) }
 {
@@ -179,6 +234,7 @@ pub fn notes_of(
     let kinds = &wanted.settings.informational_warnings;
     push_kind_notes(alloc, &mut notes, kinds.as_slice())?;
     push_empty(alloc, &mut notes, advisories, packages.len())?;
+    push_source_notes(alloc, &mut notes, packages)?;
     push_dependency_notes(alloc, &mut notes, packages, locked.graph.unresolved())?;
     with_index_notes(notes, loaded.yanked.as_ref())
 }

@@ -1,10 +1,12 @@
 //! Joins the policy of a file and the words of a command.
 
-ghost use Rattle.std.specs.Prelude.{◌≡◌, ◌++◌, IfErr, IfOk, None, Some, [], false, option_map, unwrap_or};
-ghost use Rattle.rustsec_policy.specs.Notes.{notes_of};
+ghost use Rattle.std.specs.Prelude.{◌≡◌, ◌++◌, ◌&&◌, not, IfErr, IfOk, None, OnOk, Some, [], false, option_map, unwrap_or};
+ghost use Rattle.std.specs.List.{list_any};
+ghost use Rattle.rustsec_policy.specs.Notes.{is_yanked, notes_of};
 ghost use Rattle.rustsec_policy.specs.Policies.{ids_on};
 ghost use Rattle.rustsec_error.specs.Failure.{IsMemory, IsRefusal};
-ghost use Rattle.rustsec_program.specs.Wanted.{has_colors, index_by, or_else, policy_shape, settings_of, usual_kinds, wanted};
+ghost use Rattle.rustsec_program.specs.Notes.{note_if};
+ghost use Rattle.rustsec_program.specs.Wanted.{has_colors, index_by, or_else, policy_shape, settings_of, usual_kinds, wanted, word_notes};
 
 use crate::request::Request;
 use crate::shapes::{Coloring, Shape};
@@ -27,7 +29,7 @@ pub struct Wanted {
     pub colored: bool,
     /// The folder of the index that is asked which packages are yanked, if any.
     pub index: Option<Text>,
-    /// Notes on the policy.
+    /// Notes on the policy and the words.
     pub notes: Items<Text>,
 }
 
@@ -135,6 +137,65 @@ fn index_by(
     Text::from_option(alloc, policy.yanked.index())
 }
 
+/// Returns whether a word denies yanked packages.
+fn is_yanked(word: Denied) -> bool
+    ensures { result ≡ is_yanked word }
+{
+    match word {
+        Denied::Yanked => true,
+        Denied::Warnings | Denied::Unmaintained | Denied::Unsound => false,
+    }
+}
+
+/// Returns whether some word denies yanked packages.
+fn some_is_yanked(words: &[Denied]) -> bool
+    ensures { result ≡ list_any is_yanked words.now }
+{
+    words.iter().any(|word| is_yanked(*word))
+}
+
+/// Appends a note, if it applies.
+pub(crate) fn push_if(
+    alloc: Global,
+    notes: &mut Items<Text>,
+    applies: bool,
+    note: &str,
+) -> std::result::Result<(), AllocError>
+    ensures { OnOk result (notes.new ≡ notes.old ++ note_if applies note.now) }
+{
+    if applies {
+        let note = Text::from_str(alloc, note)?;
+        notes.push(note)?;
+    }
+    Ok(())
+}
+
+/// Returns whether a word denies yanked packages in vain, since no index is asked.
+fn is_idle(has_index: bool, words: &[Denied]) -> bool
+    ensures { result ≡ (not has_index && list_any is_yanked words.now) }
+{
+    !has_index && some_is_yanked(words)
+}
+
+/// Returns notes and then the one on a word that denies yanked packages, if no index is asked.
+fn with_word_notes(
+    alloc: Global,
+    notes: Items<Text>,
+    has_index: bool,
+    words: &[Denied],
+) -> std::result::Result<Items<Text>, AllocError>
+    ensures { IfOk result (λ all. all ≡ notes ++ word_notes has_index words.now) }
+{
+    let mut all = notes;
+    push_if(
+        alloc,
+        &mut all,
+        is_idle(has_index, words),
+        "`--deny yanked` denies nothing without an index: no package is looked up",
+    )?;
+    Ok(all)
+}
+
 impl Wanted {
     /// Returns what is wanted if nothing is said.
     fn new(alloc: Global) -> Wanted
@@ -168,7 +229,9 @@ impl Wanted {
         wanted.shape = shape_of(request.shape, policy.output.format);
         wanted.colored = has_colors(request.color);
         wanted.index = index_by(alloc, policy, request)?;
-        wanted.notes = policy.notes(alloc, wanted.index.is_some())?;
+        let has_index = wanted.index.is_some();
+        let notes = policy.notes(alloc, has_index)?;
+        wanted.notes = with_word_notes(alloc, notes, has_index, request.denied.as_slice())?;
         Ok(wanted)
     }
 }

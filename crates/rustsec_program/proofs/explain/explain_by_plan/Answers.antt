@@ -16,6 +16,6 @@ returns-clause-ok g c = (
   c.in_ok-database.database,
   (
     c.in_ok-database.ensures.ok,
-    (c.in_ok-lockfile.lockfile.packages, (lockfile-before _ _ c.open_with.ensures.same _ _ c.in_ok-lockfile.ensures.ok, rw c.new-dated.ensures at c.in_ok-output.ensures.ok)),
+    (c.in_ok-lockfile.lockfile.packages, (lockfile-before _ _ c.open_with.ensures.same _ _ c.in_ok-lockfile.ensures.ok, rw c.new-ground.ensures at c.in_ok-output.ensures.ok)),
   ),
 )
