@@ -1,12 +1,12 @@
 //! The program `rustsec_bench`: makes one call of the library many times over the text of a file, so
 //! that the call can be timed from outside.
 //!
-//!     rustsec_bench document|lockfile|parts|advisory|lint N FILE
+//!     rustsec_bench document|lockfile|dependencies|parts|advisory|lint N FILE
 //!     rustsec_bench copy|from_rustsec|to_value|from_value N FILE
 //!     rustsec_bench read FILE
 //!     rustsec_bench load|query|vulnerabilities|report N ROOT NAME|LOCKFILE
 //!
-//! `document` only parses the text as a TOML document, and `parts` splits an advisory and parses its front matter.
+//! `document` only parses the text as a TOML document, `dependencies` reads a lockfile with the graph of its packages, and `parts` splits an advisory and parses its front matter.
 //! The calls over a database take its root, and the name of a package for `query`, else the path of a lockfile. These
 //! calls write nothing. The status is 0, 2 for other arguments, and 1 if the file cannot be read or a call fails.
 //!
@@ -23,8 +23,10 @@ mod readers;
 
 use rustsec_advisory::{Advisory, Linter};
 use rustsec_error::{Error, ErrorKind, Result};
+use rustsec_graph::Graph;
 use rustsec_lock::Lockfile;
 use rustsec_texts::Parts;
+use rustsec_toml::TablePlace;
 use std::alloc::Global;
 use std::process::ExitCode;
 use std::{env, fs};
@@ -34,6 +36,7 @@ use std::{env, fs};
 enum Call {
     Document,
     Lockfile,
+    Dependencies,
     Parts,
     Advisory,
     Lint,
@@ -44,6 +47,7 @@ fn call_of(word: &str) -> Option<Call> {
     match word {
         "document" => Some(Call::Document),
         "lockfile" => Some(Call::Lockfile),
+        "dependencies" => Some(Call::Dependencies),
         "parts" => Some(Call::Parts),
         "advisory" => Some(Call::Advisory),
         "lint" => Some(Call::Lint),
@@ -59,6 +63,14 @@ fn document(alloc: Global, text: &str) -> Result<()> {
     }
 }
 
+/// Reads a lockfile with the graph of its packages.
+fn dependencies(alloc: Global, text: &str) -> Result<()> {
+    let table = rustsec_toml::document(alloc, text, TablePlace::whole(text), "the lockfile")?;
+    let lockfile = Lockfile::from_table(alloc, &table)?;
+    Graph::from_table(alloc, &table, &lockfile)?;
+    Ok(())
+}
+
 /// Makes a call once.
 fn once(alloc: Global, call: Call, text: &str) -> Result<()> {
     match call {
@@ -66,6 +78,7 @@ fn once(alloc: Global, call: Call, text: &str) -> Result<()> {
         Call::Lockfile => {
             Lockfile::from_str(alloc, text)?;
         }
+        Call::Dependencies => dependencies(alloc, text)?,
         Call::Parts => document(alloc, Parts::parse(alloc, text)?.front_matter)?,
         Call::Advisory => {
             Advisory::from_str(alloc, text)?;

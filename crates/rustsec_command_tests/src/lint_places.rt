@@ -11,7 +11,7 @@ use std::fs;
 use std::process::Abort;
 use std::rt::Files;
 use std::test::Fail;
-use tables::{AFFECTED, DOCUMENTS, PARTS, VERSIONS};
+use tables::{AFFECTED, DOCUMENTS, INLINE, PARTS, VERSIONS};
 
 /// The file of an advisory with one fault.
 const FILE: &str = "lint-places.md";
@@ -103,6 +103,11 @@ fn lint_places_of_versions(rt: HostRuntime) -> Result<(), Fail> {
 #[test]
 fn lint_places_of_affected(rt: HostRuntime) -> Result<(), Fail> {
     expect_rows(&rt, AFFECTED)
+}
+
+#[test]
+fn lint_places_in_inline_tables(rt: HostRuntime) -> Result<(), Fail> {
+    expect_rows(&rt, INLINE)
 }
 
 #[test]

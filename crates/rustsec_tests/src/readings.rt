@@ -239,7 +239,7 @@ fn messages_name_key_and_table(rt: HostRuntime) -> Result<(), Fail> {
         ),
         (
             "# c\n[advisory]\nid = \"X-1\"",
-            "line 3, column 2: the header `[advisory]` is not the first line of the front matter, at `[advisory]`",
+            "line 3, column 2: a comment is above the header `[advisory]`, expected the header in the first line of the front matter, at `[advisory]`",
         ),
     ] {
         assert!(rt; is_refused(rt.alloc(), front, want)?, "of {want}");

@@ -1,4 +1,4 @@
-//! The ranges that lists keep, and how many comparisons a search among them makes.
+//! How many ranges lists leave, and how many comparisons a search makes among the gaps that the lists keep.
 
 use rustsec_fixtures::{lists, version};
 use rustsec_versions::{Steps, Versions, ranges_for_advisory};

@@ -193,6 +193,12 @@ const NOTED: &[Row<'static>] = &[
         "note: app 0.1.0: dependencies that name no package, or several: 2\n0 vulnerabilities, 0 warnings, 0 ignored; looked at 3 advisories and 3 packages\n",
     ),
     (
+        &["check", "db", "elsewhere"],
+        "",
+        0,
+        "note: some packages are not from the default registry, and are not audited\nnote: some packages are from the sparse index of the default registry, which advisories without a source do not match\n0 vulnerabilities, 0 warnings, 0 ignored; looked at 3 advisories and 4 packages\n",
+    ),
+    (
         &["check", "empty", "none", "--allow-empty"],
         "",
         0,
@@ -271,6 +277,19 @@ fn check_progress(rt: HostRuntime) -> Result<(), Fail> {
     assert!(rt;
         notes(rt.alloc(), words, "absent\nlock\n", text)?,
         "after each lockfile"
+    );
+    Ok(())
+}
+
+// The message has the package, the line, the column and the beginning of the line.
+#[test]
+fn check_places(rt: HostRuntime) -> Result<(), Fail> {
+    let text =
+        "rustsec_audit: parse error: error parsing misplaced: package 1, `http`: line 5, column 1: \
+        key `version` in [[package]]: found integer `1`, expected a string, at `version = 1`\n";
+    assert!(rt;
+        notes(rt.alloc(), &["check", "db", "misplaced"], "", text)?,
+        "a version that is a number"
     );
     Ok(())
 }

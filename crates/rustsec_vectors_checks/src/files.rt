@@ -2,6 +2,29 @@
 
 use rustsec_fixtures::{Holds, Paths};
 
+/// A lockfile of a package of the workspace, one of the sparse index, one of git, and one of another registry.
+const ELSEWHERE: &str = "version = 4
+
+[[package]]
+name = \"app\"
+version = \"0.1.0\"
+
+[[package]]
+name = \"http\"
+version = \"1.0.0\"
+source = \"sparse+https://index.crates.io/\"
+
+[[package]]
+name = \"left\"
+version = \"0.2.0\"
+source = \"git+https://example.com/left#abc\"
+
+[[package]]
+name = \"web\"
+version = \"1.0.0\"
+source = \"registry+https://example.com/index\"
+";
+
 /// Three advisories and some lockfiles and policies. `http` is affected below 2.0.0, and from 1.5.0 to 2.1.0; nobody
 /// maintains `left`. `aliased` is another database, of two advisories with aliases.
 pub const FILES: Paths<'_> = &[
@@ -87,6 +110,11 @@ pub const FILES: Paths<'_> = &[
         Holds::Text(
             "version = 4\n\n[[package]]\nname = \"app\"\nversion = \"0.1.0\"\ndependencies = [\"gone\", \"twice\"]\n\n[[package]]\nname = \"twice\"\nversion = \"1.0.0\"\nsource = \"registry+https://github.com/rust-lang/crates.io-index\"\n\n[[package]]\nname = \"twice\"\nversion = \"2.0.0\"\nsource = \"registry+https://github.com/rust-lang/crates.io-index\"\n",
         ),
+    ),
+    ("elsewhere", Holds::Text(ELSEWHERE)),
+    (
+        "misplaced",
+        Holds::Text("version = 4\n\n[[package]]\nname = \"http\"\nversion = 1\n"),
     ),
     ("broken", Holds::Text("package = 1\n")),
     (

@@ -5,6 +5,8 @@
 #[cfg(test)]
 mod answers;
 #[cfg(test)]
+mod broken_off;
+#[cfg(test)]
 mod checks;
 #[cfg(test)]
 mod explanations;
@@ -12,6 +14,8 @@ mod explanations;
 mod files;
 #[cfg(test)]
 mod formats;
+#[cfg(test)]
+mod kept;
 #[cfg(test)]
 mod large_inputs;
 #[cfg(test)]

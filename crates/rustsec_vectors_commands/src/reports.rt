@@ -152,11 +152,11 @@ fn filter_keeps_empty_kind(rt: HostRuntime) -> Result<(), Fail> {
 
 // ---- which pairs a report lists
 
-/// Returns a file of an advisory for `base`, patched from version 2 on.
-fn file(alloc: Global, id: &str, extra: &str) -> Result<SourceFile, Fail> {
-    let path = format!(in alloc; "crates/base/{id}.md")?;
+/// Returns a file of an advisory for a package, patched from version 2 on.
+fn file(alloc: Global, id: &str, package: &str, extra: &str) -> Result<SourceFile, Fail> {
+    let path = format!(in alloc; "crates/{package}/{id}.md")?;
     let text = format!(in alloc;
-        "```toml\n[advisory]\nid = \"{id}\"\npackage = \"base\"\n\
+        "```toml\n[advisory]\nid = \"{id}\"\npackage = \"{package}\"\n\
         date = \"2001-02-03\"\n{extra}\n[versions]\npatched = [\">= 2.0.0\"]\n```\n\n# T\n\nD\n"
     )?;
     Ok(SourceFile {
@@ -165,28 +165,36 @@ fn file(alloc: Global, id: &str, extra: &str) -> Result<SourceFile, Fail> {
     })
 }
 
-/// The informational advisories: their kinds, and the ends of their IDs.
-const INFORMATIONAL: &[(&str, &str)] = &[
-    ("unmaintained", "3"),
-    ("notice", "4"),
-    ("unsound", "5"),
-    ("x", "6"),
+/// The informational advisories: their packages, their kinds, and the ends of their IDs.
+const INFORMATIONAL: &[(&str, &str, &str)] = &[
+    ("base", "unmaintained", "3"),
+    ("other", "notice", "4"),
+    ("base", "unsound", "5"),
+    ("base", "x", "6"),
 ];
 
 /// Returns the file of an informational advisory.
-fn informational_file(alloc: Global, kind: &str, end: &str) -> Result<SourceFile, Fail> {
+fn informational_file(
+    alloc: Global,
+    package: &str,
+    kind: &str,
+    end: &str,
+) -> Result<SourceFile, Fail> {
     let id = format!(in alloc; "RUSTSEC-2001-000{end}")?;
     let extra = format!(in alloc; "informational = \"{kind}\"")?;
-    file(alloc, &id, &extra)
+    file(alloc, &id, package, &extra)
 }
+
+/// The key of a withdrawn advisory.
+const WITHDRAWN: &str = "withdrawn = \"2001-02-04\"";
 
 /// Returns a plain advisory, a withdrawn one, and an informational one of each kind.
 fn database(alloc: Global) -> Result<Database, Fail> {
     let mut files = Vec::new(alloc);
-    files.push(file(alloc, "RUSTSEC-2001-0001", "")?)?;
-    files.push(file(alloc, "RUSTSEC-2001-0002", "withdrawn = \"2001-02-04\"")?)?;
-    for (kind, end) in INFORMATIONAL {
-        files.push(informational_file(alloc, kind, end)?)?;
+    files.push(file(alloc, "RUSTSEC-2001-0001", "base", "")?)?;
+    files.push(file(alloc, "RUSTSEC-2001-0002", "base", WITHDRAWN)?)?;
+    for (package, kind, end) in INFORMATIONAL {
+        files.push(informational_file(alloc, package, kind, end)?)?;
     }
     Ok(Database::load(alloc, &files)?)
 }
@@ -195,14 +203,16 @@ fn database(alloc: Global) -> Result<Database, Fail> {
 const FIRST: &str = "[[package]]\nname = \"base\"\nversion = \"1.0.0\"\n\
     source = \"registry+https://github.com/rust-lang/crates.io-index\"\n";
 
-/// Packages of the same name and version from elsewhere.
-const OTHERS: &str = "[[package]]\nname = \"base\"\nversion = \"1.0.0\"\n\
-    [[package]]\nname = \"base\"\nversion = \"1.0.0\"\n\
+/// Packages of the same name from elsewhere, and a package of another name from the default registry.
+const OTHERS: &str = "[[package]]\nname = \"base\"\nversion = \"1.0.1\"\n\
+    [[package]]\nname = \"base\"\nversion = \"1.0.2\"\n\
     source = \"git+https://example.com/base?branch=x#abc\"\n\
-    [[package]]\nname = \"base\"\nversion = \"1.0.0\"\n\
-    source = \"sparse+https://index.crates.io/\"\n";
+    [[package]]\nname = \"base\"\nversion = \"1.0.3\"\n\
+    source = \"sparse+https://index.crates.io/\"\n\
+    [[package]]\nname = \"other\"\nversion = \"1.5.0\"\n\
+    source = \"registry+https://github.com/rust-lang/crates.io-index\"\n";
 
-/// Returns the four packages, the first one once or twice.
+/// Returns the five packages, the first one once or twice.
 fn lockfile(alloc: Global, twice: bool) -> Result<Lockfile, Fail> {
     let again = if twice { FIRST } else { "" };
     let text = format!(in alloc; "{FIRST}{again}{OTHERS}")?;
@@ -309,18 +319,17 @@ fn finds_warnings(alloc: Global, row: &Row<'_>) -> Result<bool, Fail> {
     are_warnings(alloc, &warnings, row.warnings)
 }
 
-/// The warnings of the three kinds about a package that is listed once.
-const EACH_KIND: &str = "notice base 1.0.0 RUSTSEC-2001-0004\n\
+/// The warnings of the three kinds about packages that are listed once.
+const EACH_KIND: &str = "notice other 1.5.0 RUSTSEC-2001-0004\n\
     unmaintained base 1.0.0 RUSTSEC-2001-0003\n\
     unsound base 1.0.0 RUSTSEC-2001-0005\n";
 
-/// The warnings of the three kinds about a package that is listed twice.
-const EACH_KIND_TWICE: &str =
-    "notice base 1.0.0 RUSTSEC-2001-0004\nnotice base 1.0.0 RUSTSEC-2001-0004\n\
+/// The warnings of the three kinds where the first package is listed twice.
+const EACH_KIND_TWICE: &str = "notice other 1.5.0 RUSTSEC-2001-0004\n\
     unmaintained base 1.0.0 RUSTSEC-2001-0003\nunmaintained base 1.0.0 RUSTSEC-2001-0003\n\
     unsound base 1.0.0 RUSTSEC-2001-0005\nunsound base 1.0.0 RUSTSEC-2001-0005\n";
 
-/// The warnings of one kind about it.
+/// The warnings of one kind about the first package.
 const UNMAINTAINED_TWICE: &str =
     "unmaintained base 1.0.0 RUSTSEC-2001-0003\nunmaintained base 1.0.0 RUSTSEC-2001-0003\n";
 
@@ -332,7 +341,7 @@ fn reports_with_ample_memory(rt: HostRuntime) -> Result<(), Fail> {
         kinds: &["unmaintained", "notice", "unsound"],
         vulnerabilities: 2,
         warnings: EACH_KIND_TWICE,
-        packages: 5,
+        packages: 6,
     };
     assert!(rt; report_is_copied(rt.alloc(), &row)?);
     assert!(rt; vulnerabilities_are_copied(rt.alloc(), &row)?);
@@ -341,14 +350,14 @@ fn reports_with_ample_memory(rt: HostRuntime) -> Result<(), Fail> {
 }
 
 #[test]
-fn report_of_four_packages(rt: HostRuntime) -> Result<(), Fail> {
+fn report_of_five_packages(rt: HostRuntime) -> Result<(), Fail> {
     let row = Row {
         twice: false,
         ignored: "RUSTSEC-2001-0009",
         kinds: &["unmaintained"],
         vulnerabilities: 1,
         warnings: "unmaintained base 1.0.0 RUSTSEC-2001-0003\n",
-        packages: 4,
+        packages: 5,
     };
     expect_reports(&rt, &[row])
 }
@@ -358,7 +367,7 @@ const KINDS: &[(&[&str], &str, &str)] = &[
     (
         &["notice"],
         "RUSTSEC-2001-0009",
-        "notice base 1.0.0 RUSTSEC-2001-0004\n",
+        "notice other 1.5.0 RUSTSEC-2001-0004\n",
     ),
     (
         &["unsound"],
@@ -373,7 +382,7 @@ const KINDS: &[(&[&str], &str, &str)] = &[
     (
         &["notice", "unmaintained", "unsound"],
         "RUSTSEC-2001-0003",
-        "notice base 1.0.0 RUSTSEC-2001-0004\nunsound base 1.0.0 RUSTSEC-2001-0005\n",
+        "notice other 1.5.0 RUSTSEC-2001-0004\nunsound base 1.0.0 RUSTSEC-2001-0005\n",
     ),
     (&["notice"], "RUSTSEC-2001-0004", ""),
     (&[], "RUSTSEC-2001-0009", ""),
@@ -388,7 +397,7 @@ fn kinds_of_warnings(rt: HostRuntime) -> Result<(), Fail> {
             kinds,
             vulnerabilities: 1,
             warnings,
-            packages: 4,
+            packages: 5,
         };
         let found = is_as_wanted(rt.alloc(), &row)?;
         assert!(rt; found, "{warnings}");
@@ -407,7 +416,7 @@ fn report_repeats(rt: HostRuntime) -> Result<(), Fail> {
                 kinds: &["unmaintained"],
                 vulnerabilities: 2,
                 warnings: UNMAINTAINED_TWICE,
-                packages: 5,
+                packages: 6,
             },
             Row {
                 twice: true,
@@ -415,7 +424,7 @@ fn report_repeats(rt: HostRuntime) -> Result<(), Fail> {
                 kinds: &["unmaintained"],
                 vulnerabilities: 0,
                 warnings: UNMAINTAINED_TWICE,
-                packages: 5,
+                packages: 6,
             },
             // Another kind is asked for, and gives no warning.
             Row {
@@ -424,7 +433,7 @@ fn report_repeats(rt: HostRuntime) -> Result<(), Fail> {
                 kinds: &["x"],
                 vulnerabilities: 2,
                 warnings: "",
-                packages: 5,
+                packages: 6,
             },
         ],
     )

@@ -178,6 +178,7 @@ const ROWS: &[(&[&str], u8, &str)] = &[
     (&["osv-database", "whole", MODIFIED], 1, ""),
     (&["osv-database", "empty", MODIFIED], 2, UNLISTED),
     (&["osv-database", "db"], 2, USAGE),
+    (&["osv-database", "db", "--skip-withdrawn"], 2, USAGE),
     (&["osv-database", "db", MODIFIED, "--normalised"], 2, USAGE),
     (&["query-osv", "db", "base", "1.2.3"], 0, NOTHING),
     (&["query-osv", "db", "other", "1.0.0"], 0, NOTHING),

@@ -26,19 +26,19 @@ pub(super) const VERSIONS: &[Row<'static>] = &[
         old: "[\"0.1.2\"]",
         new: "[\"1.2.4\"]",
         status: 2,
-        parts: &["line 13, column 1: [versions]: "],
+        parts: &["line 13, column 1: key `unaffected` in [versions]: "],
     },
     Row {
         old: "[\">= 1.2.3\"]",
         new: "[\"> 1, > 2\"]",
         status: 2,
-        parts: &["line 12, column 12: [versions]: "],
+        parts: &["line 12, column 12: key `patched` in [versions]: "],
     },
     Row {
         old: "[\"0.1.2\"]",
         new: "[\"0.1.2\", \"> 1, > 2\"]",
         status: 2,
-        parts: &["line 13, column 24: [versions]: "],
+        parts: &["line 13, column 24: key `unaffected` in [versions]: "],
     },
     Row {
         old: "[versions]",
@@ -83,6 +83,32 @@ pub(super) const AFFECTED: &[Row<'static>] = &[
         new: "\"base all\"",
         status: 2,
         parts: &["line 20, column 1: key `base all` in [affected.functions]: "],
+    },
+];
+
+/// Changes of the functions, which are an inline table then.
+pub(super) const INLINE: &[Row<'static>] = &[
+    Row {
+        old: "\n[affected.functions]\n\"base::all\" = [\"< 1.2.3\"]",
+        new: "functions = { \"base::all\" = [\"<< 1\"] }",
+        status: 2,
+        parts: &[
+            "line 18, column 30: key `base::all` in [affected.functions]: not a requirement `<< 1`",
+        ],
+    },
+    Row {
+        old: "\n[affected.functions]\n\"base::all\" = [\"< 1.2.3\"]",
+        new: "functions = { \"base::all\" = [\n\"< 1\",\n], \"base::some\" = [\n\"<< 1\",\n] }",
+        status: 2,
+        parts: &[
+            "line 21, column 1: key `base::some` in [affected.functions]: not a requirement `<< 1`",
+        ],
+    },
+    Row {
+        old: "\n[affected.functions]\n\"base::all\" = [\"< 1.2.3\"]",
+        new: "functions = { \"base::all\" = [\n\"< 1\",\n], \"other::some\" = [\"< 1\"] }",
+        status: 1,
+        parts: &["line 20: invalid value `other::some` for key `functions` in [affected]: "],
     },
 ];
 
@@ -135,7 +161,7 @@ pub(super) const DOCUMENTS: &[Row<'static>] = &[
         new: "# A comment.\n\n[advisory]\n",
         status: 2,
         parts: &[
-            "line 4, column 2: the header `[advisory]` is not the first line of the front matter, at `[advisory]`",
+            "line 4, column 2: a comment is above the header `[advisory]`, expected the header in the first line of the front matter, at `[advisory]`",
         ],
     },
 ];

@@ -27,7 +27,7 @@ pub(super) const FAULTS: &[Fault] = &[
         remarks: r#"{"fault":true,"kind":"lint","text":"invalid value `nope` for key `category` in [advisory]: unknown category"}"#,
         is_twice: false,
         notes: &[
-            "rustsec_audit: @: line 7: invalid value `nope` for key `category` in [advisory]: unknown category\n",
+            "rustsec_audit: @: line 7: invalid value `nope` for key `category` in [advisory]: unknown category; known: `code-execution`, `crypto-failure`,",
         ],
     },
     Fault {
@@ -37,7 +37,7 @@ pub(super) const FAULTS: &[Fault] = &[
         remarks: r#"{"fault":true,"kind":"lint","text":"invalid value `MPL-2.0` for key `license` in [advisory]: Unknown license"}"#,
         is_twice: false,
         notes: &[
-            "rustsec_audit: @: line 8: invalid value `MPL-2.0` for key `license` in [advisory]: Unknown license\n",
+            "rustsec_audit: @: line 8: invalid value `MPL-2.0` for key `license` in [advisory]: Unknown license; known: `CC0-1.0`, `CC-BY-4.0`\n",
         ],
     },
     Fault {
@@ -104,7 +104,10 @@ pub(super) const FAULTS: &[Fault] = &[
         lines: "@: lint: invalid key `keyword` in [advisory]\n",
         remarks: r#"{"fault":true,"kind":"lint","text":"invalid key `keyword` in [advisory]"}"#,
         is_twice: false,
-        notes: &["rustsec_audit: @: line 7: invalid key `keyword` in [advisory]\n"],
+        notes: &[
+            "rustsec_audit: @: line 7: invalid key `keyword` in [advisory]; known: `id`, `package`,",
+            "`expect-deleted`; did you mean `keywords`?\n",
+        ],
     },
     Fault {
         text: "```toml\n[advisory]\nid = \"$\"\npackage = \"~\"\ndate = \"2001-02-03\"\n\n[versions]\npatched = []\n\nfixed = []\n```\n\n# T\n\nD\n",
@@ -112,7 +115,9 @@ pub(super) const FAULTS: &[Fault] = &[
         lines: "@: lint: invalid key `fixed` in [versions]\n",
         remarks: r#"{"fault":true,"kind":"lint","text":"invalid key `fixed` in [versions]"}"#,
         is_twice: false,
-        notes: &["rustsec_audit: @: line 10: invalid key `fixed` in [versions]\n"],
+        notes: &[
+            "rustsec_audit: @: line 10: invalid key `fixed` in [versions]; known: `patched`, `unaffected`\n",
+        ],
     },
     Fault {
         text: "```toml\n[advisory]\nid = \"$\"\npackage = \"~\"\ndate = \"2001-02-03\"\n\n[affected]\nos = [\"linux\"]\nplatform = \"any\"\n\n[versions]\npatched = [\">= 1.0.0\"]\n```\n\n# T\n\nD\n",
@@ -120,7 +125,9 @@ pub(super) const FAULTS: &[Fault] = &[
         lines: "@: lint: invalid key `platform` in [affected]\n",
         remarks: r#"{"fault":true,"kind":"lint","text":"invalid key `platform` in [affected]"}"#,
         is_twice: false,
-        notes: &["rustsec_audit: @: line 9: invalid key `platform` in [affected]\n"],
+        notes: &[
+            "rustsec_audit: @: line 9: invalid key `platform` in [affected]; known: `arch`, `os`, `functions`\n",
+        ],
     },
     Fault {
         text: "```toml\n[advisory]\nid = \"$\"\npackage = \"~\"\ndate = \"2001-02-03\"\n\n[versions]\npatched = [\">= 1.0.0\"]\n\n[affect]\nos = []\n```\n\n# T\n\nD\n",
@@ -128,7 +135,9 @@ pub(super) const FAULTS: &[Fault] = &[
         lines: "@: lint: invalid key `affect` in toplevel\n",
         remarks: r#"{"fault":true,"kind":"lint","text":"invalid key `affect` in toplevel"}"#,
         is_twice: false,
-        notes: &["rustsec_audit: @: line 10: invalid key `affect` in toplevel\n"],
+        notes: &[
+            "rustsec_audit: @: line 10: invalid key `affect` in toplevel; known: `advisory`, `affected`, `versions`; did you mean `affected`?\n",
+        ],
     },
     Fault {
         text: "```toml\n[advisory]\n# One.\n\n# Two.\nid = \"$\"\npackage = \"~\"\ndate = \"2002-02-03\"\n\n[versions]\npatched = [\">= 1.0.0\"]\n```\n\n# T\n\nD\n",
@@ -137,7 +146,7 @@ pub(super) const FAULTS: &[Fault] = &[
         remarks: r##"{"fault":true,"kind":"lint","text":"invalid value `\"#\"` for key `id` in [advisory]: year in advisory ID does not match date"}"##,
         is_twice: false,
         notes: &[
-            "rustsec_audit: @: line 6: invalid value `\"#\"` for key `id` in [advisory]: year in advisory ID does not match date\n",
+            "rustsec_audit: @: line 6: invalid value `\"#\"` for key `id` in [advisory]: year in advisory ID does not match date; the date is 2002-02-03\n",
         ],
     },
     Fault {
@@ -179,7 +188,7 @@ pub(super) const FAULTS: &[Fault] = &[
         remarks: r#"{"fault":true,"kind":"lint","text":"invalid value `unsond` for key `informational` in [advisory]: unknown informational advisory type"}"#,
         is_twice: false,
         notes: &[
-            "rustsec_audit: @: line 6: invalid value `unsond` for key `informational` in [advisory]: unknown informational advisory type\n",
+            "rustsec_audit: @: line 6: invalid value `unsond` for key `informational` in [advisory]: unknown informational advisory type; known: `notice`, `unmaintained`, `unsound`; did you mean `unsound`?\n",
         ],
     },
     Fault {
@@ -189,7 +198,8 @@ pub(super) const FAULTS: &[Fault] = &[
         remarks: r#"{"fault":true,"kind":"lint","text":"invalid value `other::f` for key `functions` in [affected]: function path must start with crate name"}"#,
         is_twice: false,
         notes: &[
-            "rustsec_audit: @: line 9: invalid value `other::f` for key `functions` in [affected]: function path must start with crate name\n",
+            "rustsec_audit: @: line 9: invalid value `other::f` for key `functions` in [affected]: function path must start with crate name; the package is `",
+            "`, with `_` for `-`\n",
         ],
     },
 ];

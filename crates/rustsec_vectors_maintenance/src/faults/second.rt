@@ -115,7 +115,7 @@ pub(super) const FAULTS: &[Fault] = &[
         remarks: r#"{"fault":true,"kind":"lint","text":"invalid key `from` in [versions]"},{"fault":^,"kind":"upstream","text":"the Rust crate refuses a time without seconds (TOML 1.1)"}"#,
         is_twice: false,
         notes: &[
-            "rustsec_audit: @: line 9: invalid key `from` in [versions]\n",
+            "rustsec_audit: @: line 9: invalid key `from` in [versions]; known: `patched`, `unaffected`\n",
             "rustsec_audit: @: line 9: the Rust crate refuses a time without seconds (TOML 1.1)\n",
         ],
     },
@@ -137,9 +137,9 @@ pub(super) const FAULTS: &[Fault] = &[
         remarks: r#"{"fault":true,"kind":"lint","text":"invalid value `one` for key `category` in [advisory]: unknown category"},{"fault":true,"kind":"lint","text":"invalid value `two` for key `category` in [advisory]: unknown category"},{"fault":true,"kind":"lint","text":"invalid key `patch` in [versions]"},{"fault":true,"kind":"misplaced","text":"another folder, expected `other`, the package"}"#,
         is_twice: false,
         notes: &[
-            "rustsec_audit: @: line 7: invalid value `one` for key `category` in [advisory]: unknown category\n",
-            "rustsec_audit: @: line 7: invalid value `two` for key `category` in [advisory]: unknown category\n",
-            "rustsec_audit: @: line 11: invalid key `patch` in [versions]\n",
+            "rustsec_audit: @: line 7: invalid value `one` for key `category` in [advisory]: unknown category; known: `code-execution`, `crypto-failure`,",
+            "rustsec_audit: @: line 7: invalid value `two` for key `category` in [advisory]: unknown category; known: `code-execution`, `crypto-failure`,",
+            "rustsec_audit: @: line 11: invalid key `patch` in [versions]; known: `patched`, `unaffected`; did you mean `patched`?\n",
             "rustsec_audit: @: line 5: another folder, expected `other`, the package\n",
         ],
     },
@@ -181,7 +181,7 @@ pub(super) const FAULTS: &[Fault] = &[
         remarks: r#"{"fault":true,"kind":"lint","text":"invalid value `MIT` for key `license` in [advisory]: Unknown license"},{"fault":^,"kind":"upstream","text":"the Rust crate refuses patched requirements that overlap"}"#,
         is_twice: false,
         notes: &[
-            "rustsec_audit: @: line 6: invalid value `MIT` for key `license` in [advisory]: Unknown license\n",
+            "rustsec_audit: @: line 6: invalid value `MIT` for key `license` in [advisory]: Unknown license; known: `CC0-1.0`, `CC-BY-4.0`\n",
             "rustsec_audit: @: line 10: the Rust crate refuses patched requirements that overlap\n",
         ],
     },

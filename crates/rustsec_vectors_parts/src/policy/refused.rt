@@ -58,7 +58,7 @@ const UNKNOWN_KEYS: &[(&str, &str)] = &[
     ),
     (
         "advisories = { warnings = [] }",
-        "line 1, column 1: unknown key `warnings` in [advisories], expected `ignore`, `informational_warnings` or `severity_threshold`",
+        "line 1, column 16: unknown key `warnings` in [advisories], expected `ignore`, `informational_warnings` or `severity_threshold`",
     ),
     (
         "[database]\r\nfetched = true",
