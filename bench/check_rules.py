@@ -12,6 +12,10 @@ DEFAULT_REGISTRIES = (REGISTRY, SPARSE)
 SEVERITIES = ["none", "low", "medium", "high", "critical"]
 KINDS = ["notice", "unmaintained", "unsound"]
 UNKNOWN = "`{}` at `informational_warnings` is not a kind that gives warnings"
+ELSEWHERE = "some packages are not from the default registry, and are not audited"
+SPARSE_NOTE = ("some packages are from the sparse index of the default registry, which advisories without a source do not "
+               "match")
+YANKED_WORD = "`--deny yanked` denies nothing without an index: no package is looked up"
 YANKED = "`yanked` at `deny` in [output] denies nothing without an index: no package is looked up"
 
 
@@ -165,11 +169,16 @@ def ignored_tree(case, package, kind, advisory):
 
 
 def notes_of(case, packages, edges):
-    """What the policy asks for in vain, what is empty, and which packages have entries that name none or several."""
+    """What the policy asks for in vain, what is empty, whether no advisory without a source can match some packages, and
+    which packages have entries that name none or several."""
     notes = [YANKED] if "yanked" in case.asked.denied else []
+    notes += [YANKED_WORD] if "yanked" in case.asked.words_denied else []
     notes += [UNKNOWN.format(kind) for kind in case.asked.warnings or [] if kind not in KINDS]
     notes += [] if case.advisories else ["the database has no advisory"]
     notes += [] if packages else ["the lockfile has no package"]
+    elsewhere = any(package.source and package.source not in DEFAULT_REGISTRIES for package in packages)
+    notes += [ELSEWHERE] if elsewhere else []
+    notes += [SPARSE_NOTE] if any(package.source == SPARSE for package in packages) else []
     for package, places in zip(packages, edges):
         count = len(package.all_entries()) - len(places)
         if count:

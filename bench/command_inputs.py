@@ -29,9 +29,9 @@ ODD_VALUES = {
     "--color": ["always", "never", "auto"], "--format": [*FORMS, *FORMS, "xml", ""], "--ignore": ["RUSTSEC-2021-0001", "CVE-2021-1000", "x", ""],
 }
 FLAGS = ["--allow-empty", "--null", "--progress"]
-# The most packages, advisories and entries of a policy of a check, and the most lockfiles of a list: the sizes of "Large
-# inputs" in docs/TESTING.md.
-CHECKED, LISTED = 300, 5
+# The most packages, advisories and entries of a policy of a check, the most lockfiles of a list, and the most versions of
+# a package in an index: the sizes of "Large inputs" in docs/TESTING.md.
+CHECKED, LISTED, INDEXED = 300, 5, 1000
 
 
 def write(path, data):
@@ -107,8 +107,10 @@ def index_folder(name):
 
 
 def index_file(r, name, is_cache):
-    """The file of a name: a line for each version, or Cargo's cache of them."""
+    """The file of a name: a line for each version, or Cargo's cache of them. Seldom it has hundreds of versions."""
     versions = r.sample(checks.VERSIONS, r.randint(0, 6))
+    if r.random() < pieces.LARGE:
+        versions = [f"{n}.0.0" for n in range(pieces.size(r, INDEXED))]
     lines = [json.dumps({"name": name, "vers": v, "deps": [], "cksum": "0" * 64, "features": {}, "yanked": r.random() < 0.3}) for v in versions]
     if not is_cache:
         return "".join(line + "\n" for line in lines).encode()

@@ -166,7 +166,8 @@ def other_keys_of_a_lockfile(command, data, ours, theirs):
         table = tomllib.loads(files_of(data)[b"/Cargo.lock"].decode())
     except (KeyError, ValueError, RecursionError):
         return False
-    packages = [p for p in table.get("package", []) if isinstance(p, dict)]
+    packages = table.get("package", [])
+    packages = [p for p in packages if isinstance(p, dict)] if isinstance(packages, list) else []
     odd = table.get("version", 1) not in (1, 2, 3, 4) or table.keys() & {"root", "metadata", "patch"}
     return theirs == (b"refused: parse error\n", 2) and bool(odd or any(p.keys() & {"dependencies", "replace"} for p in packages))
 
@@ -178,11 +179,19 @@ def nesting(command, data, ours, theirs):
     return ours == (b"refused: parse error\n", 2) and deep
 
 
+NEWER_FORMS = re.compile(rb"\\e|\\x[0-9A-Fa-f]{2}|\{[^}\n]*\n|,\s*\}|[0-9]{2}:[0-9]{2}(?![:0-9])")
+
+
 def edition_of_toml(command, data, ours, theirs):
     """Ours reads TOML 1.1, which has more escapes, times without seconds, and inline tables over lines, with a comma at
     their end."""
-    newer = rb"\\e|\\x[0-9A-Fa-f]{2}|\{[^}\n]*\n|,\s*\}|[0-9]{2}:[0-9]{2}(?![:0-9])"
-    return theirs == (b"refused: parse error\n", 2) and ours[1] < 2 and re.search(newer, data) is not None
+    return theirs == (b"refused: parse error\n", 2) and ours[1] < 2 and NEWER_FORMS.search(data) is not None
+
+
+def edition_before_a_fault(command, data, ours, theirs):
+    """A form as above in a file that ours reads, and then refuses for another reason, such as its name."""
+    refused = ours[1] == 2 and ours[0].startswith(b"refused: ") and ours != theirs
+    return theirs == (b"refused: parse error\n", 2) and refused and NEWER_FORMS.search(data) is not None
 
 
 def key_that_stands_twice(command, data, ours, theirs):
@@ -209,7 +218,7 @@ OF_OSV = [
 ]
 OF_DATABASES = [
     number_of_an_advisory, starts_in_some_file, source_that_is_no_address, message_cut_inside_a_character, empty_name,
-    checksum_of_another_form, edition_of_toml, other_keys_of_a_lockfile, message_cut_in_some_file,
+    checksum_of_another_form, edition_of_toml, edition_before_a_fault, other_keys_of_a_lockfile, message_cut_in_some_file,
     merged_patched_in_some_file, first_of_faults, nesting,
 ]
 

@@ -73,6 +73,7 @@ KNOWN = {
 }
 # How often an input is a large one, and the most that it has: the sizes of "Large inputs" in docs/TESTING.md.
 LARGE, REQUIREMENTS, DESCRIPTION, PACKAGES, FUNCTIONS, FILES, LONG = 0.001, 300, 1 << 20, 10_000, 10_000, 10_000, 1 << 16
+RANGES, MEMBERS, LINKS = 300, 1000, 9000
 # How long texts begin, and what they repeat after that.
 LONG_TEXTS = {
     "address": [("https://example.com/", "a"), ("https://example.com/", "%20"), ("", "a")], "arch": [("x86", "6")],
@@ -260,6 +261,23 @@ def large_lockfile(r):
     return databases.package(long_text(r, "name"), "1.2.3-" + "a" * size(r, LONG), long_text(r, "source"))
 
 
+def large_document(r):
+    """A document of the OSV schema with many ranges, many packages or many links."""
+    kind = r.choice(["ranges", "members", "links"])
+    count = {"ranges": 1, "members": 1, "links": 0} | {kind: size(r, {"ranges": RANGES, "members": MEMBERS, "links": LINKS}[kind])}
+    events = [[{"introduced": f"{n}.0.0"}, {r.choice(["fixed", "last_affected"]): f"{n}.5.0"}] for n in range(count["ranges"])]
+    r.shuffle(events)
+    link = "https://rustsec.org/advisories/RUSTSEC-2001-{}" + r.choice(["", ".html"])
+    return json.dumps({
+        "id": "RUSTSEC-2001-1000", "modified": "m", "published": "p", "summary": "T", "details": "D",
+        "affected": [{
+            "package": {"ecosystem": "crates.io", "name": f"package-{n}"}, "database_specific": {},
+            "ranges": [{"type": "SEMVER", "events": each} for each in events],
+        } for n in range(count["members"])],
+        "references": [{"type": "WEB", "url": link.format(n)} for n in range(1000, 1000 + count["links"])],
+    })
+
+
 def text_for(r, reader):
     """A text that a reader may take."""
     if r.random() < LARGE and reader in LONG_TEXTS:
@@ -268,6 +286,8 @@ def text_for(r, reader):
         return large_advisory(r)
     if r.random() < LARGE and reader == "lockfile":
         return large_lockfile(r)
+    if r.random() < LARGE and reader == "osv":
+        return large_document(r)
     kind = r.random()
     if reader in KNOWN:
         return r.choice(SHORT) if kind < 0.3 else r.choice(r.choice([v for v in KNOWN[reader] if v]))

@@ -2,10 +2,11 @@
 
 The first has `check` beside `audit` over the same database and lockfile. The second has `check-many` beside the sum of
 one load and as many readings of lockfiles as its list has paths. Both parts of the sum are measured with rustsec_bench:
-the load as a process that opens the database once, the readings as calls of `Lockfile::from_str` over the texts of the
-list's lockfiles. For these a process is started for each lockfile; its time without a call is subtracted, so that the
-start, and opening and reading the file, are not part of the sum. Each table stands twice: for a database whose
-advisories are about 500 packages, so that there are many findings, and for one with a package for each advisory.
+the load as a process that opens the database once, the readings as calls that read the texts of the list's lockfiles,
+each with the graph of its dependencies, as the reader of the Rust crate also resolves them. For these a process is
+started for each lockfile; its time without a call is subtracted, so that the start, and opening and reading the file, are
+not part of the sum. Each table stands twice: for a database whose advisories are about 500 packages, so that there are
+many findings, and for one with a package for each advisory.
 """
 import json
 import os
@@ -72,14 +73,14 @@ def many(options, root, locks):
         f.writelines(lock + "\n" for lock in listed)
     calls = [(options.ours, [(["check-many", root], path)]),
              (options.checks, [(["load", "1", root, locks[0]], os.devnull)]),
-             (options.checks, [(["lockfile", str(listed.count(lock)), lock], os.devnull) for lock in locks]),
-             (options.checks, [(["lockfile", "0", lock], os.devnull) for lock in locks])]
+             (options.checks, [(["dependencies", str(listed.count(lock)), lock], os.devnull) for lock in locks]),
+             (options.checks, [(["dependencies", "0", lock], os.devnull) for lock in locks])]
     ours, load, reading, start = [best_and_median(times) for times in timing.timed(calls, options.runs)]
     readings = [a - b for a, b in zip(reading, start)]
     total = [a + b for a, b in zip(load, readings)]
     memory = [f"{timing.peak(*call) / 1024:.1f}" for call in calls]
     row("one load; advisories", options.advisories, *load, memory[1])
-    row("readings; lockfiles", options.lockfiles, *readings, memory[2])
+    row("readings, with dependencies; lockfiles", options.lockfiles, *readings, memory[2])
     row("the sum of both", "", *total, "")
     row("`check-many`; lockfiles", options.lockfiles, *ours, memory[0], total)
 
