@@ -5,8 +5,7 @@ ghost use Rattle.std.specs.List.{flat_map};
 ghost use Rattle.semver.specs.Identifiers.{parts_of};
 ghost use Rattle.rustsec_check_output.specs.CheckText.{arrow, block, command_words, denied_words, id_words, incompatible_words, locked_words, mark, moved_line, moving_words, old_words, package_words, path_line, place_words, places_line, rating_words, status_line, steps, title_line, update_line};
 
-use crate::finding_json::kind_text;
-use crate::rating::{severity_of, tenths_of};
+use crate::rating::{kind_text, severity_of, tenths_of};
 use rustsec_check::{Finding, Update};
 use rustsec_lock::Severity;
 use rustsec_lock::package::Package;

@@ -1,7 +1,6 @@
 //! Writes findings as JSON.
 
 ghost use Rattle.std.specs.Prelude.{◌≡◌, ◌++◌, OnOk, option_map, string_bytes};
-ghost use Rattle.rustsec_check_output.specs.CheckTree.{kind_text};
 ghost use Rattle.rustsec_check_output.specs.CheckJson.{mended_json, finding_json, list_json, pair_json, path_json, said_json, versions_json};
 
 use crate::advisory_json::push_advisory;
@@ -9,22 +8,12 @@ use crate::list_json::{Push, push_list, push_requirements};
 use crate::package_json::{push_places, push_sourced};
 use crate::part::{First, Key, push_first, push_key};
 use crate::quoted::push_quoted;
+use crate::rating::kind_text;
 use crate::update_json::{push_boolean, push_update};
 use rustsec_check::Finding;
 use rustsec_lock::package::Package;
-use rustsec_texts::WarningKind;
 use rustsec_versions::Versions;
 use std::alloc::{AllocError, Global};
-
-/// Returns what a pair is: a vulnerability, or the kind of its warning.
-pub(crate) fn kind_text(kind: Option<WarningKind>) -> &'static str
-    ensures { result.now ≡ kind_text kind }
-{
-    match kind {
-        Some(kind) => kind.as_str(),
-        None => "vulnerability",
-    }
-}
 
 /// Appends the packages of a path, null without a path.
 pub(crate) fn push_path(

@@ -5,11 +5,11 @@ ghost use Rattle.std.specs.Option.{option_copied};
 ghost use Rattle.rustsec_check_output.specs.CheckTree.{reason_of, until_of};
 ghost use Rattle.rustsec_check_output.specs.CheckJson.{reasons_json, entry_json, ignored_json, list_json, optional_json, quoted};
 
-use crate::finding_json::kind_text;
 use crate::list_json::{Push, push_list};
 use crate::package_json::push_sourced;
 use crate::part::{First, Key, push_first, push_key};
 use crate::quoted::push_quoted;
+use crate::rating::kind_text;
 use rustsec_check::IgnoredPair;
 use rustsec_policy::{Ignored, entry_with};
 use std::alloc::{AllocError, Global};

@@ -14,7 +14,7 @@ mod package_json;
 mod part;
 mod quoted;
 mod rank;
-mod rating;
+pub mod rating;
 mod text;
 mod tree_lines;
 mod update_json;

@@ -22,7 +22,7 @@ pub fn why(alloc: Global, error: &Error) -> Result<String, AllocError> {
 }
 
 /// Makes the output for requirements that are not accepted.
-pub fn refused_output(alloc: Global, error: &Error) -> Result<Output, AllocError>
+pub(crate) fn refused_output(alloc: Global, error: &Error) -> Result<Output, AllocError>
     ensures { IfOk result (λ o. o ≡ refused) }
 {
     let text = String::from_str(alloc, "refused: bad parameter\n")?;
@@ -43,7 +43,11 @@ pub fn refusal_output(alloc: Global, error: &Error) -> Result<Output, AllocError
 
 /// Makes the output for an error of a file, as `refusal_output` does. The path is added to the note, unless the
 /// kind is `Io`.
-pub fn file_refusal_output(alloc: Global, path: &str, error: &Error) -> Result<Output, AllocError>
+pub(crate) fn file_refusal_output(
+    alloc: Global,
+    path: &str,
+    error: &Error,
+) -> Result<Output, AllocError>
     ensures { IfOk result (λ o. (error.now.kind ≢ failure.OutOfMemory) × (o ≡ refused_as error.now.kind)) }
 {
     let output = refusal_output(alloc, error)?;

@@ -20,7 +20,7 @@ pub enum Fault {
 
 impl Fault {
     /// Writes a note that says what failed. A note that cannot be written is lost.
-    pub(crate) fn write_note<N: Write>(self, notes: &mut N) {
+    pub fn write_note<N: Write>(self, notes: &mut N) {
         let note = match self {
             Fault::Memory => "rustsec_audit: out of memory\n",
             Fault::Read => "rustsec_audit: the input cannot be read\n",

@@ -4,10 +4,10 @@
 mod args;
 mod command;
 mod commands;
-mod error_output;
+pub mod error_output;
 mod fault;
 mod input;
-mod output;
+pub mod output;
 
 pub use crate::command::affected::answer;
 pub use crate::command::audit::text::write_audit;
@@ -16,4 +16,4 @@ pub use crate::command::report::overview::{Paths, unlisted_note};
 pub use crate::command::report::{NotedReport, report_of};
 pub use crate::commands::{run, run_over, run_with_notes};
 pub use crate::fault::Fault;
-pub use crate::output::tree_line;
+pub use crate::input::read::read_all;

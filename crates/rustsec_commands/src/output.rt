@@ -82,6 +82,21 @@ impl Output {
             Err(_) => Err(Fault::Write),
         }
     }
+
+    /// Writes the whole text, and then the note. Returns the status. The only error is `Write`.
+    pub fn write_with_note<W: Write, N: Write>(
+        &self,
+        output: &mut W,
+        notes: &mut N,
+    ) -> Result<u8, Fault>
+        ensures status { IfOk result (λ s. s ≡ self.now.status) }
+        ensures text { OnOk result (Appends (W.contents output.old) (W.contents output.new) self.now.text) }
+        ensures err { IfErr result (λ e. e ≡ fault.Write) }
+    {
+        let status = self.write(output)?;
+        self.write_note(notes);
+        Ok(status)
+    }
 }
 
 /// The forms that a line may have.
@@ -101,7 +116,7 @@ fn line_note(alloc: Global, found: Malformed<'_>) -> Result<String, AllocError> 
 }
 
 /// Makes the output for an input with a malformed line. Its place is counted from 0, and printed from 1.
-pub fn malformed_output(alloc: Global, found: Malformed<'_>) -> Result<Output, AllocError>
+pub(crate) fn malformed_output(alloc: Global, found: Malformed<'_>) -> Result<Output, AllocError>
     requires { found.place < 2 ^ 64 - 1 }
     ensures { IfOk result (λ o. o ≡ malformed found.entry.place) }
 {

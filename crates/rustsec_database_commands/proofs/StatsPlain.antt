@@ -1,6 +1,6 @@
 -- The tree of stats has no float, so that its text is known.
 use Rattle.std.proofs.Common.{List, [], ◌∷◌, refl}
-use Rattle.rustsec_commands.proofs.lemmas.command.NoFloats.{AllPlain, Plain, object-plain}
+use Rattle.rustsec_report.proofs.PlainTrees.{AllPlain, Plain, object-plain}
 use Rattle.rustsec_stats.specs.StatsTree.{count_entries, counts_tree, stats_entries, stats_tree}
 use Rattle.rustsec_stats.specs.declared.stats.Count.{Count}
 use Rattle.rustsec_stats.specs.declared.stats.Stats.{Stats}

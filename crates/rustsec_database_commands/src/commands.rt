@@ -13,10 +13,10 @@ use crate::osv_database::osv_database;
 use crate::osv_query::query_osv;
 use crate::stats::stats;
 use crate::words::{Command, command_of};
+use rustsec_commands::output::{Output, usage_output};
 use rustsec_commands::{Fault, unlisted_note};
 use rustsec_folders::{Folders, RealFolders};
 use rustsec_program::finish;
-use rustsec_program::output::{self, Output};
 use std::alloc::{AllocError, Global};
 use std::io::{Read, Write};
 use std::rt::Files;
@@ -56,7 +56,7 @@ fn output_of<F: Folders, N: Write>(
             osv_database(alloc, folders, root, modified, options)
         }
         Command::QueryOsv(question) => query_osv(alloc, folders, question),
-        Command::Short => output::usage(alloc, misuse::of_short(alloc).ok()),
+        Command::Short => usage_output(alloc, misuse::of_short(alloc).ok()),
     }
 }
 

@@ -15,11 +15,12 @@ use crate::form::{Form, form_named};
 use crate::misuse;
 use crate::notes::Notes;
 use crate::options::{Asked, asked_of};
+use rustsec_commands::error_output::refusal_output;
+use rustsec_commands::output::{Output, usage_output};
 use rustsec_error::{ErrorKind, Result};
 use rustsec_folders::Folders;
 use rustsec_lint_database::{Counts, Entry, counts_of, lint_database};
 use rustsec_lint_output::{lint_line, lint_text};
-use rustsec_program::output::{self, Output, refusal};
 use std::alloc::{AllocError, Global};
 use std::io::Write;
 
@@ -134,10 +135,10 @@ pub fn lint<F: Folders, N: Write>(
     ensures same { AllowSame (F.allowed folders.old) (F.allowed folders.new) }
 {
     let Some(asked) = asked_of(words) else {
-        return output::usage(alloc, misuse::of_options(alloc, words).ok());
+        return usage_output(alloc, misuse::of_options(alloc, words).ok());
     };
     match lint_asked(alloc, folders, root, asked, notes) {
         Ok(output) => Ok(output),
-        Err(error) => refusal(alloc, &error),
+        Err(error) => refusal_output(alloc, &error),
     }
 }

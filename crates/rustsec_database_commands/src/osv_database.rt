@@ -10,11 +10,12 @@ ghost use Rattle.rustsec_commands.specs.Output.{usage};
 ghost use Rattle.rustsec_database_commands.specs.Osv.{IsDatabaseOutput, choice_for, choice_of, is_normalized, is_osv_option, is_skip, status_for};
 
 use crate::misuse;
+use rustsec_commands::error_output::refusal_output;
+use rustsec_commands::output::{Output, usage_output};
 use rustsec_database::Database;
 use rustsec_error::Result;
 use rustsec_folders::Folders;
 use rustsec_osv_database::{Choice, Exported, export};
-use rustsec_program::output::{self, Output, refusal};
 use std::alloc::{AllocError, Global};
 
 /// Returns whether a word asks to leave out withdrawn advisories.
@@ -88,10 +89,10 @@ fn misused(alloc: Global, modified: &str, words: &[&str]) -> std::result::Result
     ensures { IfOk result (λ o. o ≡ usage) }
 {
     if modified.starts_with("--") {
-        return output::usage(alloc, misuse::of_no_time(alloc, modified).ok());
+        return usage_output(alloc, misuse::of_no_time(alloc, modified).ok());
     }
     let names = &["--skip-withdrawn", "--normalized"];
-    output::usage(alloc, misuse::of_unknown(alloc, words, names).ok())
+    usage_output(alloc, misuse::of_unknown(alloc, words, names).ok())
 }
 
 /// Exports all advisories of a database.
@@ -150,6 +151,6 @@ pub fn osv_database<F: Folders>(
     };
     match export_root(alloc, folders, root, modified, choice) {
         Ok(output) => Ok(output),
-        Err(error) => refusal(alloc, &error),
+        Err(error) => refusal_output(alloc, &error),
     }
 }

@@ -5,11 +5,12 @@ ghost use Rattle.semver.specs.Identifiers.{parts_of};
 ghost use Rattle.rustsec_folders.specs.Allowed.{AllowSame};
 ghost use Rattle.rustsec_database_commands.specs.Osv.{IsAnswered, IsQueryOutput};
 
+use rustsec_commands::error_output::refusal_output;
+use rustsec_commands::output::Output;
 use rustsec_database::Database;
 use rustsec_folders::Folders;
 use rustsec_lock::package::Name;
 use rustsec_osv_database::answer_of;
-use rustsec_program::output::{Output, refusal};
 use rustsec_versions::read_version;
 use semver::Version;
 use std::alloc::{AllocError, Global};
@@ -38,11 +39,11 @@ fn answer_root<F: Folders>(
 {
     let database = match Database::open_with(alloc, folders, root) {
         Ok(database) => database,
-        Err(error) => return refusal(alloc, &error),
+        Err(error) => return refusal_output(alloc, &error),
     };
     match answer_of(alloc, &database, name, version) {
         Ok(text) => Ok(Output::new(text, 0)),
-        Err(error) => refusal(alloc, &error),
+        Err(error) => refusal_output(alloc, &error),
     }
 }
 
@@ -57,11 +58,11 @@ pub fn query_osv<F: Folders>(
 {
     let name = match Name::from_str(alloc, question.name) {
         Ok(name) => name,
-        Err(error) => return refusal(alloc, &error),
+        Err(error) => return refusal_output(alloc, &error),
     };
     let version = match read_version(alloc, question.version, question.version) {
         Ok(version) => version,
-        Err(error) => return refusal(alloc, &error),
+        Err(error) => return refusal_output(alloc, &error),
     };
     answer_root(alloc, folders, question.root, name, version)
 }

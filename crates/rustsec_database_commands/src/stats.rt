@@ -15,11 +15,11 @@ ghost use Rattle.rustsec_database_commands.specs.Stats.{IsCountedBy, IsStatsOutp
 use crate::form::{Form, form_named};
 use crate::misuse;
 use rustsec_advisory::Advisory;
-use rustsec_commands::tree_line;
+use rustsec_commands::error_output::refusal_output;
+use rustsec_commands::output::{Output, tree_line, usage_output};
 use rustsec_database::Database;
 use rustsec_error::Result;
 use rustsec_folders::Folders;
-use rustsec_program::output::{self, Output, refusal};
 use rustsec_stats::{Stats, stats_of, stats_text, stats_tree};
 use std::alloc::{AllocError, Global};
 
@@ -97,10 +97,10 @@ pub fn stats<F: Folders>(
     ensures same { AllowSame (F.allowed folders.old) (F.allowed folders.new) }
 {
     let Some(name) = asked_form(words) else {
-        return output::usage(alloc, misuse::of_unknown(alloc, words, &["--format"]).ok());
+        return usage_output(alloc, misuse::of_unknown(alloc, words, &["--format"]).ok());
     };
     match count_named(alloc, folders, root, name) {
         Ok(output) => Ok(output),
-        Err(error) => refusal(alloc, &error),
+        Err(error) => refusal_output(alloc, &error),
     }
 }

@@ -2,7 +2,7 @@
 use Rattle.std.proofs.Common.{Bool, List, refl}
 use Rattle.std.specs.List.{filter}
 use Rattle.rustsec_json.specs.Trees.{text_tree}
-use Rattle.rustsec_commands.proofs.lemmas.command.NoFloats.{Plain, list-plain, object-plain, optional-plain}
+use Rattle.rustsec_report.proofs.PlainTrees.{Plain, list-plain, object-plain, optional-plain}
 use Rattle.rustsec_lint_database.specs.declared.counts.Counts.{Counts}
 use Rattle.rustsec_lint_database.specs.declared.database.Entry.{Entry}
 use Rattle.rustsec_lint_database.specs.declared.remark.Remark.{Remark}

@@ -5,7 +5,7 @@ ghost use Rattle.rustsec_commands.specs.Output.{tree_line};
 ghost use Rattle.rustsec_lint_output.specs.LintTree.{lint_tree};
 
 use crate::tree::lint_tree;
-use rustsec_commands::tree_line;
+use rustsec_commands::output::tree_line;
 use rustsec_lint_database::{Counts, Entry};
 use std::alloc::{AllocError, Global};
 

@@ -6,10 +6,10 @@ ghost use Rattle.rustsec_check_output.specs.CheckText.{arrow};
 ghost use Rattle.rustsec_markdown.specs.MarkdownText.{path_words, place_words, places_words, row, said_cells, status_words, steps, subject_cells, update_words};
 
 use crate::words::{
-    kind_text, push_code, push_code_version, push_denied, push_old, push_package, push_rating,
-    severity_of, tenths_of,
+    push_code, push_code_version, push_denied, push_old, push_package, push_rating,
 };
 use rustsec_check::Finding;
+use rustsec_check_output::rating::{kind_text, severity_of, tenths_of};
 use rustsec_lock::package::Package;
 use rustsec_values::Text;
 use semver::Version;

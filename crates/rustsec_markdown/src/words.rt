@@ -1,63 +1,16 @@
 //! Writes the words that rows and lines are made of.
 
-ghost use Rattle.std.specs.Prelude.{◌≡◌, ◌++◌, OnOk, option_map, string_bytes};
+ghost use Rattle.std.specs.Prelude.{◌≡◌, ◌++◌, OnOk, string_bytes};
 ghost use Rattle.semver.specs.Identifiers.{parts_of};
 ghost use Rattle.rustsec_check_output.specs.CheckText.{old_words};
-ghost use Rattle.rustsec_check_output.specs.CheckTree.{base_of, kind_text, severity_of, tenths_of};
 ghost use Rattle.rustsec_markdown.specs.MarkdownText.{code_words, denied_words, labelled, package_words, rating_words, version_words};
 
 use crate::escaped::{push_escaped, push_version};
-use rustsec_advisory::Metadata;
+use rustsec_lock::Severity;
 use rustsec_lock::package::Package;
-use rustsec_lock::{Base, Cvss, Severity};
-use rustsec_texts::WarningKind;
 use semver::Version;
 use std::alloc::{AllocError, Global};
 use std::fmt::Write as _;
-
-/// Returns what a pair is: a vulnerability, or the kind of its warning.
-pub(crate) fn kind_text(kind: Option<WarningKind>) -> &'static str
-    ensures { result.now ≡ kind_text kind }
-{
-    match kind {
-        Some(kind) => kind.as_str(),
-        None => "vulnerability",
-    }
-}
-
-/// Returns the base metrics of a vector, which one of version 4 does not have.
-fn base_of(cvss: &Cvss) -> Option<&Base>
-    ensures { option_map (λ b. b.now) result ≡ base_of cvss.now }
-{
-    match cvss {
-        Cvss::CvssV30(base) => Some(base),
-        Cvss::CvssV31(base) => Some(base),
-        Cvss::CvssV40(_) => None,
-    }
-}
-
-/// Returns the score of an advisory's vector in tenths, if the vector has a score.
-pub(crate) fn tenths_of(metadata: &Metadata) -> Option<u8>
-    ensures { result ≡ tenths_of metadata.now }
-{
-    let Some(cvss) = &metadata.cvss else {
-        return None;
-    };
-    match base_of(cvss) {
-        Some(base) => Some(base.score_tenths()),
-        None => None,
-    }
-}
-
-/// Returns the rating of an advisory's vector, if the vector has a rating.
-pub(crate) fn severity_of(metadata: &Metadata) -> Option<Severity>
-    ensures { result ≡ severity_of metadata.now }
-{
-    match &metadata.cvss {
-        Some(cvss) => cvss.severity(),
-        None => None,
-    }
-}
 
 /// Appends a text of a file, in an element `code`.
 #[tactic(auto, unfolding(crate::specs::MarkdownText::code_words))]

@@ -8,7 +8,7 @@ use Rattle.rustsec_osv.specs.Documents.{Document}
 use Rattle.rustsec_osv.specs.DocumentCodec.{document_tree}
 use Rattle.rustsec_json.specs.Trees.{list_tree}
 use Rattle.rustsec_report.specs.Trees.{object_of}
-use Rattle.rustsec_commands.proofs.lemmas.command.NoFloats.{Plain, list-plain, object-plain}
+use Rattle.rustsec_report.proofs.PlainTrees.{Plain, list-plain, object-plain}
 use Rattle.rustsec_commands.proofs.lemmas.command.NoFloatsOsv.{document-plain}
 use Rattle.rustsec_osv_database.specs.Answers.{AreDocuments, IsOwnDocument}
 

@@ -15,7 +15,7 @@ ghost use Rattle.rustsec_osv_database.specs.Lines.{HasNoDocument};
 
 use crate::lines::{document_of, tree_of};
 use rustsec_advisory::Advisory;
-use rustsec_commands::tree_line;
+use rustsec_commands::output::tree_line;
 use rustsec_database::Database;
 use rustsec_error::{Error, ErrorKind, Result};
 use rustsec_lock::package::Name;

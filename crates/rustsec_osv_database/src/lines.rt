@@ -12,7 +12,7 @@ ghost use Rattle.rustsec_osv_database.specs.Lines.{AreParts, HasNoDocument, IsPa
 
 use crate::exported::{Choice, Exported};
 use rustsec_advisory::Advisory;
-use rustsec_commands::tree_line;
+use rustsec_commands::output::tree_line;
 use rustsec_error::Result;
 use rustsec_osv::OsvAdvisory;
 use rustsec_osv_evaluation::normalized;

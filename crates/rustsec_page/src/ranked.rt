@@ -7,11 +7,11 @@ ghost use Rattle.rustsec_page.specs.Findings.{by_rank, finding, is_ranked, of_ra
 ghost use Rattle.rustsec_page.specs.Pieces.{text_of};
 
 use crate::drawn::Drawn;
-use crate::facts::severity_of;
 use crate::finding::push_finding;
 use crate::pieces::push_section;
 use crate::section::Section;
 use rustsec_check::Finding;
+use rustsec_check_output::rating::severity_of;
 use rustsec_lock::Severity;
 use rustsec_lock::package::Package;
 use std::alloc::{AllocError, Global};

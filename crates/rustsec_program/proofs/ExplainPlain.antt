@@ -8,7 +8,7 @@ use Rattle.rustsec_explain.specs.declared.reason.Reason.{Reason}
 use Rattle.rustsec_explain.specs.declared.reason.Reason.TheVariants as reason
 use Rattle.rustsec_explain_output.specs.ExplainTree.{entry_entries, entry_tree, explain_tree, further_entries, package_entries, package_tree, pair_entries, pair_tree, reason_tree, requirement_tree}
 use Rattle.rustsec_explain_output.specs.Rules.{RulesValue, entry_of}
-use Rattle.rustsec_commands.proofs.lemmas.command.NoFloats.{AllPlain, Plain, list-plain, object-plain, optional-plain}
+use Rattle.rustsec_report.proofs.PlainTrees.{AllPlain, Plain, list-plain, object-plain, optional-plain}
 
 requirement-plain : (r : Option (List Held)) → Plain (requirement_tree r)
 requirement-plain None = refl

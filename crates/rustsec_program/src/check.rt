@@ -14,9 +14,10 @@ use crate::forms::form_of;
 use crate::locked::{Locked, locked_at, with_others};
 use crate::misuse;
 use crate::options::{Options, options_of};
-use crate::output::{self, Output, refusal};
 use crate::plan::Plan;
 use rustsec_commands::Paths;
+use rustsec_commands::error_output::refusal_output;
+use rustsec_commands::output::{Output, usage_output};
 use rustsec_database::{KeptDatabase, Named};
 use rustsec_error::Result;
 use rustsec_folders::Folders;
@@ -98,10 +99,10 @@ pub fn check<F: Folders>(
     ensures same { AllowSame (F.allowed folders.old) (F.allowed folders.new) }
 {
     let Some(options) = options_of(alloc, words)? else {
-        return output::usage(alloc, misuse::of_options(alloc, words).ok());
+        return usage_output(alloc, misuse::of_options(alloc, words).ok());
     };
     match check_options(alloc, folders, paths, &options) {
         Ok(output) => Ok(output),
-        Err(error) => refusal(alloc, &error),
+        Err(error) => refusal_output(alloc, &error),
     }
 }

@@ -1,7 +1,7 @@
 //! Carries out the command that the words name.
 
 ghost use Rattle.rustsec_commands.specs.declared.fault.Fault.TheVariants as fault;
-ghost use Rattle.std.specs.Prelude.{◌≡◌, ◌≢◌, IfErr, IfOk, IfSome, IsOkAnd, None, false, map};
+ghost use Rattle.std.specs.Prelude.{◌≡◌, ◌≢◌, IfErr, IfOk, IsOkAnd, None, false, map};
 ghost use Rattle.std.specs.Io.KnownBytes.{Appends, Keeps};
 ghost use Rattle.rustsec_folders.specs.Allowed.{AllowSame, AnswersOnce, real_folders};
 ghost use Rattle.rustsec_program.specs.Commands.{Carries, HaveOneOutput, IsOwnOutput, command_view, reads_input, words_read_input};
@@ -12,46 +12,13 @@ use crate::check::check;
 use crate::explain::explain;
 use crate::many::{Asked, check_many};
 use crate::misuse;
-use crate::output::{Output, usage};
 use crate::words::{Command, command_of};
-use rustsec_commands::Fault;
-use rustsec_files::reading::bytes_of;
+use rustsec_commands::output::{Output, usage_output};
+use rustsec_commands::{Fault, read_all};
 use rustsec_folders::{Folders, RealFolders};
 use std::alloc::{AllocError, Global};
-use std::io::{self, ErrorKind, Read, Write};
+use std::io::{Read, Write};
 use std::rt::Files;
-
-/// Returns the fault for an error of a reader.
-fn fault_of(error: &io::Error) -> Fault
-    ensures { result ≢ fault.Write }
-{
-    if error.kind() == ErrorKind::OutOfMemory {
-        Fault::Memory
-    } else {
-        Fault::Read
-    }
-}
-
-/// Reads all that a reader has left, in at most 2^32 reads. A read that was interrupted is tried again.
-fn read_all<R: Read>(alloc: Global, input: &mut R) -> Result<Vec<u8>, Fault>
-    ensures all { IfOk result (λ v. IfSome (R.remaining input.old) (λ bytes. v.items ≡ bytes)) }
-    ensures err { IfErr result (λ e. e ≢ fault.Write) }
-{
-    match bytes_of(alloc, input) {
-        Ok(bytes) => Ok(bytes),
-        Err(error) => Err(fault_of(&error)),
-    }
-}
-
-/// Writes a note that says what failed. A note that cannot be written is lost.
-fn write_fault<N: Write>(fault: Fault, notes: &mut N) {
-    let note = match fault {
-        Fault::Memory => "rustsec_audit: out of memory\n",
-        Fault::Read => "rustsec_audit: the input cannot be read\n",
-        Fault::Write => "rustsec_audit: the output cannot be written\n",
-    };
-    let _ = notes.write_all(note.as_bytes());
-}
 
 /// Makes the output of a command that does not read the input.
 fn output_of<F: Folders>(
@@ -67,7 +34,7 @@ fn output_of<F: Folders>(
         Command::Check(paths, options) => check(alloc, folders, paths, options),
         Command::CheckMany(_, _) => unreachable!(),
         Command::Explain(paths, text, options) => explain(alloc, folders, paths, text, options),
-        Command::Short => usage(alloc, misuse::of_short(alloc).ok()),
+        Command::Short => usage_output(alloc, misuse::of_short(alloc).ok()),
     }
 }
 
@@ -76,7 +43,7 @@ fn noted<N: Write>(done: Result<u8, Fault>, notes: &mut N) -> Result<u8, Fault>
     ensures { result ≡ done }
 {
     if let Err(fault) = done {
-        write_fault(fault, notes);
+        fault.write_note(notes);
     }
     done
 }

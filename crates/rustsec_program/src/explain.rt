@@ -15,10 +15,11 @@ ghost use Rattle.rustsec_program.specs.Explain.{IsExplainOutput, IsExplainRefusa
 use crate::checked::Ground;
 use crate::misuse;
 use crate::options::{Options, options_of};
-use crate::output::{self, Output, refusal};
 use crate::plan::Plan;
 use crate::shapes::Shape;
-use rustsec_commands::{Paths, tree_line};
+use rustsec_commands::Paths;
+use rustsec_commands::error_output::refusal_output;
+use rustsec_commands::output::{Output, tree_line, usage_output};
 use rustsec_database::Database;
 use rustsec_error::{ErrorKind, Result};
 use rustsec_explain::{Explained, explain_id};
@@ -171,10 +172,10 @@ pub fn explain<F: Folders>(
     ensures same { AllowSame (F.allowed folders.old) (F.allowed folders.new) }
 {
     let Some(options) = options_of(alloc, words)? else {
-        return output::usage(alloc, misuse::of_options(alloc, words).ok());
+        return usage_output(alloc, misuse::of_options(alloc, words).ok());
     };
     match explain_options(alloc, folders, paths, text, &options) {
         Ok(output) => Ok(output),
-        Err(error) => refusal(alloc, &error),
+        Err(error) => refusal_output(alloc, &error),
     }
 }

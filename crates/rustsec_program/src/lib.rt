@@ -13,7 +13,6 @@ mod many;
 mod misuse;
 mod notes;
 mod options;
-pub mod output;
 mod plan;
 mod readings;
 mod request;

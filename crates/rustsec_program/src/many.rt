@@ -17,10 +17,11 @@ use crate::forms::Form;
 use crate::keys::Flag;
 use crate::misuse;
 use crate::options::{Options, options_of};
-use crate::output::{self, Output, refusal, why};
 use crate::plan::Plan;
 use rustsec_check_output::refused_line;
 use rustsec_commands::Fault;
+use rustsec_commands::error_output::{refusal_output, why};
+use rustsec_commands::output::{Output, usage_output};
 use rustsec_database::Database;
 use rustsec_error::{Error, ErrorKind, Result};
 use rustsec_folders::Folders;
@@ -306,7 +307,7 @@ fn write_refusal<W: Write, N: Write>(
     ensures err { IfErr result (λ e. e ≢ fault.Write → Keeps (W.contents output.old) (W.contents output.new)) }
     ensures read { IfErr result (λ e. e ≢ fault.Read) }
 {
-    let made = refusal(alloc, error)?;
+    let made = refusal_output(alloc, error)?;
     made.write_with_note(output, notes)
 }
 
@@ -321,7 +322,7 @@ fn write_usage<W: Write, N: Write>(
     ensures err { IfErr result (λ e. e ≢ fault.Write → Keeps (W.contents output.old) (W.contents output.new)) }
     ensures read { IfErr result (λ e. e ≢ fault.Read) }
 {
-    let made = output::usage(alloc, misuse::of_options(alloc, options).ok())?;
+    let made = usage_output(alloc, misuse::of_options(alloc, options).ok())?;
     made.write_with_note(output, notes)
 }
 

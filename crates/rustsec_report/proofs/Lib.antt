@@ -5,4 +5,5 @@ pub mod FurtherFiles
 pub mod Held
 pub mod KeptReports
 pub mod Members
+pub mod PlainTrees
 pub mod ReportLaws

@@ -8,7 +8,6 @@ mod object;
 mod results;
 mod rules;
 mod said;
-mod score;
 mod uri;
 
 pub use crate::log::{sarif_text, sarif_tree};

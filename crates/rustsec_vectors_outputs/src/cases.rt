@@ -174,6 +174,48 @@ pub(crate) fn check_of<'a>(alloc: Global, findings: Vec<Finding<'a>>) -> Check<'
     }
 }
 
+/// Returns the finding of the vulnerability, with its path and who depends on the package.
+pub(crate) fn found<'a>(
+    alloc: Global,
+    advisory: &'a Advisory,
+    package: &'a Package,
+) -> Result<Finding<'a>, Fail> {
+    let path = [0, 1, 2].to_vec(alloc)?;
+    let dependents = [1].to_vec(alloc)?;
+    let mut finding = vulnerability(alloc, advisory, package, 2)?;
+    finding.path = Some(path);
+    finding.dependents = dependents;
+    Ok(finding)
+}
+
+/// Returns the yanked package, with its path and who depends on it.
+pub(crate) fn yanked_http<'a>(alloc: Global, package: &'a Package) -> Result<Yanked<'a>, Fail> {
+    let path = [0, 1].to_vec(alloc)?;
+    let dependents = [0].to_vec(alloc)?;
+    let mut yanked = yanked(alloc, package, 1, true);
+    yanked.path = Some(path);
+    yanked.dependents = dependents;
+    Ok(yanked)
+}
+
+/// Returns the check of both findings; the warning is ignored too.
+pub(crate) fn check<'a>(
+    alloc: Global,
+    advisories: &'a [Advisory],
+    packages: &'a [Package],
+) -> Result<Option<Check<'a>>, Fail> {
+    let ([critical, unmaintained], [_, http, quillpack]) = (advisories, packages) else {
+        return Ok(None);
+    };
+    let mut findings = Vec::new(alloc);
+    findings.push(warning(alloc, unmaintained, http))?;
+    findings.push(found(alloc, critical, quillpack)?)?;
+    let mut check = check_of(alloc, findings);
+    check.ignored.push(ignored(unmaintained, http))?;
+    check.below_threshold = 4;
+    Ok(Some(check))
+}
+
 /// A check, the yanked packages, and notes.
 #[derive(Drop)]
 pub(crate) struct Case<'a> {

@@ -1,11 +1,7 @@
 //! A check of three packages as text and as JSON, written by hand.
 
-use crate::cases::{
-    CRITICAL, Case, LOCKFILE, POLICY, UNMAINTAINED, check_of, database, ignored, vulnerability,
-    warning, yanked,
-};
+use crate::cases::{CRITICAL, Case, LOCKFILE, POLICY, UNMAINTAINED, check, database, yanked_http};
 use rustsec_advisory::Advisory;
-use rustsec_check::{Check, Finding, Yanked};
 use rustsec_check_output::{Dated, Written, check_line, check_text, refused_line};
 use rustsec_database::Database;
 use rustsec_error::ErrorKind;
@@ -67,48 +63,6 @@ const LINE: &[&str] = &[
 /// The line for a lockfile that was refused.
 const REFUSED: &str = r#"{"lockfile":"a/Cargo.lock","refused":"parse error"}
 "#;
-
-/// Returns the finding of the vulnerability, with its path and who depends on the package.
-fn found<'a>(
-    alloc: Global,
-    advisory: &'a Advisory,
-    package: &'a Package,
-) -> Result<Finding<'a>, Fail> {
-    let path = [0, 1, 2].to_vec(alloc)?;
-    let dependents = [1].to_vec(alloc)?;
-    let mut finding = vulnerability(alloc, advisory, package, 2)?;
-    finding.path = Some(path);
-    finding.dependents = dependents;
-    Ok(finding)
-}
-
-/// Returns the yanked package, with its path and who depends on it.
-fn yanked_http<'a>(alloc: Global, package: &'a Package) -> Result<Yanked<'a>, Fail> {
-    let path = [0, 1].to_vec(alloc)?;
-    let dependents = [0].to_vec(alloc)?;
-    let mut yanked = yanked(alloc, package, 1, true);
-    yanked.path = Some(path);
-    yanked.dependents = dependents;
-    Ok(yanked)
-}
-
-/// Returns the check of both findings; the warning is ignored too.
-fn check<'a>(
-    alloc: Global,
-    advisories: &'a [Advisory],
-    packages: &'a [Package],
-) -> Result<Option<Check<'a>>, Fail> {
-    let ([critical, unmaintained], [_, http, quillpack]) = (advisories, packages) else {
-        return Ok(None);
-    };
-    let mut findings = Vec::new(alloc);
-    findings.push(warning(alloc, unmaintained, http))?;
-    findings.push(found(alloc, critical, quillpack)?)?;
-    let mut check = check_of(alloc, findings);
-    check.ignored.push(ignored(unmaintained, http))?;
-    check.below_threshold = 4;
-    Ok(Some(check))
-}
 
 /// Returns whether the check is written as the rows above say.
 fn is_written(alloc: Global, written: &Written<'_, '_>) -> Result<bool, Fail> {

@@ -1,23 +1,20 @@
 //! The page of a check of three packages, written by hand.
 
+use crate::cases::{Case, LOCKFILE, UNMAINTAINED, check, database, yanked_http};
 use rustsec_advisory::Advisory;
-use rustsec_check::{Check, Finding, IgnoredPair, Update, Yanked};
 use rustsec_check_output::{Dated, Written};
 use rustsec_database::Database;
-use rustsec_folders::SourceFile;
 use rustsec_lock::Lockfile;
 use rustsec_lock::package::Package;
 use rustsec_page::{page_text, push_yanked_list};
 use rustsec_policy::{Ignored, Policy};
-use rustsec_texts::WarningKind;
 use rustsec_values::Text;
-use semver::Version;
 use std::alloc::Global;
 use std::process::Abort;
 use std::test::Fail;
 
-/// An advisory about a vulnerability. Its vector is the example of CVSS 3.1 with the score 9.8.
-const CRITICAL: &str = r#"```toml
+/// The advisory about the vulnerability, with addresses and with characters that are escaped.
+const LINKED: &str = r#"```toml
 [advisory]
 id = "RUSTSEC-2023-9002"
 package = "quillpack"
@@ -37,44 +34,8 @@ It reads <past> the end.
 It writes, too.
 "#;
 
-/// An advisory about a package that nobody maintains.
-const UNMAINTAINED: &str = r#"```toml
-[advisory]
-id = "RUSTSEC-2024-9001"
-package = "http"
-date = "2024-01-02"
-informational = "unmaintained"
-
-[versions]
-patched = []
-```
-
-# Nobody maintains it
-
-Nobody does.
-"#;
-
-/// A lockfile with a local package and two published ones.
-const LOCKFILE: &str = r#"
-[[package]]
-name = "app"
-version = "0.1.0"
-dependencies = ["http"]
-
-[[package]]
-name = "http"
-version = "2.0.0"
-source = "registry+https://github.com/rust-lang/crates.io-index"
-dependencies = ["quillpack"]
-
-[[package]]
-name = "quillpack"
-version = "2.1.0"
-source = "registry+https://github.com/rust-lang/crates.io-index"
-"#;
-
-/// A policy that ignores the warning.
-const POLICY: &str = r#"
+/// The policy that ignores the warning, with quotation marks in its reason.
+const QUOTED_POLICY: &str = r#"
 [advisories]
 ignore = [{ id = "RUSTSEC-2024-9001", reason = 'it is "small"', until = "2024-12-31" }]
 "#;
@@ -176,111 +137,6 @@ const YANKED: &str = r#"<section>
 </section>
 "#;
 
-/// Returns a file.
-fn file(alloc: Global, path: &str, text: &str) -> Result<SourceFile, Fail> {
-    let path = Text::from_str(alloc, path)?;
-    let text = Text::from_str(alloc, text)?;
-    Ok(SourceFile { path, text })
-}
-
-/// Returns the database of both advisories.
-fn database(alloc: Global) -> Result<Database, Fail> {
-    let mut files = Vec::new(alloc);
-    files.push(file(alloc, "crates/quillpack/RUSTSEC-2023-9002.md", CRITICAL)?)?;
-    files.push(file(alloc, "crates/http/RUSTSEC-2024-9001.md", UNMAINTAINED)?)?;
-    let database = Database::load(alloc, files.as_slice())?;
-    Ok(database)
-}
-
-/// Returns the finding of the vulnerability.
-fn vulnerability<'a>(
-    alloc: Global,
-    advisory: &'a Advisory,
-    package: &'a Package,
-) -> Result<Finding<'a>, Fail> {
-    let least_free = Version::parse(alloc, "2.3.1")?;
-    let path = [0, 1, 2].to_vec(alloc)?;
-    let dependents = [1].to_vec(alloc)?;
-    Ok(Finding {
-        kind: None,
-        advisory,
-        package,
-        place: 2,
-        is_denied: true,
-        is_old: false,
-        path: Some(path),
-        dependents,
-        update: Update {
-            least_free: Some(least_free),
-            is_compatible: true,
-            moved_by: Vec::new(alloc),
-        },
-    })
-}
-
-/// Returns the finding of the warning.
-fn warning<'a>(alloc: Global, advisory: &'a Advisory, package: &'a Package) -> Finding<'a> {
-    Finding {
-        kind: Some(WarningKind::Unmaintained),
-        advisory,
-        package,
-        place: 1,
-        is_denied: false,
-        is_old: true,
-        path: None,
-        dependents: Vec::new(alloc),
-        update: Update {
-            least_free: None,
-            is_compatible: false,
-            moved_by: Vec::new(alloc),
-        },
-    }
-}
-
-/// Returns the packages that are yanked: the second one.
-fn yanked<'a>(alloc: Global, packages: &'a [Package]) -> Result<Vec<Yanked<'a>>, Fail> {
-    let mut yanked = Vec::new(alloc);
-    if let [_, http, ..] = packages {
-        let path = [0, 1].to_vec(alloc)?;
-        yanked.push(Yanked {
-            package: http,
-            place: 1,
-            is_denied: true,
-            is_old: false,
-            path: Some(path),
-            dependents: Vec::new(alloc),
-        })?;
-    }
-    Ok(yanked)
-}
-
-/// Returns the check of both findings; the warning is ignored too.
-fn check<'a>(
-    alloc: Global,
-    advisories: &'a [Advisory],
-    packages: &'a [Package],
-) -> Result<Option<Check<'a>>, Fail> {
-    let ([critical, unmaintained], [_, http, quillpack]) = (advisories, packages) else {
-        return Ok(None);
-    };
-    let mut findings = Vec::new(alloc);
-    findings.push(warning(alloc, unmaintained, http))?;
-    findings.push(vulnerability(alloc, critical, quillpack)?)?;
-    let mut ignored = Vec::new(alloc);
-    ignored.push(IgnoredPair {
-        kind: Some(WarningKind::Unmaintained),
-        advisory: unmaintained,
-        package: http,
-    })?;
-    Ok(Some(Check {
-        findings,
-        ignored,
-        unused: Vec::new(alloc),
-        unknown: Vec::new(alloc),
-        below_threshold: 4,
-    }))
-}
-
 /// Returns whether the page ends as the row above says.
 fn ends_with_body(alloc: Global, written: &Written<'_, '_>) -> Result<bool, Fail> {
     let page = page_text(alloc, written)?;
@@ -288,32 +144,6 @@ fn ends_with_body(alloc: Global, written: &Written<'_, '_>) -> Result<bool, Fail
         Some((_, rest)) => rest == BODY,
         None => false,
     })
-}
-
-/// A check, and notes.
-#[derive(Drop)]
-struct Case<'a> {
-    check: Check<'a>,
-    notes: Vec<Text>,
-}
-
-/// Returns whether a case is written as the row above says.
-fn is_case_written<'c, 'a>(
-    alloc: Global,
-    database: &'c Dated<'c>,
-    lockfile: &'c Lockfile,
-    entries: &'c [Ignored],
-    case: &'c Case<'a>,
-) -> Result<bool, Fail> {
-    let written = Written {
-        database,
-        lockfile,
-        check: &case.check,
-        entries,
-        notes: case.notes.as_slice(),
-        yanked: None,
-    };
-    ends_with_body(alloc, &written)
 }
 
 /// Returns the check with a note.
@@ -327,7 +157,11 @@ fn whole_case<'a>(
     };
     let mut notes = Vec::new(alloc);
     notes.push(Text::from_str(alloc, "one\n<b>two")?)?;
-    Ok(Some(Case { check, notes }))
+    Ok(Some(Case {
+        check,
+        yanked: None,
+        notes,
+    }))
 }
 
 /// Returns whether the check of the database and the lockfile is written as the row above says.
@@ -343,14 +177,14 @@ fn is_written_of(
         return Ok(false);
     };
     let dated = Dated::new(database);
-    is_case_written(alloc, &dated, lockfile, entries, &case)
+    ends_with_body(alloc, &case.written(&dated, lockfile, entries))
 }
 
 /// Returns whether the whole is written as the row above says.
 fn is_whole(alloc: Global) -> Result<bool, Fail> {
-    let database = database(alloc)?;
+    let database = database(alloc, LINKED, UNMAINTAINED)?;
     let lockfile = Lockfile::from_str(alloc, LOCKFILE)?;
-    let policy = Policy::from_str(alloc, POLICY)?;
+    let policy = Policy::from_str(alloc, QUOTED_POLICY)?;
     is_written_of(
         alloc,
         &database,
@@ -361,9 +195,13 @@ fn is_whole(alloc: Global) -> Result<bool, Fail> {
 
 /// Returns whether the section of the yanked package is written as the row above says.
 fn is_section(alloc: Global, packages: &[Package]) -> Result<bool, Fail> {
-    let all = yanked(alloc, packages)?;
+    let [_, http, ..] = packages else {
+        return Ok(false);
+    };
+    let mut yanked = Vec::new(alloc);
+    yanked.push(yanked_http(alloc, http)?)?;
     let mut text = String::new(alloc);
-    push_yanked_list(alloc, &mut text, packages, all.as_slice())?;
+    push_yanked_list(alloc, &mut text, packages, yanked.as_slice())?;
     Ok(text.as_str() == YANKED)
 }
 

@@ -24,7 +24,7 @@ use Rattle.rustsec_osv.specs.declared.document.MainOsvDatabaseSpecific.{MainOsvD
 use Rattle.rustsec_osv.specs.declared.reference.OsvReference.{OsvReference}
 use Rattle.rustsec_osv.specs.declared.severity.OsvSeverity.{OsvSeverity}
 use Rattle.rustsec_osv.specs.declared.severity.OsvSeverity.TheVariants as severity
-use Rattle.rustsec_commands.proofs.lemmas.command.NoFloats.{AllPlain, Plain, list-plain, optional-plain, put-plain}
+use Rattle.rustsec_report.proofs.PlainTrees.{AllPlain, Plain, list-plain, optional-plain, put-plain}
 
 rows-plain : (rows : List Row) (ms : Members) → AllPlain rows → members_have_float ms ≡ false → members_have_float (with_rows ms rows) ≡ false
 rows-plain [] ms h hm = hm

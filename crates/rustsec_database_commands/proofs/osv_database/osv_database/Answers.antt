@@ -10,6 +10,6 @@ returns-in-Ok-clause-ok g c =
 
 pub returns-in-Err-clause-ok : goal.returns-in-Err-clause-ok
 returns-in-Err-clause-ok g c =
-    IfOk-weaker c.refusal.result _ _
+    IfOk-weaker c.refusal_output.result _ _
     (λ o h. not-exported (g.F.Folders.allowed c.args.folders.now) c.args.root.now c.args.modified.now (map (λ (w : Bor (List ℕ)). w.now) c.args.words.now)
-    c.in-Some.choice c.in-Err.error o c.in-Some.ensures c.in-Err.ensures.err h.0 h.1) c.refusal.ensures
+    c.in-Some.choice c.in-Err.error o c.in-Some.ensures c.in-Err.ensures.err h.0 h.1) c.refusal_output.ensures

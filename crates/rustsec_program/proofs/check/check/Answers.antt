@@ -8,5 +8,5 @@ returns-in-Ok-clause-ok g c = checked c.in-Some.options (sym c.in_ok-options.ens
 
 pub returns-clause-ok : goal.returns-clause-ok
 returns-clause-ok g c =
-    IfOk-weaker c.refusal.result _ _
-    (λ o h. refused c.in-Some.options c.in-Err.error (sym c.in_ok-options.ensures ∙ c.in-Some.is) c.in-Err.ensures.err h.0 h.1) c.refusal.ensures
+    IfOk-weaker c.refusal_output.result _ _
+    (λ o h. refused c.in-Some.options c.in-Err.error (sym c.in_ok-options.ensures ∙ c.in-Some.is) c.in-Err.ensures.err h.0 h.1) c.refusal_output.ensures

@@ -1,5 +1,5 @@
 -- Trees without floats, whose text is known.
-use Rattle.std.proofs.Common.{◌≡◌, ℕ, Bool, true, false, ◌||◌, List, [], ◌∷◌, map, refl}
+use Rattle.std.proofs.Common.{◌≡◌, ℕ, Bool, true, false, ◌||◌, List, [], ◌∷◌, ◌++◌, map, Option, None, Some, refl}
 use Rattle.std.specs.Cmp.Lexicographic.{slice_cmp}
 use Rattle.std.specs.Ordering.{match_ordering, nat_cmp}
 use Rattle.std.specs.declared.cmp.Ordering.{Ordering}
@@ -7,7 +7,7 @@ use Rattle.std.specs.declared.cmp.Ordering.TheVariants as ordering
 use Rattle.serde_json.specs.Data.{Data, Members, member, no_members, put}
 use Rattle.serde_json.specs.View.{items_of}
 use Rattle.serde_json.specs.Written.{has_float, items_have_float, members_have_float}
-use Rattle.rustsec_json.specs.Trees.{list_tree}
+use Rattle.rustsec_json.specs.Trees.{list_tree, optional_tree}
 use Rattle.rustsec_report.specs.Trees.{Entry, object_of, with_members}
 
 -- a tree without a float, and members whose trees have no float
@@ -53,6 +53,10 @@ with-plain (e ∷ es) ms h hm = with-plain es (put e.0 e.1 ms) h.1 (put-plain e.
 pub object-plain : (es : List Entry) → AllPlain es → Plain (object_of es)
 object-plain es h = with-plain es no_members h refl
 
+pub append-plain : (es fs : List Entry) → AllPlain es → AllPlain fs → AllPlain (es ++ fs)
+append-plain [] fs h k = k
+append-plain (e ∷ es) fs h k = (h.0, append-plain es fs h.1 k)
+
 module _ {A : Type 0} where
   items-plain : (tree : A → Data) → ((x : A) → Plain (tree x)) → (xs : List A) → items_have_float (items_of (map tree xs)) ≡ false
   items-plain tree h [] = refl
@@ -60,3 +64,11 @@ module _ {A : Type 0} where
 
   pub list-plain : (tree : A → Data) → ((x : A) → Plain (tree x)) → (xs : List A) → Plain (list_tree tree xs)
   list-plain tree h xs = items-plain tree h xs
+
+  pub optional-plain : (tree : A → Data) → ((x : A) → Plain (tree x)) → (o : Option A) → Plain (optional_tree tree o)
+  optional-plain tree h None = refl
+  optional-plain tree h (Some x) = h x
+
+  pub map-plain : (entry : A → Entry) → ((x : A) → Plain ((entry x).1)) → (xs : List A) → AllPlain (map entry xs)
+  map-plain entry h [] = tt
+  map-plain entry h (x ∷ xs) = (h x, map-plain entry h xs)
