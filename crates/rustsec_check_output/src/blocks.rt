@@ -6,8 +6,7 @@ ghost use Rattle.rustsec_graph.specs.Entries.{places};
 ghost use Rattle.rustsec_check_output.specs.CheckText.{block, group_at, groups_of, in_order, is_above, is_at, is_of, is_topped_by, ranks};
 
 use crate::block::push_block;
-use crate::rank::{Rank, is_above, is_of};
-use rustsec_check::Finding;
+use crate::rank::{Rank, Ranked};
 use rustsec_lock::package::Package;
 use std::alloc::{AllocError, Global};
 
@@ -15,26 +14,26 @@ use std::alloc::{AllocError, Global};
 #[derive(Drop)]
 pub(crate) struct Page<'a> {
     pub(crate) packages: &'a [Package],
-    pub(crate) findings: &'a [Finding<'a>],
+    pub(crate) findings: &'a [Ranked<'a>],
     pub(crate) colored: bool,
 }
 
 /// Returns whether a finding is about the package at a place, and of a rank.
-fn is_at_of(place: usize, rank: Rank, finding: &Finding<'_>) -> bool
+fn is_at_of(place: usize, rank: Rank, finding: &Ranked<'_>) -> bool
     ensures { result ≡ (is_at place finding.now && is_of rank finding.now) }
 {
-    finding.place == place && is_of(rank, finding)
+    finding.finding.place == place && finding.is_of(rank)
 }
 
 /// Returns whether a finding is about the package at a place, and of a rank that is more severe than this one.
-fn is_at_above(place: usize, rank: Rank, finding: &Finding<'_>) -> bool
+fn is_at_above(place: usize, rank: Rank, finding: &Ranked<'_>) -> bool
     ensures { result ≡ (is_at place finding.now && is_above rank finding.now) }
 {
-    finding.place == place && is_above(rank, finding)
+    finding.finding.place == place && finding.is_above(rank)
 }
 
 /// Returns whether some finding about the package at a place is of a rank.
-fn has_of(findings: &[Finding<'_>], rank: Rank, place: usize) -> bool
+fn has_of(findings: &[Ranked<'_>], rank: Rank, place: usize) -> bool
     ensures { result ≡ list_any (λ f. is_at place f && is_of rank f) findings.now }
 {
     findings
@@ -43,7 +42,7 @@ fn has_of(findings: &[Finding<'_>], rank: Rank, place: usize) -> bool
 }
 
 /// Returns whether some finding about the package at a place is of a rank that is more severe than this one.
-fn has_above(findings: &[Finding<'_>], rank: Rank, place: usize) -> bool
+fn has_above(findings: &[Ranked<'_>], rank: Rank, place: usize) -> bool
     ensures { result ≡ list_any (λ f. is_at place f && is_above rank f) findings.now }
 {
     findings
@@ -52,7 +51,7 @@ fn has_above(findings: &[Finding<'_>], rank: Rank, place: usize) -> bool
 }
 
 /// Returns whether the most severe finding about the package at a place is of a rank.
-fn is_topped_by(findings: &[Finding<'_>], rank: Rank, place: usize) -> bool
+fn is_topped_by(findings: &[Ranked<'_>], rank: Rank, place: usize) -> bool
     ensures { result ≡ is_topped_by findings.now rank place }
 {
     has_of(findings, rank, place) && !has_above(findings, rank, place)
@@ -70,7 +69,7 @@ fn push_rank_at(
 {
     for finding in page.findings {
         if is_at_of(place, rank, finding) {
-            push_block(text, page.colored, page.packages, finding)?;
+            push_block(text, page.colored, page.packages, finding.finding)?;
         }
     }
     Ok(())

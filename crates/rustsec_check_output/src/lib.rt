@@ -13,7 +13,7 @@ mod list_json;
 mod package_json;
 mod part;
 mod quoted;
-mod rank;
+pub mod rank;
 pub mod rating;
 mod text;
 mod tree_lines;

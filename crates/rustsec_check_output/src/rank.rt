@@ -1,16 +1,18 @@
-//! How severe a finding is, for the order in which findings are written.
+//! Returns how severe a finding is, for the order in which findings are written.
 
-ghost use Rattle.std.specs.Prelude.{◌≡◌};
+ghost use Rattle.std.specs.Prelude.{◌≡◌, IfOk};
 ghost use Rattle.rustsec_check_output.specs.CheckText.{is_above, is_of, rank_of, rank_place, rank_with, rated, ranks};
 
 use crate::rating::severity_of;
 use rustsec_check::Finding;
 use rustsec_lock::Severity;
 use rustsec_texts::WarningKind;
+use std::alloc::{AllocError, Global};
+use std::marker::Model;
 
 /// How severe a finding is.
 #[derive(Clone, Copy)]
-pub(crate) enum Rank {
+pub enum Rank {
     /// A vulnerability that is rated critical.
     Critical,
     /// A vulnerability that is rated high.
@@ -44,7 +46,7 @@ impl Rank {
     }
 
     /// Returns the place of the rank among all.
-    fn place(self) -> usize
+    pub fn place(self) -> usize
         ensures { result ≡ rank_place self }
     {
         match self {
@@ -84,22 +86,65 @@ fn rank_with(kind: Option<WarningKind>, severity: Option<Severity>) -> Rank
 }
 
 /// Returns the rank of a finding.
-fn rank_of(finding: &Finding<'_>) -> Rank
+pub fn rank_of(finding: &Finding<'_>) -> Rank
     ensures { result ≡ rank_of finding.now }
 {
     rank_with(finding.kind, severity_of(&finding.advisory.metadata))
 }
 
-/// Returns whether a finding is of a rank.
-pub(crate) fn is_of(rank: Rank, finding: &Finding<'_>) -> bool
-    ensures { result ≡ is_of rank finding.now }
-{
-    rank_of(finding).place() == rank.place()
+/// A finding with its rank, which is found once and asked for often.
+#[derive(Drop)]
+pub(crate) struct Ranked<'a> {
+    /// The finding.
+    pub(crate) finding: &'a Finding<'a>,
+    rank: Rank,
 }
 
-/// Returns whether a finding is of a rank that is more severe than this one.
-pub(crate) fn is_above(rank: Rank, finding: &Finding<'_>) -> bool
-    ensures { result ≡ is_above rank finding.now }
+/// Contracts see the finding.
+impl<'a> Model for Ranked<'a> {
+    ghost use Rattle.std.specs.Prelude.{◌≡◌};
+    ghost use Rattle.rustsec_check.specs.Values.{FindingValue};
+    ghost use Rattle.rustsec_check_output.specs.CheckText.{rank_of};
+
+    ghost Value = { FindingValue };
+
+    ghost view = { λ r. r.finding.now };
+
+    ghost invariant = { λ r. r.rank ≡ rank_of r.finding.now };
+}
+
+impl<'a> Ranked<'a> {
+    /// Returns a finding with its rank.
+    fn new(finding: &'a Finding<'a>) -> Ranked<'a>
+        ensures { result ≡ finding.now }
+    {
+        Ranked {
+            finding,
+            rank: rank_of(finding),
+        }
+    }
+
+    /// Returns whether the finding is of a rank.
+    pub(crate) fn is_of(&self, rank: Rank) -> bool
+        ensures { result ≡ is_of rank self.now }
+    {
+        self.rank.place() == rank.place()
+    }
+
+    /// Returns whether the finding is of a rank that is more severe than this one.
+    pub(crate) fn is_above(&self, rank: Rank) -> bool
+        ensures { result ≡ is_above rank self.now }
+    {
+        self.rank.place() < rank.place()
+    }
+}
+
+/// Returns findings with their ranks, in order.
+pub(crate) fn with_ranks<'a>(
+    alloc: Global,
+    findings: &'a [Finding<'a>],
+) -> Result<Vec<Ranked<'a>>, AllocError>
+    ensures { IfOk result (λ v. v.items ≡ findings.now) }
 {
-    rank_of(finding).place() < rank.place()
+    findings.iter().map(Ranked::new).collect(alloc)
 }

@@ -6,6 +6,7 @@ ghost use Rattle.rustsec_check_output.specs.CheckText.{blocks, check_text};
 
 use crate::blocks::{Page, push_blocks};
 use crate::lines::{push_further, push_last};
+use crate::rank::with_ranks;
 use crate::written::Written;
 use crate::yanked_block::push_yanked;
 use rustsec_error::Result;
@@ -22,10 +23,10 @@ fn push_findings(
     ensures { OnOk result (string_bytes text.new ≡ string_bytes text.old ++ blocks colored written.now) }
 {
     let lockfile = written.lockfile;
-    let check = written.check;
+    let ranked = with_ranks(alloc, written.check.findings.as_slice())?;
     let page = Page {
         packages: lockfile.packages.as_slice(),
-        findings: check.findings.as_slice(),
+        findings: ranked.as_slice(),
         colored,
     };
     push_blocks(alloc, text, &page)?;

@@ -2,10 +2,12 @@
 
 ghost use Rattle.std.specs.Prelude.{◌≡◌, IfErr, IfOk};
 ghost use Rattle.rustsec_versions.specs.ranges.AcceptedRanges.{AreRangesOf};
+ghost use Rattle.rustsec_check_output.specs.CheckText.{rank_of, rank_place};
 ghost use Rattle.rustsec_error.specs.Failure.{IsMemory};
 ghost use Rattle.rustsec_page.specs.Findings.{AreDrawn};
 
 use rustsec_check::Finding;
+use rustsec_check_output::rank::rank_of;
 use rustsec_error::Result;
 use rustsec_versions::{OsvRange, Versions, ranges_for_advisory};
 use std::alloc::{AllocError, Global};
@@ -18,14 +20,28 @@ pub(crate) struct Drawn<'a> {
     pub(crate) finding: &'a Finding<'a>,
     /// The ranges, in rising order.
     pub(crate) ranges: Vec<OsvRange>,
+    rank_place: usize,
 }
 
 impl<'a> Model for Drawn<'a> {
+    ghost use Rattle.std.specs.Prelude.{◌≡◌};
+    ghost use Rattle.rustsec_check_output.specs.CheckText.{rank_of, rank_place};
     ghost use Rattle.rustsec_page.specs.Findings.{DrawnValue};
 
     ghost Value = { DrawnValue };
 
     ghost view = { λ d. record { finding = d.finding.now; ranges = d.ranges.items } };
+
+    ghost invariant = { λ d. d.rank_place ≡ rank_place (rank_of d.finding.now) };
+}
+
+impl<'a> Drawn<'a> {
+    /// Returns the place of the finding's rank among all.
+    pub(crate) fn rank_place(&self) -> usize
+        ensures { result ≡ rank_place (rank_of self.now.finding) }
+    {
+        self.rank_place
+    }
 }
 
 /// Returns the ranges that an advisory's requirements leave affected.
@@ -43,7 +59,12 @@ fn drawn_of<'a>(alloc: Global, finding: &'a Finding<'a>) -> Result<Drawn<'a>>
     ensures err { IfErr result IsMemory }
 {
     let ranges = ranges_of(alloc, &finding.advisory.versions)?;
-    Ok(Drawn { finding, ranges })
+    let rank_place = rank_of(finding).place();
+    Ok(Drawn {
+        finding,
+        ranges,
+        rank_place,
+    })
 }
 
 /// Returns findings with the ranges of their advisories, in order.

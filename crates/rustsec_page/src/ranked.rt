@@ -2,7 +2,6 @@
 
 ghost use Rattle.std.specs.Prelude.{◌≡◌, ◌++◌, OnOk, string_bytes};
 ghost use Rattle.std.specs.List.{filter, flat_map, list_any};
-ghost use Rattle.rustsec_check_output.specs.CheckText.{rank_of, rank_place, rated, rank_with};
 ghost use Rattle.rustsec_page.specs.Findings.{by_rank, finding, is_ranked, of_rank, ranked};
 ghost use Rattle.rustsec_page.specs.Pieces.{text_of};
 
@@ -10,9 +9,6 @@ use crate::drawn::Drawn;
 use crate::finding::push_finding;
 use crate::pieces::push_section;
 use crate::section::Section;
-use rustsec_check::Finding;
-use rustsec_check_output::rating::severity_of;
-use rustsec_lock::Severity;
 use rustsec_lock::package::Package;
 use std::alloc::{AllocError, Global};
 
@@ -25,35 +21,11 @@ pub(crate) struct Found<'a> {
     pub(crate) drawn: &'a [Drawn<'a>],
 }
 
-/// Returns the place of the rank of a vulnerability with this rating, if any.
-fn rated_place(severity: Option<Severity>) -> usize
-    ensures { result ≡ rank_place (rated severity) }
-{
-    match severity {
-        Some(Severity::Critical) => 0,
-        Some(Severity::High) => 1,
-        Some(Severity::Medium) => 2,
-        Some(Severity::Low) => 3,
-        Some(Severity::None) => 4,
-        None => 5,
-    }
-}
-
-/// Returns the place of the rank of a finding.
-fn place_of(finding: &Finding<'_>) -> usize
-    ensures { result ≡ rank_place (rank_of finding.now) }
-{
-    match finding.kind {
-        Some(_) => 6,
-        None => rated_place(severity_of(&finding.advisory.metadata)),
-    }
-}
-
 /// Returns whether a finding has the rank at a place.
 fn is_ranked(place: usize, drawn: &Drawn<'_>) -> bool
     ensures { result ≡ is_ranked place drawn.now }
 {
-    place_of(drawn.finding) == place
+    drawn.rank_place() == place
 }
 
 /// Returns whether some finding has the rank at a place.
