@@ -22,14 +22,16 @@ pub(crate) struct Page<'a> {
 fn is_at_of(place: usize, rank: Rank, finding: &Ranked<'_>) -> bool
     ensures { result ≡ (is_at place finding.now && is_of rank finding.now) }
 {
-    finding.finding.place == place && finding.is_of(rank)
+    let found = finding.finding;
+    found.place == place && finding.is_of(rank)
 }
 
 /// Returns whether a finding is about the package at a place, and of a rank that is more severe than this one.
 fn is_at_above(place: usize, rank: Rank, finding: &Ranked<'_>) -> bool
     ensures { result ≡ (is_at place finding.now && is_above rank finding.now) }
 {
-    finding.finding.place == place && finding.is_above(rank)
+    let found = finding.finding;
+    found.place == place && finding.is_above(rank)
 }
 
 /// Returns whether some finding about the package at a place is of a rank.

@@ -23,7 +23,8 @@ fn push_findings(
     ensures { OnOk result (string_bytes text.new ≡ string_bytes text.old ++ blocks colored written.now) }
 {
     let lockfile = written.lockfile;
-    let ranked = with_ranks(alloc, written.check.findings.as_slice())?;
+    let check = written.check;
+    let ranked = with_ranks(alloc, check.findings.as_slice())?;
     let page = Page {
         packages: lockfile.packages.as_slice(),
         findings: ranked.as_slice(),

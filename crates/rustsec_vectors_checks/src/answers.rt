@@ -3,10 +3,9 @@
 use crate::files::FILES;
 use rustsec_commands::Fault;
 use rustsec_error::ErrorKind;
-use rustsec_fixtures::{Failing, MemoryFolders};
+use rustsec_fixtures::{Failing, MemoryFolders, Paths};
 use rustsec_program::run_over;
 use std::alloc::Global;
-use std::io;
 use std::process::Abort;
 use std::test::Fail;
 
@@ -16,6 +15,46 @@ const NONE: Failing = Failing {
     kind: ErrorKind::Io,
 };
 
+/// Files, which call over them fails, words, and an input.
+#[derive(Clone, Copy)]
+pub struct Asked<'a> {
+    pub files: Paths<'a>,
+    pub failing: Failing,
+    pub words: &'a [&'a str],
+    pub input: &'a str,
+}
+
+impl<'a> Asked<'a> {
+    /// Returns words and an input, over files of which no call fails.
+    pub fn of(files: Paths<'a>, words: &'a [&'a str], input: &'a str) -> Asked<'a> {
+        Asked {
+            files,
+            failing: NONE,
+            words,
+            input,
+        }
+    }
+}
+
+/// Appends what is written to the output and to the error output, and returns the status. All tests over files in memory
+/// make this one call.
+pub fn run(
+    alloc: Global,
+    asked: Asked<'_>,
+    written: &mut Vec<u8>,
+    notes: &mut Vec<u8>,
+) -> Result<u8, Fault> {
+    let mut folders = MemoryFolders::new(asked.files, asked.failing);
+    let mut input: &[u8] = asked.input.as_bytes();
+    run_over(&mut folders, alloc, asked.words, &mut input, written, notes)
+}
+
+/// Appends what is written to the output, and returns the status.
+pub fn append_for(alloc: Global, asked: Asked<'_>, written: &mut Vec<u8>) -> Result<u8, Fault> {
+    let mut notes = Vec::new(alloc);
+    run(alloc, asked, written, &mut notes)
+}
+
 /// Appends what words write for an input, and returns the status.
 pub fn append(
     alloc: Global,
@@ -23,10 +62,19 @@ pub fn append(
     input: &str,
     written: &mut Vec<u8>,
 ) -> Result<u8, Fault> {
-    let mut folders = MemoryFolders::new(FILES, NONE);
-    let mut input: &[u8] = input.as_bytes();
-    let mut notes = io::sink();
-    run_over(&mut folders, alloc, words, &mut input, written, &mut notes)
+    append_for(alloc, Asked::of(FILES, words, input), written)
+}
+
+/// Returns whether these bytes are written, with this status.
+pub fn writes_for(
+    alloc: Global,
+    asked: Asked<'_>,
+    status: u8,
+    bytes: &[u8],
+) -> Result<bool, Fault> {
+    let mut written = Vec::new(alloc);
+    let found = append_for(alloc, asked, &mut written)?;
+    Ok(found == status && written.as_slice() == bytes)
 }
 
 /// Returns whether words write these bytes for an input, with this status.
@@ -37,9 +85,7 @@ pub fn writes_bytes(
     status: u8,
     bytes: &[u8],
 ) -> Result<bool, Fault> {
-    let mut written = Vec::new(alloc);
-    let found = append(alloc, words, input, &mut written)?;
-    Ok(found == status && written.as_slice() == bytes)
+    writes_for(alloc, Asked::of(FILES, words, input), status, bytes)
 }
 
 /// Returns whether words write a text for an input, with this status.
@@ -67,20 +113,16 @@ pub fn expect_rows<T: AllocGlobal + Abort>(rt: &T, rows: &[Row<'_>]) -> Result<(
     Ok(())
 }
 
+/// Appends what is written to the error output, and returns the status.
+pub fn append_notes(alloc: Global, asked: Asked<'_>, notes: &mut Vec<u8>) -> Result<u8, Fault> {
+    let mut written = Vec::new(alloc);
+    run(alloc, asked, &mut written, notes)
+}
+
 /// Returns whether words write a text to the error output for an input.
 pub fn notes(alloc: Global, words: &[&str], input: &str, text: &str) -> Result<bool, Fault> {
-    let mut folders = MemoryFolders::new(FILES, NONE);
-    let mut input: &[u8] = input.as_bytes();
-    let mut written = io::sink();
     let mut notes = Vec::new(alloc);
-    run_over(
-        &mut folders,
-        alloc,
-        words,
-        &mut input,
-        &mut written,
-        &mut notes,
-    )?;
+    append_notes(alloc, Asked::of(FILES, words, input), &mut notes)?;
     Ok(notes.as_slice() == text.as_bytes())
 }
 

@@ -1,13 +1,11 @@
 //! Memory that runs out in the middle of a command.
 
-use crate::answers::append;
+use crate::answers::{Asked, append, append_for};
 use crate::files::FILES;
 use rustsec_commands::Fault;
 use rustsec_error::ErrorKind;
-use rustsec_fixtures::{Failing, MemoryFolders};
-use rustsec_program::run_over;
+use rustsec_fixtures::Failing;
 use std::alloc::Global;
-use std::io;
 use std::process::Abort;
 use std::test::Fail;
 
@@ -38,10 +36,13 @@ fn append_till(alloc: Global, words: &[&str], at: u64, written: &mut Vec<u8>) ->
         at,
         kind: ErrorKind::OutOfMemory,
     };
-    let mut folders = MemoryFolders::new(FILES, failing);
-    let mut input: &[u8] = LIST.as_bytes();
-    let mut notes = io::sink();
-    run_over(&mut folders, alloc, words, &mut input, written, &mut notes)
+    let asked = Asked {
+        files: FILES,
+        failing,
+        words,
+        input: LIST,
+    };
+    append_for(alloc, asked, written)
 }
 
 /// Returns whether words break off there with the lines of the first lockfiles written, and nothing else.

@@ -1,11 +1,9 @@
 //! Advisories about no package of the lockfile, which a check drops as soon as their files were checked.
 
+use crate::answers::{Asked, writes_for};
 use rustsec_commands::Fault;
-use rustsec_error::ErrorKind;
-use rustsec_fixtures::{Failing, Holds, MemoryFolders, Paths};
-use rustsec_program::run_over;
+use rustsec_fixtures::{Holds, Paths};
 use std::alloc::Global;
-use std::io;
 use std::test::Fail;
 
 /// A database of two advisories, one with the ID of an advisory of another one, and lockfiles.
@@ -91,23 +89,7 @@ const ROWS: &[(&[&str], u8, &str)] = &[
 
 /// Returns whether words write a text, with this status.
 fn writes(alloc: Global, words: &[&str], status: u8, text: &str) -> Result<bool, Fault> {
-    let failing = Failing {
-        at: 0,
-        kind: ErrorKind::Io,
-    };
-    let mut folders = MemoryFolders::new(FILES, failing);
-    let mut input: &[u8] = &[];
-    let mut written = Vec::new(alloc);
-    let mut notes = io::sink();
-    let found = run_over(
-        &mut folders,
-        alloc,
-        words,
-        &mut input,
-        &mut written,
-        &mut notes,
-    )?;
-    Ok(found == status && written.as_slice() == text.as_bytes())
+    writes_for(alloc, Asked::of(FILES, words, ""), status, text.as_bytes())
 }
 
 #[test]

@@ -1,11 +1,9 @@
 //! What `check` says about requirements that Cargo's matching reads differently.
 
+use crate::answers::{Asked, append_notes};
 use rustsec_commands::Fault;
-use rustsec_error::ErrorKind;
-use rustsec_fixtures::{Failing, Holds, MemoryFolders, Paths};
-use rustsec_program::run_over;
+use rustsec_fixtures::{Holds, Paths};
 use std::alloc::Global;
-use std::io;
 use std::test::Fail;
 
 /// An advisory about `http` with three such requirements, one about `left` without any, and a lockfile in which both
@@ -43,25 +41,10 @@ const FILES: Paths<'_> = &[
     ),
 ];
 
-/// No call fails.
-const NONE: Failing = Failing {
-    at: 0,
-    kind: ErrorKind::Io,
-};
-
 /// Returns whether words write exactly this note for an input, with status 1.
 fn has_note(alloc: Global, words: &[&str], input: &str, note: &str) -> Result<bool, Fault> {
-    let mut folders = MemoryFolders::new(FILES, NONE);
-    let mut input: &[u8] = input.as_bytes();
     let mut notes = Vec::new(alloc);
-    let status = run_over(
-        &mut folders,
-        alloc,
-        words,
-        &mut input,
-        &mut io::sink(),
-        &mut notes,
-    )?;
+    let status = append_notes(alloc, Asked::of(FILES, words, input), &mut notes)?;
     Ok(status == 1 && notes.as_slice() == note.as_bytes())
 }
 

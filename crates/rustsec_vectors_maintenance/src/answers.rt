@@ -5,8 +5,15 @@ use rustsec_database_commands::run_over;
 use rustsec_error::ErrorKind;
 use rustsec_fixtures::{Failing, MemoryFolders, Paths};
 use std::alloc::Global;
-use std::io;
 use std::test::Fail;
+
+/// Files, words, and an input.
+#[derive(Clone, Copy)]
+struct Asked<'a> {
+    files: Paths<'a>,
+    words: &'a [&'a str],
+    input: &'a str,
+}
 
 /// No call fails.
 const NONE: Failing = Failing {
@@ -14,27 +21,17 @@ const NONE: Failing = Failing {
     kind: ErrorKind::Io,
 };
 
-/// Returns whether words write a text over files, with this status.
-pub(crate) fn writes(
+/// Appends what words write over files for an input to the output and to the error output, and returns the status. All
+/// tests over files in memory make this one call.
+fn run(
     alloc: Global,
-    files: Paths<'_>,
-    words: &[&str],
-    status: u8,
-    text: &str,
-) -> Result<bool, Fail> {
-    let mut folders = MemoryFolders::new(files, NONE);
-    let mut input: &[u8] = b"";
-    let mut written = Vec::new(alloc);
-    let mut notes = io::sink();
-    let found = run_over(
-        &mut folders,
-        alloc,
-        words,
-        &mut input,
-        &mut written,
-        &mut notes,
-    )?;
-    Ok(found == status && written.as_slice() == text.as_bytes())
+    asked: Asked<'_>,
+    written: &mut Vec<u8>,
+    notes: &mut Vec<u8>,
+) -> Result<u8, Fault> {
+    let mut folders = MemoryFolders::new(asked.files, NONE);
+    let mut input: &[u8] = asked.input.as_bytes();
+    run_over(&mut folders, alloc, asked.words, &mut input, written, notes)
 }
 
 /// Appends what words write over files for an input, and returns the status.
@@ -45,25 +42,47 @@ pub(crate) fn append_for(
     input: &str,
     written: &mut Vec<u8>,
 ) -> Result<u8, Fault> {
-    let mut folders = MemoryFolders::new(files, NONE);
-    let mut input: &[u8] = input.as_bytes();
-    let mut notes = io::sink();
-    run_over(&mut folders, alloc, words, &mut input, written, &mut notes)
+    let mut notes = Vec::new(alloc);
+    let asked = Asked {
+        files,
+        words,
+        input,
+    };
+    run(alloc, asked, written, &mut notes)
+}
+
+/// Returns whether words write a text over files, with this status.
+pub(crate) fn writes(
+    alloc: Global,
+    files: Paths<'_>,
+    words: &[&str],
+    status: u8,
+    text: &str,
+) -> Result<bool, Fail> {
+    let mut written = Vec::new(alloc);
+    let found = append_for(alloc, files, words, "", &mut written)?;
+    Ok(found == status && written.as_slice() == text.as_bytes())
+}
+
+/// Appends what words write to the error output over files.
+fn append_notes(
+    alloc: Global,
+    files: Paths<'_>,
+    words: &[&str],
+    notes: &mut Vec<u8>,
+) -> Result<u8, Fault> {
+    let mut written = Vec::new(alloc);
+    let asked = Asked {
+        files,
+        words,
+        input: "",
+    };
+    run(alloc, asked, &mut written, notes)
 }
 
 /// Returns what words write to the error output over files.
 pub(crate) fn notes_of(alloc: Global, files: Paths<'_>, words: &[&str]) -> Result<Vec<u8>, Fault> {
-    let mut folders = MemoryFolders::new(files, NONE);
-    let mut input: &[u8] = b"";
-    let mut written = io::sink();
     let mut notes = Vec::new(alloc);
-    run_over(
-        &mut folders,
-        alloc,
-        words,
-        &mut input,
-        &mut written,
-        &mut notes,
-    )?;
+    append_notes(alloc, files, words, &mut notes)?;
     Ok(notes)
 }
