@@ -30,7 +30,7 @@ def unescaped(literal):
 
 
 TEST_CRATES = (
-    "rustsec_fixtures", "rustsec_command_fixtures", "rustsec_tests", "rustsec_command_tests", "rustsec_vectors",
+    "rustsec_fixtures", "rustsec_tests", "rustsec_vectors",
     "rustsec_vectors_databases", "rustsec_vectors_commands", "rustsec_vectors_parts", "rustsec_vectors_checks",
     "rustsec_vectors_maintenance",
 )

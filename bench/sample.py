@@ -129,7 +129,7 @@ HEAD = """\
 // Answers of the program that agree with those of the Rust crate, a sample of random inputs. Made by
 // `bench/compare OURS THEIRS --seed {seed} --count {count} --sample {sample} --module`.
 
-use rustsec_command_fixtures::writes;
+use crate::written::writes;
 use std::alloc::Global;
 use std::process::Abort;
 use std::rt::Files;

@@ -20,7 +20,7 @@ pub(crate) struct Drawn<'a> {
     pub(crate) finding: &'a Finding<'a>,
     /// The ranges, in rising order.
     pub(crate) ranges: Vec<OsvRange>,
-    rank_place: usize,
+    rank_index: usize,
 }
 
 impl<'a> Model for Drawn<'a> {
@@ -32,15 +32,15 @@ impl<'a> Model for Drawn<'a> {
 
     ghost view = { λ d. record { finding = d.finding.now; ranges = d.ranges.items } };
 
-    ghost invariant = { λ d. d.rank_place ≡ rank_place (rank_of d.finding.now) };
+    ghost invariant = { λ d. d.rank_index ≡ rank_place (rank_of d.finding.now) };
 }
 
 impl<'a> Drawn<'a> {
     /// Returns the place of the finding's rank among all.
-    pub(crate) fn rank_place(&self) -> usize
+    pub(crate) fn rank_index(&self) -> usize
         ensures { result ≡ rank_place (rank_of self.now.finding) }
     {
-        self.rank_place
+        self.rank_index
     }
 }
 
@@ -59,11 +59,11 @@ fn drawn_of<'a>(alloc: Global, finding: &'a Finding<'a>) -> Result<Drawn<'a>>
     ensures err { IfErr result IsMemory }
 {
     let ranges = ranges_of(alloc, &finding.advisory.versions)?;
-    let rank_place = rank_of(finding).place();
+    let rank_index = rank_of(finding).place();
     Ok(Drawn {
         finding,
         ranges,
-        rank_place,
+        rank_index,
     })
 }
 

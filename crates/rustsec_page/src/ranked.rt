@@ -25,7 +25,7 @@ pub(crate) struct Found<'a> {
 fn is_ranked(place: usize, drawn: &Drawn<'_>) -> bool
     ensures { result ≡ is_ranked place drawn.now }
 {
-    drawn.rank_place() == place
+    drawn.rank_index() == place
 }
 
 /// Returns whether some finding has the rank at a place.

@@ -25,7 +25,7 @@ pub struct Asked<'a> {
 }
 
 impl<'a> Asked<'a> {
-    /// Returns words and an input, over files of which no call fails.
+    /// Returns words and an input, over files whose calls all succeed.
     pub fn of(files: Paths<'a>, words: &'a [&'a str], input: &'a str) -> Asked<'a> {
         Asked {
             files,

@@ -1,7 +1,7 @@
 //! The commands `affected` and `ranges`, as programs run them.
 
 use crate::outputs::expect_outputs;
-use rustsec_command_fixtures::writes;
+use crate::written::writes;
 use std::test::Fail;
 
 #[test]

@@ -1,8 +1,8 @@
 //! The errors that a linter finds in advisory files, and the command `lint`.
 
 use crate::outputs::expect_outputs;
+use crate::written::writes;
 use rustsec_advisory::linter::{self, ErrorKind, Linter};
-use rustsec_command_fixtures::writes;
 use rustsec_fixtures::{INVALID, INVALID_ERRORS, VALID, changed};
 use std::alloc::Global;
 use std::fs;

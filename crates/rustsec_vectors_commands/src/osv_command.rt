@@ -1,7 +1,7 @@
 //! The command `osv`, over files that a test writes.
 
 use crate::outputs::expect_outputs;
-use rustsec_command_fixtures::writes;
+use crate::written::writes;
 use rustsec_fixtures::{SHORT, SHORT_DOCUMENT, changed};
 use std::fs;
 use std::rt::Files;

@@ -1,6 +1,6 @@
 //! What commands write, row by row.
 
-use rustsec_command_fixtures::writes;
+use crate::written::writes;
 use std::process::Abort;
 use std::rt::Files;
 use std::test::Fail;

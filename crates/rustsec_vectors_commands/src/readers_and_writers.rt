@@ -1,6 +1,6 @@
 //! The commands over readers and writers that take one byte a call, that fail, and that hold much.
 
-use rustsec_command_fixtures::writes;
+use crate::written::writes;
 use rustsec_commands::{Fault, answer, answer_ranges, run};
 use rustsec_fixtures::{ByteReader, ByteWriter};
 use std::alloc::Global;

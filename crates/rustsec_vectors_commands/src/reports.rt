@@ -1,7 +1,7 @@
 //! Reports: which pairs they list, their JSON trees, and what of them applies to compiled programs.
 
+use crate::warnings::warning_lines;
 use rustsec_advisory::Affected;
-use rustsec_command_fixtures::warning_lines;
 use rustsec_database::{Database, SourceFile};
 use rustsec_lock::package::{Name, Package};
 use rustsec_lock::platforms::OS;

@@ -28,15 +28,16 @@ pub(crate) fn id_of(alloc: Global, number: u32) -> Result<String> {
     Ok(format!(in alloc; "RUSTSEC-2001-{number}")?)
 }
 
-/// Returns the status of words over files, and what is written.
-pub(crate) fn output_over(
+/// Returns the status of words over files for an input, and what is written.
+pub(crate) fn output_for(
     alloc: Global,
     files: Paths<'_>,
     words: &[&str],
+    input: &[u8],
 ) -> std::result::Result<(u8, Vec<u8>), Fault> {
     let kind = ErrorKind::Io;
     let mut folders = MemoryFolders::new(files, Failing { at: 0, kind });
-    let mut input: &[u8] = b"";
+    let mut input = input;
     let mut written = Vec::new(alloc);
     let mut notes = io::sink();
     let status = run_over(
@@ -48,4 +49,13 @@ pub(crate) fn output_over(
         &mut notes,
     )?;
     Ok((status, written))
+}
+
+/// Returns the status of words over files, and what is written.
+pub(crate) fn output_over(
+    alloc: Global,
+    files: Paths<'_>,
+    words: &[&str],
+) -> std::result::Result<(u8, Vec<u8>), Fault> {
+    output_for(alloc, files, words, b"")
 }

@@ -1,15 +1,13 @@
 //! Hundreds of requirements: unaffected ones of a single version each, below patched ones that leave gaps.
 
-use crate::folders::output_over;
+use crate::folders::{output_for, output_over};
 use crate::numbers::{REQUIREMENTS, numbered, occurrences};
 use rustsec_check::least_free;
-use rustsec_command_fixtures::writes;
 use rustsec_commands::answer_ranges;
 use rustsec_fixtures::{Holds, SHORT, changed, lists, version};
 use rustsec_versions::{Versions, ranges_for_advisory};
 use std::alloc::Global;
 use std::process::Abort;
-use std::rt::Files;
 use std::test::Fail;
 
 /// The unaffected requirement with a number, on a line.
@@ -161,15 +159,17 @@ fn version_lines(alloc: Global) -> Result<String, Fail> {
     Ok(format!(in alloc; "{lists}{versions}")?)
 }
 
+/// Returns whether a command writes a text for an input, with status 0.
+fn writes(alloc: Global, command: &str, input: &str, output: &str) -> Result<bool, Fail> {
+    let (status, written) = output_for(alloc, &[], &[command], input.as_bytes())?;
+    Ok(status == 0 && written.as_slice() == output.as_bytes())
+}
+
 /// Returns whether `affected` gives its verdict for two versions of each patched requirement.
-fn affected_answers<T: Files + AllocGlobal>(rt: &T) -> Result<bool, Fail> {
-    let input = version_lines(rt.alloc())?;
-    let output = numbered(
-        rt.alloc(),
-        REQUIREMENTS,
-        "@.4.9 not affected\n@.5.0 affected\n",
-    )?;
-    writes(rt, &["affected"], input.as_bytes(), 0, output.as_bytes())
+fn affected_answers(alloc: Global) -> Result<bool, Fail> {
+    let input = version_lines(alloc)?;
+    let output = numbered(alloc, REQUIREMENTS, "@.4.9 not affected\n@.5.0 affected\n")?;
+    writes(alloc, "affected", &input, &output)
 }
 
 /// Returns what `ranges` writes of the lists. An unaffected requirement ends the range before it, and the next range
@@ -181,16 +181,16 @@ fn ranges_lines(alloc: Global) -> Result<String, Fail> {
 }
 
 /// Returns whether `ranges` gives each gap between the requirements.
-fn ranges_answers<T: Files + AllocGlobal>(rt: &T) -> Result<bool, Fail> {
-    let input = list_lines(rt.alloc())?;
-    let output = ranges_lines(rt.alloc())?;
-    writes(rt, &["ranges"], input.as_bytes(), 0, output.as_bytes())
+fn ranges_answers(alloc: Global) -> Result<bool, Fail> {
+    let input = list_lines(alloc)?;
+    let output = ranges_lines(alloc)?;
+    writes(alloc, "ranges", &input, &output)
 }
 
 #[test]
 fn commands_of_hundreds_of_requirements(rt: HostRuntime) -> Result<(), Fail> {
-    assert!(rt; affected_answers(&rt)?);
-    assert!(rt; ranges_answers(&rt)?);
+    assert!(rt; affected_answers(rt.alloc())?);
+    assert!(rt; ranges_answers(rt.alloc())?);
     Ok(())
 }
 

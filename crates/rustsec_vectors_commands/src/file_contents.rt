@@ -1,7 +1,7 @@
 //! The contents of files are kept unchanged: byte order marks, line ends, and files of more than a megabyte.
 
+use crate::written::writes;
 use rustsec_advisory::Advisory;
-use rustsec_command_fixtures::writes;
 use rustsec_error::ErrorKind;
 use rustsec_fixtures::{VALID, changed, kind_of};
 use std::alloc::Global;

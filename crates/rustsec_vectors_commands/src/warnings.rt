@@ -30,7 +30,7 @@ fn add_lines(lines: &mut String, kind: WarningKind, list: &[Warning]) -> Result<
 }
 
 /// Returns a line for each warning, kind by kind and then in order, as `notice base 1.0.0 RUSTSEC-2001-0001`.
-pub fn warning_lines(alloc: Global, warnings: &WarningInfo) -> Result<String, Fail> {
+pub(crate) fn warning_lines(alloc: Global, warnings: &WarningInfo) -> Result<String, Fail> {
     let mut lines = String::new(alloc);
     for (kind, list) in warnings.as_map() {
         add_lines(&mut lines, *kind, list.as_slice())?;

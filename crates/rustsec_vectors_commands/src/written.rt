@@ -5,7 +5,7 @@ use std::rt::Files;
 use std::test::Fail;
 
 /// Returns whether a command writes a text for an input, with this status.
-pub fn writes<T: Files + AllocGlobal>(
+pub(crate) fn writes<T: Files + AllocGlobal>(
     rt: &T,
     words: &[&str],
     input: &[u8],

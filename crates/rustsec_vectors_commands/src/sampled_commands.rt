@@ -1,7 +1,7 @@
 //! Answers of the program that agree with those of the Rust crate, a sample of random inputs. Made by
 //! `bench/compare OURS THEIRS --seed 7 --count 30000 --sample 120 --module`.
 
-use rustsec_command_fixtures::writes;
+use crate::written::writes;
 use std::alloc::Global;
 use std::process::Abort;
 use std::rt::Files;
