@@ -26,7 +26,6 @@ use std::marker::Model;
 use toml::Table;
 
 /// A lockfile with its text and the graph of its packages.
-#[derive(Drop)]
 pub struct Locked {
     /// The text.
     pub text: Text,
@@ -34,6 +33,17 @@ pub struct Locked {
     pub lockfile: Lockfile,
     /// The graph of its packages.
     pub graph: Graph,
+}
+
+/// Hand-written: a derived `Drop` is proved again, field by field, at every exit of every owner.
+impl Drop for Locked {
+    fn drop(self) {
+        let Locked {
+            text: _,
+            lockfile: _,
+            graph: _,
+        } = self;
+    }
 }
 
 impl Model for Locked {
@@ -185,7 +195,6 @@ pub struct Places<'a> {
 }
 
 /// What these files say.
-#[derive(Drop)]
 pub struct Loaded {
     /// The lockfile.
     pub locked: Locked,
@@ -193,6 +202,17 @@ pub struct Loaded {
     pub baseline: Option<Lockfile>,
     /// Which packages are yanked, if an index was asked.
     pub yanked: Option<YankedPackages>,
+}
+
+/// Hand-written: a derived `Drop` is proved again, field by field, at every exit of every owner.
+impl Drop for Loaded {
+    fn drop(self) {
+        let Loaded {
+            locked: _,
+            baseline: _,
+            yanked: _,
+        } = self;
+    }
 }
 
 impl Model for Loaded {

@@ -222,11 +222,21 @@ fn write_lines<'x, F: Folders, W: Write, N: Write>(
 }
 
 /// What is known before the first line: the plan, the database, and the paths of the lockfiles.
-#[derive(Drop)]
 struct Prepared<'a> {
     plan: Plan<'a>,
     database: Database,
     paths: Vec<&'a str>,
+}
+
+/// Hand-written: a derived `Drop` is proved again, field by field, at every exit of every owner.
+impl<'a> Drop for Prepared<'a> {
+    fn drop(self) {
+        let Prepared {
+            plan: _,
+            database: _,
+            paths: _,
+        } = self;
+    }
 }
 
 impl<'a> Model for Prepared<'a> {

@@ -24,7 +24,6 @@ use std::alloc::Global;
 use std::marker::Model;
 
 /// What the options of a command and the file of its policy ask for.
-#[derive(Drop)]
 pub struct Plan<'a> {
     /// The policy, with the entries of `ignore` that count on the day.
     pub policy: Policy,
@@ -36,6 +35,19 @@ pub struct Plan<'a> {
     pub allow_empty: bool,
     /// Whether a line is written to the error output after each lockfile of many.
     pub shows_progress: bool,
+}
+
+/// Hand-written: a derived `Drop` is proved again, field by field, at every exit of every owner.
+impl<'a> Drop for Plan<'a> {
+    fn drop(self) {
+        let Plan {
+            policy: _,
+            wanted: _,
+            baseline: _,
+            allow_empty: _,
+            shows_progress: _,
+        } = self;
+    }
 }
 
 impl<'a> Model for Plan<'a> {
