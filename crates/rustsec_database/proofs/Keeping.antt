@@ -4,12 +4,10 @@ use Rattle.std.proofs.lemmas.Bool.Decides.{same_from_decides}
 use Rattle.std.proofs.lemmas.List.Elements.{filter-append}
 use Rattle.std.proofs.lemmas.List.Folds.{list_any-append}
 use Rattle.std.specs.Prelude.{Err, IfErr, IfOk, Ok, Result}
-use Rattle.std.specs.BTreeMap.{is_at}
-use Rattle.std.specs.BTreeSet as tree
-use Rattle.std.specs.BTreeSet.{BTreeSet, Updates}
+use Rattle.std.specs.HashSet.{HashSet, Updates}
 use Rattle.std.specs.List.{filter, list_any}
 use Rattle.rustsec_error.specs.Failure.{Failure, IsMemory}
-use Rattle.rustsec_texts.specs.IdOrder.{id_decides, id_eq, id_order, id_ties}
+use Rattle.rustsec_texts.specs.IdOrder.{id_decides, id_eq}
 use Rattle.rustsec_texts.specs.Ids.{IdValue}
 use Rattle.rustsec_advisory.specs.declared.advisory.Advisory.{Advisory}
 use Rattle.rustsec_folders.specs.Allowed.{Allowed, AllowSame}
@@ -27,14 +25,6 @@ use Rattle.rustsec_database.proofs.Places.{is-false, neither}
 
 -- ---- IDs
 
-any-agree : {A : Type 0} (p q : A → Bool) → ((x : A) → p x ≡ q x) → (xs : List A) → list_any p xs ≡ list_any q xs
-any-agree p q same [] = refl
-any-agree p q same (x ∷ xs) = λ i. same x i || any-agree p q same xs i
-
--- a set of IDs has an ID exactly if an equal one is among its keys
-pub has-key : (id : IdValue) (ids : BTreeSet IdValue) → tree.contains id_order ids id ≡ list_any (id_eq id) ids.keys
-has-key id ids = any-agree (is_at (id_order id)) (id_eq id) (λ k. sym (id_ties id k)) ids.keys
-
 eq-back : (a b : IdValue) → id_eq a b ≡ id_eq b a
 eq-back a b =
     let d = id_decides b a in
@@ -47,13 +37,10 @@ or-back false true = refl
 or-back false false = refl
 
 -- one ID more
-pub more-among : (id : IdValue) (old new : BTreeSet IdValue) → Updates id_order old new id true → (q : IdValue)
+pub more-among : {S : Type 0} (id : IdValue) (old new : HashSet IdValue S) → Updates id_eq old new id true → (q : IdValue)
     → list_any (id_eq q) new.keys ≡ (list_any (id_eq q) old.keys || id_eq q id)
 more-among id old new updates q =
-    sym (has-key q new)
-    ∙ (updates.0 q
-    ∙ ((λ i. cond ((sym (id_ties id q) ∙ eq-back id q) i) true (has-key q old i))
-    ∙ or-back (id_eq q id) (list_any (id_eq q) old.keys)))
+    updates.0 q ∙ (ap (λ b. cond b true (list_any (id_eq q) old.keys)) (eq-back id q) ∙ or-back (id_eq q id) (list_any (id_eq q) old.keys))
 
 -- ---- one advisory more
 

@@ -1,13 +1,13 @@
 -- The tables of a database after one more advisory is stored.
 use Rattle.std.proofs.Common.{◌≡◌, ◌∙◌, ◌+◌, ◌++◌, ◌&&◌, ℕ, Bool, true, false, cond, List, [], ◌∷◌, Option, Some, length, nat_eq, refl, subst, sym, ap, arith}
-use Rattle.std.specs.BTreeMap as tree
-use Rattle.std.specs.BTreeMap.{BTreeMap, Updates}
 use Rattle.std.specs.Cmp.{first_so, second_so}
 use Rattle.std.specs.Cmp.Lexicographic.{bytes_decides, pointwise}
+use Rattle.std.specs.HashMap as hash
+use Rattle.std.specs.HashMap.{HashMap, Updates}
 use Rattle.std.specs.List.{filter, list_any, position_from}
 use Rattle.std.specs.Option.{option_eq}
 use denote.Enum.Bare.{sameb}
-use Rattle.rustsec_texts.specs.IdOrder.{id_decides, id_eq, id_order, id_ties}
+use Rattle.rustsec_texts.specs.IdOrder.{id_decides, id_eq}
 use Rattle.rustsec_texts.specs.Ids.{IdValue}
 use Rattle.rustsec_texts.specs.contracts.collection.Collection.{the_type as collection}
 use Rattle.rustsec_texts.specs.declared.collection.Collection.{Collection}
@@ -39,13 +39,13 @@ table-step old a id o true is at new =
     ap Some (plus-zero (length old)) ∙ sym (first-last (has_id id) 0 old a none here)
 table-step old a id o false is at new = at ∙ sym (first-other (has_id id) 0 old a (id-back a.metadata.id id is))
 
-pub table-more : (old : List Advisory) (a : Advisory) (id : IdValue) (m n : BTreeMap IdValue ℕ) (place : ℕ) → id ≡ a.metadata.id → place ≡ length old
-    → Updates id_order m n id (Some place) → is_known old a ≡ false → IsTableOf old m → IsTableOf (old ++ a ∷ []) n
+pub table-more : {S : Type 0} (old : List Advisory) (a : Advisory) (id : IdValue) (m n : HashMap IdValue ℕ S) (place : ℕ) → id ≡ a.metadata.id → place ≡ length old
+    → Updates id_eq m n id (Some place) → is_known old a ≡ false → IsTableOf old m → IsTableOf (old ++ a ∷ []) n
 table-more old a id m n place same at updates new table q =
-    updates.0 q ∙ ((λ i. cond (sym (id_ties (same i) q) i) (Some (at i)) (tree.get id_order m q))
-    ∙ table-step old a q (tree.get id_order m q) (id_eq a.metadata.id q) refl (table q) new)
+    updates.0 q ∙ ((λ i. cond (id_eq (same i) q) (Some (at i)) (hash.get id_eq m q))
+    ∙ table-step old a q (hash.get id_eq m q) (id_eq a.metadata.id q) refl (table q) new)
 
-pub empty-table : (m : BTreeMap IdValue ℕ) → m.entries ≡ [] → IsTableOf [] m
+pub empty-table : {S : Type 0} (m : HashMap IdValue ℕ S) → m.entries ≡ [] → IsTableOf [] m
 empty-table m e q = rw e refl
 
 -- ---- the index of a collection

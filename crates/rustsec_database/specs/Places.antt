@@ -1,14 +1,14 @@
 -- Places in a list of advisories, which the tables of a database hold. No public contract depends on these definitions.
 use Rattle.std.specs.Prelude.{◌≡◌, ◌&&◌, ◌+◌, ℕ, Bool, false, List, [], ◌∷◌, None, Option, Some, if◌then◌else◌, nat_eq, slice_get}
-use Rattle.std.specs.BTreeMap as tree
-use Rattle.std.specs.BTreeMap.{BTreeMap}
 use Rattle.std.specs.Cmp.Lexicographic.{pointwise}
+use Rattle.std.specs.HashMap as hash
+use Rattle.std.specs.HashMap.{HashMap}
 use Rattle.std.specs.List.{filter_map, position_from}
 use Rattle.std.specs.Option.{option_eq}
 use denote.Enum.Bare.{sameb}
 use Rattle.rustsec_versions.specs.acceptance.Lists.{Lists, affected}
 use Rattle.rustsec_lock.specs.Package.{PackageValue}
-use Rattle.rustsec_texts.specs.IdOrder.{id_order}
+use Rattle.rustsec_texts.specs.IdOrder.{id_eq}
 use Rattle.rustsec_texts.specs.Ids.{IdValue}
 use Rattle.rustsec_texts.specs.contracts.collection.Collection.{the_type as collection}
 use Rattle.rustsec_texts.specs.declared.collection.Collection.{Collection}
@@ -34,8 +34,8 @@ abbrev pub IsIndexOf : Collection → List Advisory → List (List ℕ × List �
 IsIndexOf c advisories index = (name : List ℕ) → slots_at name index ≡ places_from (is_under c name) 0 advisories
 
 -- the table of IDs: it maps each ID to the place of its advisory
-abbrev pub IsTableOf : List Advisory → BTreeMap IdValue ℕ → Type 0
-IsTableOf advisories table = (id : IdValue) → tree.get id_order table id ≡ position_from (has_id id) 0 advisories
+abbrev pub IsTableOf : {S : Type 0} → List Advisory → HashMap IdValue ℕ S → Type 0
+IsTableOf advisories table = (id : IdValue) → hash.get id_eq table id ≡ position_from (has_id id) 0 advisories
 
 -- whether a package has this name
 abbrev pub is_named : List ℕ → PackageValue → Bool

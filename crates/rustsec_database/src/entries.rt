@@ -19,7 +19,7 @@ use rustsec_error::{Error, ErrorKind, Result, refused_file};
 use rustsec_folders::{Folders, RealFolders};
 use rustsec_texts::Id;
 use std::alloc::{AllocError, Global};
-use std::collections::BTreeMap;
+use std::collections::HashMap;
 use std::marker::Model;
 use std::rt::Files;
 use std::{slice, vec};
@@ -28,7 +28,7 @@ use std::{slice, vec};
 #[derive(Debug, Drop)]
 pub struct Entries {
     advisories: Vec<Advisory>,
-    slots: BTreeMap<Id, Slot>,
+    slots: HashMap<Id, Slot>,
 }
 
 impl Model for Entries {
@@ -61,7 +61,7 @@ impl Entries {
     {
         Entries {
             advisories: Vec::new(alloc),
-            slots: BTreeMap::new(alloc),
+            slots: HashMap::new(alloc),
         }
     }
 

@@ -11,13 +11,13 @@ use crate::slot::Slot;
 use rustsec_error::Result;
 use rustsec_lock::package::Name;
 use std::alloc::{AllocError, Global};
-use std::collections::BTreeMap;
+use std::collections::HashMap;
 use std::marker::Model;
 
 /// A map from names to slots. Contracts see it as the list of the names with their slots.
 #[derive(Debug, Drop)]
 pub struct Index {
-    slots: BTreeMap<Name, Vec<Slot>>,
+    slots: HashMap<Name, Vec<Slot>>,
 }
 
 impl Model for Index {
@@ -55,7 +55,7 @@ impl Index {
         ensures { result ≡ [] }
     {
         Index {
-            slots: BTreeMap::new(alloc),
+            slots: HashMap::new(alloc),
         }
     }
 

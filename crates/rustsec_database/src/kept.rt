@@ -22,7 +22,7 @@ use rustsec_folders::{Folders, source_paths};
 use rustsec_texts::{Date, Id};
 use rustsec_values::{Test, Text};
 use std::alloc::{AllocError, Global};
-use std::collections::BTreeSet;
+use std::collections::HashSet;
 use std::marker::Model;
 
 /// A database of the advisories under a root that pass a test, beside the IDs and the latest date of all advisories
@@ -30,7 +30,7 @@ use std::marker::Model;
 #[derive(Debug, Drop)]
 pub struct KeptDatabase {
     database: Database,
-    ids: BTreeSet<Id>,
+    ids: HashSet<Id>,
     last_date: Option<Date>,
 }
 
@@ -45,7 +45,7 @@ impl Model for KeptDatabase {
 }
 
 /// Puts an ID among some. Returns whether it is new.
-fn add_id(ids: &mut BTreeSet<Id>, id: &Id) -> std::result::Result<bool, AllocError>
+fn add_id(ids: &mut HashSet<Id>, id: &Id) -> std::result::Result<bool, AllocError>
     ensures fresh { IfOk result (λ fresh. fresh ≡ not (list_any (id_eq id.now) ids.old.keys)) }
     ensures among { OnOk result ((q : IdValue) → list_any (id_eq q) ids.new.keys ≡ (list_any (id_eq q) ids.old.keys || id_eq q id.now)) }
     ensures number { IfOk result (λ fresh. length ids.new.keys ≡ length ids.old.keys + (if fresh then 1 else 0)) }
@@ -93,7 +93,7 @@ impl KeptDatabase {
     {
         KeptDatabase {
             database: Database::empty(alloc),
-            ids: BTreeSet::new(alloc),
+            ids: HashSet::new(alloc),
             last_date: None,
         }
     }

@@ -7,8 +7,7 @@ ghost use Rattle.rustsec_query.specs.Query.{Asked, crate_scope, of_package, unse
 ghost use Rattle.rustsec_query.specs.Selects.{selects};
 
 use crate::tests_of_fields::{
-    as_informational, as_withdrawn, has_name, has_source, has_version, in_collection, is_severe,
-    of_year, on_arch, on_os,
+    as_informational, as_withdrawn, has_source, is_about, is_severe, of_year, on_arch, on_os,
 };
 use rustsec_advisory::Advisory;
 use rustsec_error::Result;
@@ -254,9 +253,7 @@ impl Query {
           package_source = option_map (λ s. s.now) source.entry;
         }) advisory.now }
     {
-        in_collection(self.collection, advisory)
-            && has_name(name, advisory)
-            && has_version(version, advisory)
+        is_about(self.collection, name, version, advisory)
             && has_source(source, advisory)
             && is_severe(self.severity, advisory)
             && on_arch(self.target_arch.as_slice(), advisory)

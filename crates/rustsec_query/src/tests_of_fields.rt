@@ -1,6 +1,6 @@
 //! The ten tests of a query, one by one. If a field is not set, every advisory passes its test.
 
-ghost use Rattle.std.specs.Prelude.{◌≡◌, ◌==◌, ◌||◌, length, option_map};
+ghost use Rattle.std.specs.Prelude.{◌≡◌, ◌==◌, ◌||◌, ◌&&◌, length, option_map};
 ghost use Rattle.std.specs.List.{list_any};
 ghost use denote.Enum.Bare.{sameb};
 ghost use Rattle.semver.specs.Identifiers.{parts_of};
@@ -44,6 +44,23 @@ pub(crate) fn has_version(asked: Option<&Version>, advisory: &Advisory) -> bool
         Some(version) => advisory.versions.is_vulnerable(version),
         None => true,
     }
+}
+
+/// Returns whether the version, the collection and the name are the asked ones. The version is tested first, since an
+/// index finds advisories by the other two.
+pub(crate) fn is_about(
+    collection: Option<Collection>,
+    name: Option<&Name>,
+    version: Option<&Version>,
+    advisory: &Advisory,
+) -> bool
+    ensures { result ≡ (in_collection (record unset { collection = collection }) advisory.now
+        && has_name (record unset { package_name = option_map (λ n. n.now) name.entry }) advisory.now
+        && has_version (record unset { package_version = option_map (λ v. parts_of v.now) version.entry }) advisory.now) }
+{
+    has_version(version, advisory)
+        && in_collection(collection, advisory)
+        && has_name(name, advisory)
 }
 
 /// Returns whether an advisory's source, or the default one if it names none, has this kind and address.
