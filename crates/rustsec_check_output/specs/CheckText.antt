@@ -67,14 +67,19 @@ is_above r f = nat_lt (rank_place (rank_of f)) (rank_place r)
 abbrev pub is_at : ℕ → FindingValue → Bool
 is_at place f = f.place == place
 
--- whether the most severe finding about the package at a place is of a rank
+-- whether the most severe finding about the package at a place is of a rank: one of the rank is about it, and none that
+-- is more severe
 abbrev pub is_topped_by : List FindingValue → Rank → ℕ → Bool
 is_topped_by findings r place =
-    list_any (λ (f : FindingValue). is_at place f && is_of r f) findings && not (list_any (λ (f : FindingValue). is_at place f && is_above r f) findings)
+    list_any (is_at place) (filter (is_of r) findings) && not (list_any (is_at place) (filter (is_above r) findings))
+
+-- findings rank by rank
+abbrev pub by_rank : List FindingValue → List FindingValue
+by_rank findings = flat_map (λ r. filter (is_of r) findings) ranks
 
 -- the findings about the package at a place, rank by rank
 abbrev pub group_at : List FindingValue → ℕ → List FindingValue
-group_at findings place = flat_map (λ r. filter (λ (f : FindingValue). is_at place f && is_of r f) findings) ranks
+group_at findings place = by_rank (filter (is_at place) findings)
 
 -- the findings about the packages whose most severe finding is of a rank, in the lockfile's order
 abbrev pub groups_of : List FindingValue → ℕ → Rank → List FindingValue

@@ -1,12 +1,13 @@
 //! Writes the findings of a check for people, the most severe ones first.
 
-ghost use Rattle.std.specs.Prelude.{◌≡◌, ◌++◌, ◌&&◌, not, IfOk, OnOk, length, string_bytes};
-ghost use Rattle.std.specs.List.{filter, flat_map, list_any};
+ghost use Rattle.std.specs.Prelude.{◌≡◌, ◌++◌, IfOk, OnOk, length, string_bytes};
+ghost use Rattle.std.specs.List.{filter, flat_map};
 ghost use Rattle.rustsec_graph.specs.Entries.{places};
-ghost use Rattle.rustsec_check_output.specs.CheckText.{block, group_at, groups_of, in_order, is_above, is_at, is_of, is_topped_by, ranks};
+ghost use Rattle.rustsec_check_output.specs.CheckText.{block, by_rank, group_at, groups_of, in_order, is_of, is_topped_by};
 
 use crate::block::push_block;
 use crate::rank::{Rank, Ranked};
+use crate::selection::{Above, At, Of, has_at, selected};
 use rustsec_lock::package::Package;
 use std::alloc::{AllocError, Global};
 
@@ -18,83 +19,57 @@ pub(crate) struct Page<'a> {
     pub(crate) colored: bool,
 }
 
-/// Returns whether a finding is about the package at a place, and of a rank.
-fn is_at_of(place: usize, rank: Rank, finding: &Ranked<'_>) -> bool
-    ensures { result ≡ (is_at place finding.now && is_of rank finding.now) }
-{
-    let found = finding.finding;
-    found.place == place && finding.is_of(rank)
-}
-
-/// Returns whether a finding is about the package at a place, and of a rank that is more severe than this one.
-fn is_at_above(place: usize, rank: Rank, finding: &Ranked<'_>) -> bool
-    ensures { result ≡ (is_at place finding.now && is_above rank finding.now) }
-{
-    let found = finding.finding;
-    found.place == place && finding.is_above(rank)
-}
-
-/// Returns whether some finding about the package at a place is of a rank.
-fn has_of(findings: &[Ranked<'_>], rank: Rank, place: usize) -> bool
-    ensures { result ≡ list_any (λ f. is_at place f && is_of rank f) findings.now }
-{
-    findings
-        .iter()
-        .any(|finding| is_at_of(place, rank, finding))
-}
-
-/// Returns whether some finding about the package at a place is of a rank that is more severe than this one.
-fn has_above(findings: &[Ranked<'_>], rank: Rank, place: usize) -> bool
-    ensures { result ≡ list_any (λ f. is_at place f && is_above rank f) findings.now }
-{
-    findings
-        .iter()
-        .any(|finding| is_at_above(place, rank, finding))
-}
-
-/// Returns whether the most severe finding about the package at a place is of a rank.
-fn is_topped_by(findings: &[Ranked<'_>], rank: Rank, place: usize) -> bool
-    ensures { result ≡ is_topped_by findings.now rank place }
-{
-    has_of(findings, rank, place) && !has_above(findings, rank, place)
-}
-
-/// Appends the blocks of the findings about the package at a place that are of a rank.
-fn push_rank_at(
+/// Appends the blocks of the findings that are of a rank.
+fn push_rank(
     text: &mut String,
     page: &Page<'_>,
-    place: usize,
+    findings: &[Ranked<'_>],
     rank: Rank,
 ) -> Result<(), AllocError>
     ensures { OnOk result (string_bytes text.new ≡ string_bytes text.old ++ flat_map (block page.now.colored page.now.packages.now)
-        (filter (λ f. is_at place f && is_of rank f) page.now.findings.now)) }
+        (filter (is_of rank) findings.now)) }
 {
-    for finding in page.findings {
-        if is_at_of(place, rank, finding) {
+    for finding in findings {
+        if finding.is_of(rank) {
             push_block(text, page.colored, page.packages, finding.finding)?;
         }
     }
     Ok(())
 }
 
+/// Appends the blocks of findings, rank by rank.
+fn push_ranks(text: &mut String, page: &Page<'_>, findings: &[Ranked<'_>]) -> Result<(), AllocError>
+    ensures { OnOk result (string_bytes text.new ≡ string_bytes text.old ++ flat_map (block page.now.colored page.now.packages.now)
+        (by_rank findings.now)) }
+{
+    for rank in Rank::all() {
+        push_rank(text, page, findings, *rank)?;
+    }
+    Ok(())
+}
+
 /// Appends the blocks of the findings about the package at a place, rank by rank.
-fn push_group(text: &mut String, page: &Page<'_>, place: usize) -> Result<(), AllocError>
+fn push_group(
+    alloc: Global,
+    text: &mut String,
+    page: &Page<'_>,
+    place: usize,
+) -> Result<(), AllocError>
     ensures { OnOk result (string_bytes text.new ≡ string_bytes text.old ++ flat_map (block page.now.colored page.now.packages.now)
         (group_at page.now.findings.now place)) }
 {
-    for rank in Rank::all() {
-        push_rank_at(text, page, place, *rank)?;
-    }
-    Ok(())
+    let found = selected(alloc, page.findings, &At { place })?;
+    push_ranks(text, page, &found)
 }
 
 /// Returns the places of the packages whose most severe finding is of a rank, in order.
 fn topped_by(alloc: Global, page: &Page<'_>, rank: Rank) -> Result<Vec<usize>, AllocError>
     ensures { IfOk result (λ v. v.items ≡ filter (is_topped_by page.now.findings.now rank) (places (length page.now.packages.now))) }
 {
-    let findings = page.findings;
+    let of = selected(alloc, page.findings, &Of { rank })?;
+    let above = selected(alloc, page.findings, &Above { rank })?;
     (0..page.packages.len())
-        .filter(|place| is_topped_by(findings, rank, *place))
+        .filter(|place| has_at(&of, *place) && !has_at(&above, *place))
         .collect(alloc)
 }
 
@@ -110,7 +85,7 @@ fn push_groups(
 {
     let places = topped_by(alloc, page, rank)?;
     for place in &places {
-        push_group(text, page, *place)?;
+        push_group(alloc, text, page, *place)?;
     }
     Ok(())
 }

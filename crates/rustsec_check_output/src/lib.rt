@@ -15,6 +15,7 @@ mod part;
 mod quoted;
 pub mod rank;
 pub mod rating;
+mod selection;
 mod text;
 mod tree_lines;
 mod update_json;

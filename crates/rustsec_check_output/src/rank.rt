@@ -124,6 +124,24 @@ impl<'a> Ranked<'a> {
         }
     }
 
+    /// Returns the same finding with the same rank.
+    pub(crate) fn copy(&self) -> Ranked<'a>
+        ensures { result ≡ self.now }
+    {
+        Ranked {
+            finding: self.finding,
+            rank: self.rank,
+        }
+    }
+
+    /// Returns the place of the package that the finding is about.
+    pub(crate) fn place(&self) -> usize
+        ensures { result ≡ self.now.place }
+    {
+        let found = self.finding;
+        found.place
+    }
+
     /// Returns whether the finding is of a rank.
     pub(crate) fn is_of(&self, rank: Rank) -> bool
         ensures { result ≡ is_of rank self.now }

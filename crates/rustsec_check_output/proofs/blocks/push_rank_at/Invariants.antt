@@ -1,9 +1,0 @@
-use Rattle.std.proofs.Common.{◌≡◌, ◌++◌, ◌&&◌, flat_map, string_bytes, take}
-use Rattle.std.specs.List.{filter}
-use Rattle.rustsec_check_output.specs.CheckText.{block, is_at, is_of}
-use Rattle.rustsec_check_output.proofs.blocks.push_rank_at.Given as goal
-
-abbrev pub invariant-loop-finding : goal.invariant-loop-finding
-invariant-loop-finding l =
-    string_bytes l.text ≡ string_bytes l.fn.text
-    ++ flat_map (block l.page.colored l.page.packages.now) (filter (λ f. is_at l.place f && is_of l.rank f) (take l.finding-index l.page.findings.now))
