@@ -1,4 +1,4 @@
-//! Reports on thousands of packages by an advisory with a description of a megabyte.
+//! Reports on thousands of packages by an advisory with a description of a megabyte, and by one with a short description.
 
 use crate::files::BASE;
 use crate::numbers::{MEGABYTE, numbered};
@@ -17,53 +17,67 @@ const MANY: u32 = 4000;
 /// The ID of the advisory.
 const ID: &str = "RUSTSEC-2001-2101";
 
-/// A line of the advisory, the ignored ID, how many packages there are, and how many vulnerabilities and warnings the
-/// report lists; it asks for notices alone.
+/// A line of the advisory, how many bytes its description has, the ignored ID, how many packages there are, and how many
+/// vulnerabilities and warnings the report lists; it asks for notices alone.
 #[derive(Clone, Copy)]
 struct Row<'a> {
     line: &'a str,
+    bytes: usize,
     ignored: &'a str,
     packages: u32,
     listed: (usize, usize),
 }
 
-/// Worked by hand. The first three list nothing, though the advisory affects each package.
+/// Worked by hand. The first three list nothing, though the advisory affects each package, and the last one lists each.
 const ROWS: &[Row] = &[
     Row {
         line: "informational = \"x\"",
+        bytes: MEGABYTE,
         ignored: "RUSTSEC-2001-0001",
         packages: MANY,
         listed: (0, 0),
     },
     Row {
         line: "informational = \"notice\"",
+        bytes: MEGABYTE,
         ignored: ID,
         packages: MANY,
         listed: (0, 0),
     },
     Row {
         line: "",
+        bytes: MEGABYTE,
         ignored: ID,
         packages: MANY,
         listed: (0, 0),
     },
     Row {
         line: "informational = \"notice\"",
+        bytes: MEGABYTE,
         ignored: "RUSTSEC-2001-0001",
         packages: 3,
         listed: (0, 3),
     },
     Row {
         line: "",
+        bytes: MEGABYTE,
         ignored: "RUSTSEC-2001-0001",
         packages: 3,
         listed: (3, 0),
     },
+    Row {
+        line: "informational = \"notice\"",
+        bytes: 8,
+        ignored: "RUSTSEC-2001-0001",
+        packages: MANY,
+        listed: (0, 4000),
+    },
 ];
 
-/// Returns the file of the advisory with this line, which affects every version.
-fn source_file(alloc: Global, line: &str) -> Result<SourceFile, Fail> {
-    let description = "survive ".repeat(alloc, MEGABYTE / 8)?;
+/// Returns the file of a row's advisory, which affects every version.
+fn source_file(alloc: Global, row: &Row<'_>) -> Result<SourceFile, Fail> {
+    let line = row.line;
+    let description = "survive ".repeat(alloc, row.bytes / 8)?;
     let text = format!(in alloc;
         "```toml\n[advisory]\nid = \"{ID}\"\npackage = \"base\"\ndate = \"2001-02-03\"\n{line}\n[versions]\npatched = []\n```\n# T\n\n{description}\n"
     )?;
@@ -74,10 +88,10 @@ fn source_file(alloc: Global, line: &str) -> Result<SourceFile, Fail> {
     })
 }
 
-/// Returns the database of the advisory with this line.
-fn database(alloc: Global, line: &str) -> Result<Database, Fail> {
+/// Returns the database of a row's advisory.
+fn database(alloc: Global, row: &Row<'_>) -> Result<Database, Fail> {
     let mut files = Vec::new(alloc);
-    files.push(source_file(alloc, line)?)?;
+    files.push(source_file(alloc, row)?)?;
     Ok(Database::load(alloc, &files)?)
 }
 
@@ -129,7 +143,7 @@ fn are_listed(
 
 /// Returns whether each package gives a pair, and the report lists as many as a row wants.
 fn is_wanted(alloc: Global, row: &Row<'_>) -> Result<bool, Fail> {
-    let database = database(alloc, row.line)?;
+    let database = database(alloc, row)?;
     let lockfile = lockfile(alloc, row.packages)?;
     let found = pair_count(alloc, &database, &lockfile)?;
     Ok(found == row.packages as usize && are_listed(alloc, &database, &lockfile, row)?)
@@ -140,8 +154,9 @@ fn pairs_that_are_found_and_not_listed(rt: HostRuntime) -> Result<(), Fail> {
     for row in ROWS {
         assert!(rt;
             is_wanted(rt.alloc(), row)?,
-            "of `{}`, {}",
+            "of `{}`, {}, {}",
             row.line,
+            row.bytes,
             row.ignored
         );
     }
