@@ -8,13 +8,13 @@ time by that one. `cc` builds both into a temporary folder.
 """
 import os
 import random
-import subprocess
 import tempfile
 import time
 
 import advisories
 import common
 import databases
+import timing
 
 HEAD = ["operation", "ours, ms", "most MB", "theirs, ms", "most MB", "ratio", "goal", "limit, ms", "times the limit"]
 PACKAGES = 500
@@ -26,14 +26,6 @@ class Row:
 
     def __init__(self, name, words, goal, runs, data=os.devnull, limit=None):
         self.name, self.words, self.goal, self.runs, self.data, self.limit = name, words, goal, runs, data, limit
-
-
-def built(folder, name):
-    """A C program of this folder, built."""
-    path = os.path.join(folder, name)
-    source = os.path.join(os.path.dirname(os.path.abspath(__file__)), f"{name}.c")
-    subprocess.run(["cc", "-O2", "-o", path, source], check=True)
-    return path
 
 
 def file_of(folder, name, text):
@@ -91,14 +83,6 @@ def of_databases(r, folder, sizes):
     return rows
 
 
-def one_run(launch, program, words, data):
-    """The milliseconds and megabytes of a process."""
-    with open(data, "rb") as it:
-        done = subprocess.run([launch, program, *words], stdin=it, stdout=subprocess.PIPE, check=True, text=True)
-    took, held, _ = map(int, done.stdout.split())
-    return took / 1000, held / 1024
-
-
 def best_of(launch, programs, row, seconds):
     """The least milliseconds and the most megabytes of each program, the runs taking turns."""
     found, began = [[] for _ in programs], time.perf_counter()
@@ -106,7 +90,7 @@ def best_of(launch, programs, row, seconds):
         if at >= 2 and time.perf_counter() - began > seconds:
             break
         for (program, words), runs in zip(programs, found):
-            runs.append(one_run(launch, program, words, row.data))
+            runs.append(timing.one_run(launch, program, words, row.data))
     return [(min(took for took, _ in runs), max(held for _, held in runs)) for runs in found]
 
 
@@ -125,7 +109,7 @@ def measure(options):
     r = random.Random(options.seed)
     print("| " + " | ".join(HEAD) + " |\n" + "|---" * len(HEAD) + "|", flush=True)
     with tempfile.TemporaryDirectory() as folder:
-        launch, limit = built(folder, "launch"), built(folder, "limit")
+        launch, limit = timing.built(folder, "launch"), timing.built(folder, "limit")
         sizes = [1000, 10000] + [100000] * options.large
         for row in [*of_lines(r, folder), *of_one_file(r, folder), *of_unlisted(r, folder), *of_databases(r, folder, sizes)]:
             show(options, launch, limit, row)

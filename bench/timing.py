@@ -1,6 +1,7 @@
 """Times and memory of whole commands, and how a table shows them."""
 import os
 import subprocess
+import tempfile
 import time
 
 ENOUGH = 20.0  # seconds for the runs of one row, after the second run
@@ -15,18 +16,28 @@ def seconds(program, calls):
     return time.perf_counter() - start
 
 
+def built(folder, name):
+    """A C program of this folder, built."""
+    path = os.path.join(folder, name)
+    source = os.path.join(os.path.dirname(os.path.abspath(__file__)), f"{name}.c")
+    subprocess.run(["cc", "-O2", "-o", path, source], check=True)
+    return path
+
+
+def one_run(launch, program, words, data):
+    """The milliseconds and megabytes of a process, which launch.c starts."""
+    with open(data, "rb") as it:
+        done = subprocess.run([launch, program, *words], stdin=it, stdout=subprocess.PIPE, check=True, text=True)
+    took, held, _ = map(int, done.stdout.split())
+    return took / 1000, held / 1024
+
+
 def peak(program, calls):
-    """The most memory that a process of the calls held, in kilobytes, as the system reports it."""
-    most = 0
-    for words, path in calls[:1]:
-        with open(path, "rb") as data:
-            process = subprocess.Popen(
-                [program, *words], stdin=data, stdout=subprocess.DEVNULL, stderr=subprocess.DEVNULL
-            )
-            _, _, used = os.wait4(process.pid, 0)
-            process.returncode = 0
-        most = max(most, used.ru_maxrss)
-    return most
+    """The most memory that a process of the first call held, in kilobytes, as the system reports it. launch.c starts it, since
+    the system would count the memory of this script for a process that the script starts itself."""
+    words, path = calls[0]
+    with tempfile.TemporaryDirectory() as folder:
+        return one_run(built(folder, "launch"), program, words, path)[1] * 1024
 
 
 def timed(pairs, runs):
