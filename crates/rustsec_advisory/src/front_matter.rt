@@ -25,6 +25,7 @@ use rustsec_texts::{FunctionPath, License};
 use rustsec_toml::{Section, TablePlace};
 use rustsec_values::{SortedMap, Text};
 use rustsec_versions::{Requirements, UnaffectedRange, Versions};
+use semver::VersionReq;
 use std::alloc::{AllocError, Global};
 use toml::Table;
 
@@ -116,36 +117,57 @@ pub fn metadata(
     Ok(Metadata::of_groups(subject, kinds, origin, terms, title, description))
 }
 
-/// Returns the position of the first requirement at a key that is not admissible.
-fn refused_position(alloc: Global, section: Section<'_>, key: &str) -> Option<usize> {
-    let reqs = optional_requirements_at(alloc, section, key).ok()?;
-    reqs.iter()
-        .position(|req| UnaffectedRange::from_req(alloc, req).is_err())
+/// Returns whether a requirement is not admissible.
+fn is_refused(alloc: Global, requirement: &VersionReq) -> std::result::Result<bool, AllocError> {
+    let Err(error) = UnaffectedRange::from_req(alloc, requirement) else {
+        return Ok(false);
+    };
+    if error.kind() == ErrorKind::OutOfMemory {
+        return Err(AllocError);
+    }
+    Ok(true)
 }
 
-/// Returns the key of the list at fault, and the position of its first requirement that is not admissible. If all are
-/// admissible, an unaffected one overlaps another.
-fn list_at_fault(alloc: Global, section: Section<'_>) -> (&'static str, Option<usize>) {
-    match refused_position(alloc, section, "patched") {
-        Some(position) => ("patched", Some(position)),
-        None => ("unaffected", refused_position(alloc, section, "unaffected")),
+/// Returns the position of the first requirement at a key that is not admissible.
+fn refused_position(alloc: Global, section: Section<'_>, key: &str) -> Result<Option<usize>> {
+    let requirements = optional_requirements_at(alloc, section, key)?;
+    for (position, requirement) in requirements.iter().enumerate() {
+        if is_refused(alloc, requirement)? {
+            return Ok(Some(position));
+        }
     }
+    Ok(None)
+}
+
+/// A list of requirements at fault: its key, and the position of its first requirement that is not admissible.
+#[derive(Clone, Copy)]
+struct FaultyList {
+    key: &'static str,
+    position: Option<usize>,
+}
+
+/// Returns the list at fault. If all requirements are admissible, an unaffected one overlaps another.
+fn list_at_fault(alloc: Global, section: Section<'_>) -> Result<FaultyList> {
+    let key = "patched";
+    let position = refused_position(alloc, section, key)?;
+    if position.is_some() {
+        return Ok(FaultyList { key, position });
+    }
+    let key = "unaffected";
+    let position = refused_position(alloc, section, key)?;
+    Ok(FaultyList { key, position })
 }
 
 /// Adds the place of a list of requirements, or of a requirement in it, to an error.
-fn placed_in_list(
-    alloc: Global,
-    place: TablePlace<'_>,
-    key: &str,
-    position: Option<usize>,
-    error: Error,
-) -> Error
+fn placed_in_list(alloc: Global, place: TablePlace<'_>, list: FaultyList, error: Error) -> Error
     ensures kind { IsOfKind error.kind result }
     ensures memory { IsMemory error → IsMemory result }
 {
-    match position {
-        Some(position) => place.at_element(position).refused_at(alloc, key, error),
-        None => place.refused_at(alloc, key, error),
+    match list.position {
+        Some(position) => place
+            .at_element(position)
+            .refused_at(alloc, list.key, error),
+        None => place.refused_at(alloc, list.key, error),
     }
 }
 
@@ -161,13 +183,15 @@ fn as_parse(alloc: Global, section: Section<'_>, error: Error) -> Error
     if error.kind() == ErrorKind::OutOfMemory {
         return Error::from(AllocError);
     }
-    let (key, position) = list_at_fault(alloc, section);
-    let (name, message) = (section.name, error.message());
+    let Ok(list) = list_at_fault(alloc, section) else {
+        return Error::from(AllocError);
+    };
+    let (key, name, message) = (list.key, section.name, error.message());
     let error = match format!(in alloc; "key `{key}` in {name}: {message}, expected {LISTS}") {
         Ok(message) => Error::with_cause(alloc, ErrorKind::Parse, &message, error.cause()),
         Err(refused) => Error::from(refused),
     };
-    placed_in_list(alloc, section.place, key, position, error)
+    placed_in_list(alloc, section.place, list, error)
 }
 
 /// Reads the lists of the table `versions`.

@@ -6,7 +6,7 @@ use crate::refused::Refused;
 use rustsec_error::{Error, refused_at};
 use rustsec_places::Place;
 use rustsec_toml::{element_at, key_at};
-use std::alloc::Global;
+use std::alloc::{AllocError, Global};
 
 /// Returns the name of a table without its brackets, or `None` for the table of the whole document.
 fn bare_name(table: &str) -> Option<&str> {
@@ -14,25 +14,45 @@ fn bare_name(table: &str) -> Option<&str> {
 }
 
 /// Returns the document's text from a key of a table on, or from the table's key on if that one is not found.
-fn key_of<'a, 'k>(alloc: Global, text: &'a str, table: &'k str, key: &'k str) -> Option<&'a str> {
+fn key_of<'a, 'k>(
+    alloc: Global,
+    text: &'a str,
+    table: &'k str,
+    key: &'k str,
+) -> Result<Option<&'a str>, AllocError> {
     let Some(table) = bare_name(table) else {
         return key_at(alloc, text, &[key]);
     };
-    match key_at(alloc, text, &[table, key]) {
-        Some(found) => Some(found),
+    match key_at(alloc, text, &[table, key])? {
+        Some(found) => Ok(Some(found)),
         None => key_at(alloc, text, &[table]),
     }
 }
 
 /// Returns the document's text from the refused entry on if its array is found, else from the refused key on.
-fn refused_part<'a>(alloc: Global, text: &'a str, refused: &Refused<'_>) -> Option<&'a str> {
-    let key = key_of(alloc, text, refused.table, refused.key)?;
-    let Some(index) = refused.entry else {
-        return Some(key);
+fn refused_part<'a>(
+    alloc: Global,
+    text: &'a str,
+    refused: &Refused<'_>,
+) -> Result<Option<&'a str>, AllocError> {
+    let Some(key) = key_of(alloc, text, refused.table, refused.key)? else {
+        return Ok(None);
     };
-    match element_at(alloc, key, index) {
-        Some(entry) => Some(entry),
-        None => Some(key),
+    match refused.entry {
+        Some(index) => Ok(Some(element_at(alloc, key, index)?.unwrap_or(key))),
+        None => Ok(Some(key)),
+    }
+}
+
+/// Returns the place of a refused key or entry in words, if it is found.
+fn words_of(
+    alloc: Global,
+    text: &str,
+    refused: &Refused<'_>,
+) -> Result<Option<String>, AllocError> {
+    match refused_part(alloc, text, refused)? {
+        Some(part) => Ok(Some(Place::of_end(text, part).in_words(alloc)?)),
+        None => Ok(None),
     }
 }
 
@@ -41,11 +61,9 @@ pub(crate) fn refused_in_text(alloc: Global, text: &str, refused: Refused<'_>) -
     ensures kind { IsOfKind refused.entry.error.kind result }
     ensures memory { IsMemory refused.entry.error → IsMemory result }
 {
-    let Some(part) = refused_part(alloc, text, &refused) else {
-        return refused.error;
-    };
-    match Place::of_end(text, part).in_words(alloc) {
-        Ok(words) => refused_at(alloc, &words, &refused.error),
+    match words_of(alloc, text, &refused) {
+        Ok(Some(words)) => refused_at(alloc, &words, &refused.error),
+        Ok(None) => refused.error,
         Err(refused) => Error::from(refused),
     }
 }

@@ -6,7 +6,7 @@ ghost use Rattle.toml.specs.View.{table_view};
 ghost use Rattle.rustsec_error.specs.Failure.{IsMemory, IsOfKind, IsRefusal};
 
 use crate::lines::shown_line;
-use crate::statements::{element_at, key_at};
+use crate::statements::{Found, element_at, key_at};
 use rustsec_error::{Error, ErrorKind, Result};
 use rustsec_places::Place;
 use rustsec_plain::plain_document;
@@ -52,23 +52,32 @@ fn is_header(document: &str, key: &str) -> bool {
 
 /// Returns the text from the key in the header of a table on. The table is at a position in an array of tables, in whose
 /// first header the given text begins.
-fn table_at<'a>(alloc: Global, first: &'a str, path: &[&str], index: usize) -> Option<&'a str> {
+fn table_at<'a>(alloc: Global, first: &'a str, path: &[&str], index: usize) -> Found<&'a str> {
     let mut found = first;
     for _ in 0..index {
-        let (_, rest) = found.split_once('\n')?;
-        found = key_at(alloc, rest, path)?;
+        let Some((_, rest)) = found.split_once('\n') else {
+            return Ok(None);
+        };
+        let Some(next) = key_at(alloc, rest, path)? else {
+            return Ok(None);
+        };
+        found = next;
     }
-    Some(found)
+    Ok(Some(found))
 }
 
 /// Returns the text from a key of a table on, where the text begins in the header of the table.
-fn key_in_table<'a>(alloc: Global, table: &'a str, path: &[&str], key: &str) -> Option<&'a str> {
-    let (_, body) = table.split_once('\n')?;
-    let found = key_at(alloc, body, &[key])?;
-    match key_at(alloc, body, path) {
+fn key_in_table<'a>(alloc: Global, table: &'a str, path: &[&str], key: &str) -> Found<&'a str> {
+    let Some((_, body)) = table.split_once('\n') else {
+        return Ok(None);
+    };
+    let Some(found) = key_at(alloc, body, &[key])? else {
+        return Ok(None);
+    };
+    match key_at(alloc, body, path)? {
         // The key is that of the next table.
-        Some(next) if next.len() > found.len() => None,
-        _ => Some(found),
+        Some(next) if next.len() > found.len() => Ok(None),
+        _ => Ok(Some(found)),
     }
 }
 
@@ -133,7 +142,7 @@ impl<'a> TablePlace<'a> {
     fn from_part(self, alloc: Global, key: &str) -> std::result::Result<&'a str, AllocError> {
         let found = self.from_key(alloc, key)?;
         match self.element {
-            Some(index) => Ok(element_at(alloc, found, index).unwrap_or(found)),
+            Some(index) => Ok(element_at(alloc, found, index)?.unwrap_or(found)),
             None => Ok(found),
         }
     }
@@ -141,25 +150,30 @@ impl<'a> TablePlace<'a> {
     /// Returns the text from a key of the table on; from the table's own key on if that one is not found.
     fn from_key(self, alloc: Global, key: &str) -> std::result::Result<&'a str, AllocError> {
         if let Some(index) = self.index {
-            return Ok(self.in_array(alloc, index, key).unwrap_or(self.text));
+            return Ok(self.in_array(alloc, index, key)?.unwrap_or(self.text));
         }
         let keys = keys_to(alloc, self.path, key)?;
-        if let Some(found) = key_at(alloc, self.text, &keys) {
+        if let Some(found) = key_at(alloc, self.text, &keys)? {
             return Ok(found);
         }
-        Ok(key_at(alloc, self.text, self.path).unwrap_or(self.text))
+        Ok(key_at(alloc, self.text, self.path)?.unwrap_or(self.text))
     }
 
     /// Returns the text from a key on of the table at a position in an array of tables; from the table on if it has no
     /// header of its own, or the key is not found.
-    fn in_array(self, alloc: Global, index: usize, key: &str) -> Option<&'a str> {
-        let array = key_at(alloc, self.text, self.path)?;
+    fn in_array(self, alloc: Global, index: usize, key: &str) -> Found<&'a str> {
+        let Some(array) = key_at(alloc, self.text, self.path)? else {
+            return Ok(None);
+        };
         if !is_header(self.text, array) {
-            return Some(element_at(alloc, array, index).unwrap_or(array));
+            return Ok(Some(element_at(alloc, array, index)?.unwrap_or(array)));
         }
-        match table_at(alloc, array, self.path, index) {
-            Some(table) => Some(key_in_table(alloc, table, self.path, key).unwrap_or(table)),
-            None => Some(array),
+        match table_at(alloc, array, self.path, index)? {
+            Some(table) => {
+                let found = key_in_table(alloc, table, self.path, key)?;
+                Ok(Some(found.unwrap_or(table)))
+            }
+            None => Ok(Some(array)),
         }
     }
 

@@ -1,24 +1,33 @@
 //! Where the keys of a document are. The document was read before, so it is known to be TOML.
 
 use rustsec_places::skip_mark;
-use std::alloc::Global;
+use std::alloc::{AllocError, Global};
 use toml_parser::text::{first, skip_blank, skip_ws};
-use toml_parser::{Key, dotted_key, quoted, starts_string};
+use toml_parser::{Key, ParseError, dotted_key, quoted, starts_string};
 
-/// Returns the rest of a text after its first token: a string, a comment or a character.
-fn after_token(alloc: Global, text: &str) -> Option<&str> {
-    if starts_string(text) {
-        return match quoted(alloc, text) {
-            Ok((_, rest)) => Some(rest),
-            Err(_) => None,
-        };
-    }
+/// A part of a document that is looked for: none if it is not there.
+pub(crate) type Found<T> = Result<Option<T>, AllocError>;
+
+/// Returns the rest of a text after the comment or the character at its beginning.
+fn after_character(text: &str) -> Option<&str> {
     if first(text) == b'#' {
         return text.strip_prefix(text.split('\n').next()?);
     }
     let mut rest = text.chars();
     rest.next()?;
     Some(rest.as_str())
+}
+
+/// Returns the rest of a text after its first token: a string, a comment or a character.
+fn after_token(alloc: Global, text: &str) -> Found<&str> {
+    if !starts_string(text) {
+        return Ok(after_character(text));
+    }
+    match quoted(alloc, text) {
+        Ok((_, rest)) => Ok(Some(rest)),
+        Err(ParseError::OutOfMemory) => Err(AllocError),
+        Err(ParseError::At(_, _, _)) => Ok(None),
+    }
 }
 
 /// Returns whether a byte ends an array or an inline table.
@@ -28,32 +37,60 @@ fn is_close(byte: u8) -> bool {
 
 /// Returns the rest of a text from a byte on that is in no string, comment, array or inline table. A comma is not looked for
 /// after the array or the table in which the text begins.
-fn from_byte(alloc: Global, text: &str, byte: u8) -> Option<&str> {
+fn from_byte(alloc: Global, text: &str, byte: u8) -> Found<&str> {
     let mut rest = text;
     let mut depth = 0usize;
     for _ in text.bytes() {
         let next = first(rest);
         if depth == 0 && next == byte {
-            return Some(rest);
+            return Ok(Some(rest));
         }
         if depth == 0 && byte == b',' && is_close(next) {
-            return None;
+            return Ok(None);
         }
         if next == b'[' || next == b'{' {
             depth = depth.saturating_add(1);
         } else if is_close(next) {
             depth = depth.saturating_sub(1);
         }
-        rest = after_token(alloc, rest)?;
+        let Some(after) = after_token(alloc, rest)? else {
+            return Ok(None);
+        };
+        rest = after;
     }
-    None
+    Ok(None)
+}
+
+/// Returns the rest of a text after a byte that it begins with.
+fn skip_byte(text: &str, byte: u8) -> Option<&str> {
+    text.strip_prefix(char::from(byte))
+}
+
+/// Returns the rest of a text after the next comma of the array or the inline table in which it begins.
+fn after_comma(alloc: Global, text: &str) -> Found<&str> {
+    match from_byte(alloc, text, b',')? {
+        Some(rest) => Ok(skip_byte(rest, b',')),
+        None => Ok(None),
+    }
 }
 
 /// Returns the rest of a text after the dotted key at its beginning, and after white space.
-fn after_key(alloc: Global, text: &str) -> Option<&str> {
+fn after_key(alloc: Global, text: &str) -> Found<&str> {
     match dotted_key(alloc, text) {
-        Ok((_, rest)) => Some(rest),
-        Err(_) => None,
+        Ok((_, rest)) => Ok(Some(rest)),
+        Err(ParseError::OutOfMemory) => Err(AllocError),
+        Err(ParseError::At(_, _, _)) => Ok(None),
+    }
+}
+
+/// Returns the text after this first byte of the value of a key, if the value begins with it.
+fn within_value(alloc: Global, key: &str, open: u8) -> Found<&str> {
+    let Some(rest) = after_key(alloc, key)? else {
+        return Ok(None);
+    };
+    match skip_byte(rest, b'=') {
+        Some(value) => Ok(skip_byte(skip_ws(value), open)),
+        None => Ok(None),
     }
 }
 
@@ -75,13 +112,16 @@ fn agrees(key: &Key, path: &[&str], from: usize) -> bool {
 }
 
 /// Returns how far a path goes with the dotted key at the beginning of a text, if they agree from an index on.
-fn reach(alloc: Global, text: &str, path: &[&str], from: Option<usize>) -> Option<usize> {
-    let from = from?;
+fn reach(alloc: Global, text: &str, path: &[&str], from: Option<usize>) -> Found<usize> {
+    let Some(from) = from else {
+        return Ok(None);
+    };
     match dotted_key(alloc, text) {
-        Ok((key, _)) if agrees(&key, path, from) => {
-            Some(from.saturating_add(key.path.len()).saturating_add(1))
-        }
-        _ => None,
+        Ok((key, _)) if agrees(&key, path, from) => Ok(Some(
+            from.saturating_add(key.path.len()).saturating_add(1),
+        )),
+        Err(ParseError::OutOfMemory) => Err(AllocError),
+        _ => Ok(None),
     }
 }
 
@@ -92,17 +132,21 @@ fn key_within<'a>(
     key: &'a str,
     path: &[&str],
     from: usize,
-) -> Option<(&'a str, usize)> {
-    let value = skip_ws(skip_byte(after_key(alloc, key)?, b'=')?);
-    let mut rest = skip_byte(value, b'{')?;
-    for _ in value.bytes() {
+) -> Found<(&'a str, usize)> {
+    let Some(mut rest) = within_value(alloc, key, b'{')? else {
+        return Ok(None);
+    };
+    for _ in key.bytes() {
         let start = skip_blank(rest, true);
-        if let Some(reached) = reach(alloc, start, path, Some(from)) {
-            return Some((start, reached));
+        if let Some(reached) = reach(alloc, start, path, Some(from))? {
+            return Ok(Some((start, reached)));
         }
-        rest = skip_byte(from_byte(alloc, start, b',')?, b',')?;
+        let Some(next) = after_comma(alloc, start)? else {
+            return Ok(None);
+        };
+        rest = next;
     }
-    None
+    Ok(None)
 }
 
 /// Returns the text from a key on, or from the key in its inline table on, or in one within it, to which a path leads that goes
@@ -112,49 +156,69 @@ fn key_below<'a>(
     key: &'a str,
     path: &[&str],
     reached: Option<usize>,
-) -> Option<&'a str> {
-    let (mut key, mut reached) = (key, reached?);
+) -> Found<&'a str> {
+    let Some(mut reached) = reached else {
+        return Ok(None);
+    };
+    let mut key = key;
     for _ in path {
         if reached >= path.len() {
-            return Some(key);
+            return Ok(Some(key));
         }
-        (key, reached) = key_within(alloc, key, path, reached)?;
+        let Some(within) = key_within(alloc, key, path, reached)? else {
+            return Ok(None);
+        };
+        (key, reached) = within;
     }
-    Some(key)
+    Ok(Some(key))
 }
 
 /// Returns the text of a document from the first key on whose path, with the header above it, begins with these parts. The key
 /// may be in an inline table.
-pub fn key_at<'a>(alloc: Global, document: &'a str, path: &[&str]) -> Option<&'a str> {
+///
+/// # Errors
+///
+/// `AllocError` alone.
+pub fn key_at<'a>(
+    alloc: Global,
+    document: &'a str,
+    path: &[&str],
+) -> Result<Option<&'a str>, AllocError> {
     let mut header = Some(0);
     let mut rest = skip_mark(document);
     for _ in document.bytes() {
         let start = skip_blank(rest, true);
         let is_header = first(start) == b'[';
         let key = skip_ws(start.trim_start_matches('['));
-        let reached = reach(alloc, key, path, if is_header { Some(0) } else { header });
-        if let Some(found) = key_below(alloc, key, path, reached) {
-            return Some(found);
+        let reached = reach(alloc, key, path, if is_header { Some(0) } else { header })?;
+        if let Some(found) = key_below(alloc, key, path, reached)? {
+            return Ok(Some(found));
         }
         if is_header {
             header = reached;
         }
-        rest = from_byte(alloc, key, b'\n')?;
+        let Some(next) = from_byte(alloc, key, b'\n')? else {
+            return Ok(None);
+        };
+        rest = next;
     }
-    None
+    Ok(None)
 }
 
 /// Returns the text from the element at an index of the array that is the value of a key on.
-pub fn element_at(alloc: Global, key: &str, index: usize) -> Option<&str> {
-    let value = skip_ws(skip_byte(after_key(alloc, key)?, b'=')?);
-    let mut rest = skip_byte(value, b'[')?;
+///
+/// # Errors
+///
+/// `AllocError` alone.
+pub fn element_at(alloc: Global, key: &str, index: usize) -> Result<Option<&str>, AllocError> {
+    let Some(mut rest) = within_value(alloc, key, b'[')? else {
+        return Ok(None);
+    };
     for _ in 0..index {
-        rest = skip_byte(from_byte(alloc, rest, b',')?, b',')?;
+        let Some(next) = after_comma(alloc, rest)? else {
+            return Ok(None);
+        };
+        rest = next;
     }
-    Some(skip_blank(rest, true))
-}
-
-/// Returns the rest of a text after a byte that it begins with.
-fn skip_byte(text: &str, byte: u8) -> Option<&str> {
-    text.strip_prefix(char::from(byte))
+    Ok(Some(skip_blank(rest, true)))
 }
