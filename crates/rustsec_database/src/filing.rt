@@ -6,7 +6,7 @@ ghost use Rattle.rustsec_database.specs.Filing.{IsFiled, IsMisfiled, agreed, agr
 
 use rustsec_advisory::Advisory;
 use rustsec_error::{Error, ErrorKind, Result};
-use rustsec_files::path;
+use rustsec_files::path::FilePath;
 use rustsec_texts::Collection;
 use rustsec_values::value_named;
 use std::alloc::{AllocError, Global};
@@ -27,27 +27,27 @@ pub(crate) enum Misfit {
 }
 
 /// Returns whether the file is named after an ID, or is a draft.
-pub fn is_named(path: &str, id: &str) -> bool
-    ensures { result ≡ is_named path.now id.now }
+pub fn is_named(file: &FilePath<'_>, id: &str) -> bool
+    ensures { result ≡ is_named file.now.path.now id.now }
 {
-    path::is_markdown_file_of(path, id) || path::is_draft(path)
+    file.is_markdown_file_of(id) || file.is_draft()
 }
 
 /// Returns whether the file is in a folder of this name.
-pub fn is_in_folder(path: &str, name: &str) -> bool
-    ensures { result ≡ is_in_folder path.now name.now }
+pub fn is_in_folder(file: &FilePath<'_>, name: &str) -> bool
+    ensures { result ≡ is_in_folder file.now.path.now name.now }
 {
-    match path::folder(path) {
+    match file.folder() {
         Some(folder) => name == folder,
         None => false,
     }
 }
 
 /// Returns the collection whose name the parent of the file's folder has, if any.
-pub fn collection_at(path: &str) -> Option<Collection>
-    ensures { result ≡ collection_at path.now }
+pub fn collection_at(file: &FilePath<'_>) -> Option<Collection>
+    ensures { result ≡ collection_at file.now.path.now }
 {
-    match path::folder_parent(path) {
+    match file.folder_parent() {
         Some(parent) => value_named(parent),
         None => None,
     }
@@ -86,16 +86,17 @@ fn agreed(
 fn verdict(path: &str, advisory: &Advisory) -> std::result::Result<Collection, Misfit>
     ensures { result ≡ path_verdict path.now advisory.now }
 {
-    if !path::is_markdown(path) {
+    let file = FilePath::of(path);
+    if !file.is_markdown() {
         return Err(Misfit::Extension);
     }
-    if !is_named(path, advisory.metadata.id.as_str()) {
+    if !is_named(&file, advisory.metadata.id.as_str()) {
         return Err(Misfit::FileName);
     }
-    if !is_in_folder(path, advisory.metadata.package.as_str()) {
+    if !is_in_folder(&file, advisory.metadata.package.as_str()) {
         return Err(Misfit::Folder);
     }
-    agreed(advisory.metadata.collection, collection_at(path))
+    agreed(advisory.metadata.collection, collection_at(&file))
 }
 
 /// Returns the kind of the error for a check that fails.

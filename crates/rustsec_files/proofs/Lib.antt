@@ -1,2 +1,3 @@
 pub mod Segments
+pub mod LastSegments
 pub mod Names

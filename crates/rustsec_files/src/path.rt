@@ -1,18 +1,11 @@
 //! Paths of files: segments between slashes. The last segment names the file. Empty segments and `.` are
 //! dropped; `..` is a segment as any other.
 
-ghost use Rattle.std.specs.Prelude.{◌≡◌, ◌&&◌, ◌||◌, ◌==◌, MatchOption, false, not, codes, length};
+ghost use Rattle.std.specs.Prelude.{◌≡◌, ◌++◌, ◌∷◌, [], IfSome, MatchOption, codes, false};
 ghost use Rattle.std.specs.Option.{option_copied};
 ghost use Rattle.std.specs.Str.{bytes_eq};
-ghost use Rattle.rustsec_files.specs.Paths.{file_name, folder, folder_parent, has_markdown_extension, is_draft, is_draft_name, is_markdown, is_markdown_file_of, is_markdown_name, is_segment, last, segments, without_last};
-
-/// The last three segments of a path.
-#[derive(Clone, Copy)]
-struct LastSegments<'a> {
-    file: Option<&'a str>,
-    folder: Option<&'a str>,
-    parent: Option<&'a str>,
-}
+ghost use Rattle.rustsec_files.specs.Paths as paths;
+ghost use Rattle.rustsec_files.specs.Paths.{has_markdown_extension, is_draft, is_draft_name, is_markdown, is_markdown_file_of, is_markdown_name, is_segment, segments};
 
 /// Returns whether a text between two slashes is a segment.
 fn is_segment(text: &str) -> bool
@@ -21,46 +14,16 @@ fn is_segment(text: &str) -> bool
     !text.is_empty() && text != "."
 }
 
-/// Returns the last three segments of a path, or as many of them as there are.
-fn ending(path: &str) -> LastSegments<'_>
-    ensures file { option_copied result.file ≡ file_name path.now }
-    ensures folder { option_copied result.folder ≡ folder path.now }
-    ensures parent { option_copied result.parent ≡ folder_parent path.now }
+/// Returns the text before the last slash of a path and the one after it, if that is a segment.
+fn split_last(path: &str) -> Option<(&str, &str)>
+    ensures { IfSome result (λ parts. segments path.now ≡ segments parts.0.now ++ parts.1.now ∷ []) }
 {
-    let (mut file, mut folder, mut parent) = (None, None, None);
-    for text in path.split('/') {
-        if is_segment(text) {
-            parent = folder;
-            folder = file;
-            file = Some(text);
-        }
+    let (before, after) = path.rsplit_once('/')?;
+    if is_segment(after) {
+        Some((before, after))
+    } else {
+        None
     }
-    LastSegments {
-        file,
-        folder,
-        parent,
-    }
-}
-
-/// Returns the name of a file: the last segment of its path.
-pub fn file_name(path: &str) -> Option<&str>
-    ensures { option_copied result ≡ file_name path.now }
-{
-    ending(path).file
-}
-
-/// Returns the name of the folder that holds a file: the segment before the file's name.
-pub fn folder(path: &str) -> Option<&str>
-    ensures { option_copied result ≡ folder path.now }
-{
-    ending(path).folder
-}
-
-/// Returns the name of that folder's parent: the segment before the folder's name.
-pub fn folder_parent(path: &str) -> Option<&str>
-    ensures { option_copied result ≡ folder_parent path.now }
-{
-    ending(path).parent
 }
 
 /// Returns whether a byte and `.md` end a file's name.
@@ -96,32 +59,113 @@ fn is_draft_name(name: &str) -> bool
     name.starts_with("RUSTSEC-0000-0000.")
 }
 
-/// Returns whether a path is a Markdown file's: whether `md` is the extension of its file's name.
-pub fn is_markdown(path: &str) -> bool
-    ensures { result ≡ is_markdown path.now }
-{
-    match file_name(path) {
-        Some(name) => has_markdown_extension(name),
-        None => false,
-    }
+/// The path of a file, with its last three segments, or as many of them as there are.
+#[derive(Clone, Copy)]
+pub struct FilePath<'a> {
+    /// The path.
+    pub path: &'a str,
+    file: Option<&'a str>,
+    folder: Option<&'a str>,
+    parent: Option<&'a str>,
+    ghost file_is: { option_copied file ≡ paths.file_name path.now },
+    ghost folder_is: { option_copied folder ≡ paths.folder path.now },
+    ghost parent_is: { option_copied parent ≡ paths.folder_parent path.now },
 }
 
-/// Returns whether a path is that of the Markdown file of a name: whether `STEM.md` is its file's name.
-pub fn is_markdown_file_of(path: &str, stem: &str) -> bool
-    ensures { result ≡ is_markdown_file_of stem.now path.now }
-{
-    match file_name(path) {
-        Some(name) => is_markdown_name(stem, name),
-        None => false,
+impl<'a> FilePath<'a> {
+    /// Returns a path with its last segments, if they are three, each of them right after a slash.
+    fn of_three(path: &'a str) -> Option<FilePath<'a>>
+        ensures { IfSome result (λ p. p.path.now ≡ path.now) }
+    {
+        let (within_folder, file) = split_last(path)?;
+        let (within_parent, folder) = split_last(within_folder)?;
+        let (_, parent) = split_last(within_parent)?;
+        Some(FilePath {
+            path,
+            file: Some(file),
+            folder: Some(folder),
+            parent: Some(parent),
+        })
     }
-}
 
-/// Returns whether a path is a draft's: whether its file's name begins with `RUSTSEC-0000-0000.`.
-pub fn is_draft(path: &str) -> bool
-    ensures { result ≡ is_draft path.now }
-{
-    match file_name(path) {
-        Some(name) => is_draft_name(name),
-        None => false,
+    /// Returns a path with its last segments, from a look at all of them.
+    fn of_any(path: &'a str) -> FilePath<'a>
+        ensures { result.path.now ≡ path.now }
+    {
+        let (mut file, mut folder, mut parent) = (None, None, None);
+        for text in path.split('/') {
+            if is_segment(text) {
+                parent = folder;
+                folder = file;
+                file = Some(text);
+            }
+        }
+        FilePath {
+            path,
+            file,
+            folder,
+            parent,
+        }
+    }
+
+    /// Returns a path with its last segments.
+    pub fn of(path: &'a str) -> FilePath<'a>
+        ensures { result.path.now ≡ path.now }
+    {
+        match FilePath::of_three(path) {
+            Some(it) => it,
+            None => FilePath::of_any(path),
+        }
+    }
+
+    /// Returns the name of the file: the last segment of its path.
+    pub fn file_name(&self) -> Option<&'a str>
+        ensures { option_copied result ≡ paths.file_name self.now.path.now }
+    {
+        self.file
+    }
+
+    /// Returns the name of the folder that holds the file: the segment before the file's name.
+    pub fn folder(&self) -> Option<&'a str>
+        ensures { option_copied result ≡ paths.folder self.now.path.now }
+    {
+        self.folder
+    }
+
+    /// Returns the name of that folder's parent: the segment before the folder's name.
+    pub fn folder_parent(&self) -> Option<&'a str>
+        ensures { option_copied result ≡ paths.folder_parent self.now.path.now }
+    {
+        self.parent
+    }
+
+    /// Returns whether the path is a Markdown file's: whether `md` is the extension of its file's name.
+    pub fn is_markdown(&self) -> bool
+        ensures { result ≡ is_markdown self.now.path.now }
+    {
+        match self.file {
+            Some(name) => has_markdown_extension(name),
+            None => false,
+        }
+    }
+
+    /// Returns whether the path is that of the Markdown file of a name: whether `STEM.md` is its file's name.
+    pub fn is_markdown_file_of(&self, stem: &str) -> bool
+        ensures { result ≡ is_markdown_file_of stem.now self.now.path.now }
+    {
+        match self.file {
+            Some(name) => is_markdown_name(stem, name),
+            None => false,
+        }
+    }
+
+    /// Returns whether the path is a draft's: whether its file's name begins with `RUSTSEC-0000-0000.`.
+    pub fn is_draft(&self) -> bool
+        ensures { result ≡ is_draft self.now.path.now }
+    {
+        match self.file {
+            Some(name) => is_draft_name(name),
+            None => false,
+        }
     }
 }

@@ -1,6 +1,5 @@
 pub mod Apart
 pub mod Firsts
-pub mod LastSegments
 pub mod CountLaws
 pub mod Once
 pub mod Placed

@@ -1,14 +1,10 @@
 -- If each path has one answer, the files under a root have one list of entries.
 use Rattle.std.proofs.Common.{◌≡◌, ◌∙◌, ℕ, List, [], ◌∷◌, None, Some, ap, refl, subst, sym}
-use Rattle.rustsec_error.specs.declared.error.ErrorKind.TheVariants as failure
 use Rattle.rustsec_files.specs.Paths.{is_draft}
 use Rattle.rustsec_folders.specs.Allowed.{Allowed, AnswersOnce}
 use Rattle.rustsec_folders.specs.Listed.{Pairwise, Paths}
 use Rattle.rustsec_folders.proofs.Once.{paths-once, paths-or-not, read-or-not, text-once}
 use Rattle.rustsec_advisory.proofs.Unique.{lints_unique}
-use Rattle.rustsec_advisory.specs.LintErrors.{LintError}
-use Rattle.rustsec_advisory.specs.Lints.{Lints}
-use Rattle.rustsec_advisory.specs.declared.advisory.Advisory.{Advisory}
 use Rattle.rustsec_lint_database.specs.Entries.{AreEntries, AreLintedAt, entries_of}
 use Rattle.rustsec_lint_database.specs.Files.{IsLintAt, IsLintOf, linted, of_advisory, of_text, refused, unread}
 use Rattle.rustsec_lint_database.specs.declared.database.Entry.{Entry}

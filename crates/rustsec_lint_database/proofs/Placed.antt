@@ -1,5 +1,5 @@
 -- The place of a file has no remark exactly if loading a database accepts it.
-use Rattle.std.proofs.Common.{◌≡◌, ◌++◌, ℕ, Bool, true, false, List, [], ◌∷◌, Ok, Option, None, Some, refl}
+use Rattle.std.proofs.Common.{◌≡◌, ◌++◌, ℕ, Bool, true, false, List, [], Ok, Option, None, Some, refl}
 use Rattle.std.specs.Prelude.{◌↔◌, ◌&&◌, Err, Result, if◌then◌else◌}
 use Rattle.rustsec_texts.specs.declared.collection.Collection.{Collection}
 use Rattle.rustsec_advisory.specs.declared.advisory.Advisory.{Advisory}

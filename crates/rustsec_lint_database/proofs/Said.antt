@@ -1,5 +1,5 @@
 -- Lists of remarks, part by part.
-use Rattle.std.proofs.Common.{◌≡◌, ◌∙◌, ◌++◌, ℕ, Bool, false, List, [], ◌∷◌, Option, None, ap, append_assoc, refl, sym}
+use Rattle.std.proofs.Common.{◌≡◌, ◌∙◌, ◌++◌, ℕ, Bool, false, List, [], ◌∷◌, Option, None, ap, append_assoc, sym}
 use Rattle.rustsec_texts.specs.declared.collection.Collection.{Collection}
 use Rattle.rustsec_lint_database.specs.Placement.{collection_remarks}
 use Rattle.rustsec_lint_database.specs.Remarks.{remark, unless}

@@ -1,5 +1,5 @@
 -- How many files, faults and notes there are.
-use Rattle.std.specs.Prelude.{ℕ, ◌+◌, Bool, List, count_by, flat_map, is_some, length, not}
+use Rattle.std.specs.Prelude.{ℕ, ◌+◌, Bool, List, count_by, flat_map, is_some, not}
 use Rattle.rustsec_lint_database.specs.Remarks.{is_fault}
 use Rattle.rustsec_lint_database.specs.declared.database.Entry.{Entry}
 use Rattle.rustsec_lint_database.specs.declared.remark.Remark.{Remark}

@@ -1,6 +1,6 @@
 -- The remark on a form of TOML 1.1 in the front matter of an advisory.
 use Rattle.std.specs.Prelude.{◌++◌, List, [], ◌∷◌, Option, None, Some, codes}
-use Rattle.rustsec_texts.specs.Parts.{FileParts, parts_of}
+use Rattle.rustsec_texts.specs.Parts.{FileParts}
 use Rattle.rustsec_edition.specs.Forms.{first_form, form_words}
 use Rattle.rustsec_edition.specs.declared.form.NewForm.{NewForm}
 use Rattle.rustsec_lint_database.specs.Remarks.{remark}

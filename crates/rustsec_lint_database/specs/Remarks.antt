@@ -1,5 +1,5 @@
 -- Remarks on one file of a database.
-use Rattle.std.specs.Prelude.{ℕ, Bool, true, false, List, [], ◌∷◌, codes, if◌then◌else◌}
+use Rattle.std.specs.Prelude.{ℕ, Bool, true, List, [], ◌∷◌, codes, if◌then◌else◌}
 use Rattle.rustsec_lint_database.specs.declared.remark.Remark.{Remark}
 use Rattle.rustsec_lint_database.specs.declared.remark.RemarkKind.{RemarkKind}
 use Rattle.rustsec_lint_database.specs.declared.remark.RemarkKind.TheVariants as kind

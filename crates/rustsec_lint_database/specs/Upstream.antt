@@ -1,5 +1,5 @@
 -- What the Rust crate refuses of an advisory.
-use Rattle.std.specs.Prelude.{◌≡◌, ℕ, ◌++◌, List, [], Option, None, Some, codes, false, is_some}
+use Rattle.std.specs.Prelude.{◌≡◌, ◌++◌, List, [], Option, None, Some, codes, false, is_some}
 use Rattle.semver.specs.Parse.{Held}
 use Rattle.rustsec_versions.specs.acceptance.Lists.{Lists, accepted_apart}
 use Rattle.rustsec_versions.specs.interval.Interval.{Interval, overlap}

@@ -14,7 +14,7 @@ use crate::lines::{KeyIn, after_line};
 use rustsec_error::{ErrorKind, Result};
 use rustsec_folders::{Folders, source_paths};
 use rustsec_texts::Id;
-use rustsec_values::{Items, Text};
+use rustsec_values::{Items, Text, exact_copy};
 use std::alloc::{AllocError, Global};
 use std::collections::BTreeMap;
 
@@ -58,7 +58,7 @@ fn path_at(entries: &[Entry], index: usize) -> std::result::Result<Option<Text>,
     ensures { IfOk result (λ o. o ≡ path_at entries.now index) }
 {
     match entries.get(index) {
-        Some(entry) => Ok(Some(Clone::clone(&entry.file.path)?)),
+        Some(entry) => Ok(Some(exact_copy(&entry.file.path)?)),
         None => Ok(None),
     }
 }
@@ -75,13 +75,13 @@ impl Linting {
         let Some(id) = &file.id else {
             return Ok(None);
         };
-        let key = Clone::clone(id)?;
+        let key = exact_copy(id)?;
         let index = self.entries.len();
         let Some(first) = self.firsts.insert(key, index)? else {
             return Ok(None);
         };
         // Few IDs occur twice. The table gets its index back.
-        let key = Clone::clone(id)?;
+        let key = exact_copy(id)?;
         self.firsts.insert(key, first)?;
         path_at(self.entries.as_slice(), first)
     }

@@ -11,7 +11,6 @@ ghost use Rattle.rustsec_lint_database.specs.Placement.{HasNone};
 ghost use Rattle.rustsec_lint_database.specs.Files.{IsLintAt, IsLintOf, file_with, lint_remark, of_advisory, of_refusal, own_id, remarks_with};
 
 use crate::edition::push_edition;
-use crate::file_path::FilePath;
 use crate::placement::push_placement;
 use crate::remark::{Remark, RemarkKind, push_remark};
 use crate::upstream::push_upstream;
@@ -20,9 +19,10 @@ use rustsec_advisory::Advisory;
 use rustsec_advisory::linter::{self, Linter};
 use rustsec_edition::{FoundForm, first_form};
 use rustsec_error::{Error, ErrorKind};
+use rustsec_files::path::FilePath;
 use rustsec_folders::Folders;
 use rustsec_texts::{Id, Parts};
-use rustsec_values::{Items, Text};
+use rustsec_values::{Items, Text, exact_copy};
 use std::alloc::{AllocError, Global};
 
 /// A file with its remarks.
@@ -77,7 +77,7 @@ fn own_id(advisory: &Advisory) -> Result<Option<Id>, AllocError>
     if id.is_placeholder() {
         return Ok(None);
     }
-    let copy = Clone::clone(id)?;
+    let copy = exact_copy(id)?;
     Ok(Some(copy))
 }
 

@@ -5,7 +5,6 @@ mod counts;
 mod database;
 mod edition;
 mod file;
-mod file_path;
 mod hints;
 mod lines;
 mod placement;

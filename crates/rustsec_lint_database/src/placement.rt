@@ -1,12 +1,14 @@
 //! Whether the file of an advisory is where the advisory belongs.
 
-ghost use Rattle.std.specs.Prelude.{◌≡◌, ◌++◌, IfOk, OnOk, string_bytes};
+ghost use Rattle.std.specs.Prelude.{◌≡◌, ◌&&◌, ◌++◌, IfOk, OnOk, string_bytes};
+ghost use Rattle.rustsec_files.specs.Paths.{is_markdown};
+ghost use Rattle.rustsec_database.specs.Filing.{is_named};
 ghost use Rattle.rustsec_lint_database.specs.Placement.{collection_remarks, folder_remarks, name_remarks, placement_remarks};
 
-use crate::file_path::FilePath;
 use crate::remark::{Remark, RemarkKind, push_remark};
 use rustsec_advisory::Advisory;
 use rustsec_database::filing;
+use rustsec_files::path::FilePath;
 use rustsec_texts::Collection;
 use rustsec_values::Items;
 use std::alloc::{AllocError, Global};
@@ -26,6 +28,13 @@ pub(crate) fn between(
     Ok(text)
 }
 
+/// Returns whether the file is a Markdown file that is named after an ID, or is a draft's.
+fn is_named_after(file: &FilePath<'_>, id: &str) -> bool
+    ensures { result ≡ (is_markdown file.now.path.now && is_named file.now.path.now id.now) }
+{
+    file.is_markdown() && filing::is_named(file, id)
+}
+
 /// Appends the remark on the file's name.
 pub(crate) fn push_name(
     alloc: Global,
@@ -36,7 +45,7 @@ pub(crate) fn push_name(
     ensures { OnOk result (remarks.new ≡ remarks.old ++ name_remarks file.now.path.now advisory.now) }
 {
     let id = advisory.metadata.id.as_str();
-    if file.is_named_after(id) {
+    if is_named_after(file, id) {
         return Ok(());
     }
     let text = between(alloc, "another file name, expected `", id, ".md`")?;
@@ -53,7 +62,7 @@ pub(crate) fn push_folder(
     ensures { OnOk result (remarks.new ≡ remarks.old ++ folder_remarks file.now.path.now advisory.now) }
 {
     let package = advisory.metadata.package.as_str();
-    if file.is_in_folder(package) {
+    if filing::is_in_folder(file, package) {
         return Ok(());
     }
     let text = between(
@@ -107,5 +116,5 @@ pub(crate) fn push_placement(
     push_name(alloc, remarks, file, advisory)?;
     push_folder(alloc, remarks, file, advisory)?;
     let named = advisory.metadata.collection;
-    push_collection(alloc, remarks, named, file.collection())
+    push_collection(alloc, remarks, named, filing::collection_at(file))
 }

@@ -1,7 +1,6 @@
 //! Words on an advisory for a person: where the remarks on it are, and what others read differently.
 
 use crate::edition::form_note;
-use crate::file_path::FilePath;
 use crate::hints::lint_help;
 use crate::lines::{KeyIn, after_line, push_remarks};
 use crate::placement::{push_collection, push_folder, push_name};
@@ -10,7 +9,9 @@ use crate::remark::{Remark, RemarkKind};
 use crate::upstream::upstream_notes;
 use rustsec_advisory::linter::{self, Linter};
 use rustsec_advisory::{lint_error_line, placed_errors};
+use rustsec_database::filing;
 use rustsec_edition::FoundForm;
+use rustsec_files::path::FilePath;
 use rustsec_values::{Items, Text};
 use std::alloc::{AllocError, Global};
 
@@ -84,7 +85,7 @@ fn push_place(
     push_remarks(alloc, words, package, folder.as_slice())?;
     let mut collection = Items::new(alloc);
     let named = advisory.metadata.collection;
-    push_collection(alloc, &mut collection, named, file.collection())?;
+    push_collection(alloc, &mut collection, named, filing::collection_at(file))?;
     let key = KeyIn::advisory(text, "collection");
     push_remarks(alloc, words, key, collection.as_slice())
 }

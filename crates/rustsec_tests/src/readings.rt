@@ -2,7 +2,8 @@
 
 use rustsec_advisory::Advisory;
 use rustsec_error::{Error, ErrorKind};
-use rustsec_files::{path, reading};
+use rustsec_files::path::FilePath;
+use rustsec_files::reading;
 use rustsec_fixtures::ByteReader;
 use std::alloc::Global;
 use std::test::Fail;
@@ -162,9 +163,10 @@ fn names_in_paths(rt: HostRuntime) {
         ("x.md", Some("x.md"), None, None),
         ("./", None, None, None),
     ] {
-        assert!(rt; path::file_name(whole) == *file, "of {whole}");
-        assert!(rt; path::folder(whole) == *folder, "of {whole}");
-        assert!(rt; path::folder_parent(whole) == *parent, "of {whole}");
+        let path = FilePath::of(whole);
+        assert!(rt; path.file_name() == *file, "of {whole}");
+        assert!(rt; path.folder() == *folder, "of {whole}");
+        assert!(rt; path.folder_parent() == *parent, "of {whole}");
     }
 }
 
@@ -190,7 +192,7 @@ fn files_of_their_ids(rt: HostRuntime) {
         ("", "", false),
     ] {
         assert!(rt;
-            path::is_markdown_file_of(whole, id) == *named,
+            FilePath::of(whole).is_markdown_file_of(id) == *named,
             "of {whole}"
         );
     }

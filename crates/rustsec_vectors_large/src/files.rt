@@ -6,7 +6,7 @@ use rustsec::database::{Database, Query};
 use rustsec::report::{Report, Settings};
 use rustsec_commands::write_audit;
 use rustsec_error::ErrorKind;
-use rustsec_files::path;
+use rustsec_files::path::FilePath;
 use rustsec_fixtures::{Failing, Holds, MemoryFolders, Paths};
 use rustsec_folders::{SourceFile, source_files};
 use rustsec_lock::Lockfile;
@@ -196,7 +196,9 @@ fn copies_of_thousands_of_elements(rt: HostRuntime) -> Result<(), Fail> {
 fn entries_of<'a>(alloc: Global, files: &'a [SourceFile]) -> Result<Vec<(&'a str, bool)>, Fail> {
     let mut entries = Vec::new(alloc);
     for file in files {
-        let name = path::file_name(file.path.as_str()).ok_or("no name")?;
+        let name = FilePath::of(file.path.as_str())
+            .file_name()
+            .ok_or("no name")?;
         entries.push((name, false))?;
     }
     Ok(entries)

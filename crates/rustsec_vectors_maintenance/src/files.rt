@@ -1,7 +1,7 @@
 //! A database of a thousand files in memory. Forty of them have a fault, and one more cannot be read.
 
 use crate::faults::{Named, UNREAD, fault_of};
-use rustsec_files::path;
+use rustsec_files::path::FilePath;
 use rustsec_fixtures::Holds;
 use rustsec_folders::SourceFile;
 use rustsec_values::Text;
@@ -113,7 +113,7 @@ pub(crate) fn entries_in<'a>(
     for file in files {
         let path = file.path.as_str();
         if path.starts_with(folder) {
-            let name = path::file_name(path).ok_or("no name")?;
+            let name = FilePath::of(path).file_name().ok_or("no name")?;
             entries.push((name, false))?;
         }
     }

@@ -8,7 +8,7 @@ use crate::command::lint::notes::lint_note;
 use crate::error_output::{file_refusal_output, refusal_output};
 use crate::output::Output;
 use rustsec_advisory::linter::{self, Linter};
-use rustsec_files::path::is_draft;
+use rustsec_files::path::FilePath;
 use rustsec_folders::Folders;
 use std::alloc::{AllocError, Global};
 use std::fmt::Write as _;
@@ -58,7 +58,7 @@ pub fn lint_output<F: Folders>(
         Ok(text) => text,
         Err(error) => return refusal_output(alloc, &error),
     };
-    match Linter::lint_string(alloc, text.as_str(), Some(is_draft(path))) {
+    match Linter::lint_string(alloc, text.as_str(), Some(FilePath::of(path).is_draft())) {
         Ok(linter) => noted_output(alloc, text.as_str(), &linter),
         Err(error) => file_refusal_output(alloc, path, &error),
     }

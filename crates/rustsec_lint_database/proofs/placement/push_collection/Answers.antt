@@ -1,6 +1,5 @@
 use Rattle.std.proofs.Common.{◌∙◌, ◌++◌, ◌∷◌, [], ap, sym}
 use Rattle.std.proofs.lemmas.Result.{on_ok_weaker}
-use Rattle.rustsec_lint_database.specs.Placement.{collection_remarks}
 use Rattle.rustsec_lint_database.specs.Remarks.{remark}
 use Rattle.rustsec_lint_database.specs.declared.remark.RemarkKind.TheVariants as kind
 use Rattle.rustsec_lint_database.proofs.Said.{no-collection, one-said}

@@ -12,7 +12,7 @@ returns-in-Err-clause-ok g c =
 pub returns-in-Ok-lint_string-clause-ok : goal.returns-in-Ok-lint_string-clause-ok
 returns-in-Ok-lint_string-clause-ok g c =
     IfOk-weaker c.noted_output.result _ _ (λ o h. linted c.in-Ok-lint_string.linter.advisory c.in-Ok-lint_string.linter.errors
-    (c.in-Ok.ensures.ok.0, (c.in-Ok.text, (c.in-Ok.ensures.ok.1, rw (c.as_str.ensures, c.is_draft.ensures) at c.in-Ok-lint_string.ensures.ok))) h) c.noted_output.ensures
+    (c.in-Ok.ensures.ok.0, (c.in-Ok.text, (c.in-Ok.ensures.ok.1, rw (c.as_str.ensures, c.is_draft.ensures, c.of.ensures) at c.in-Ok-lint_string.ensures.ok))) h) c.noted_output.ensures
 
 pub returns-clause-ok : goal.returns-clause-ok
 returns-clause-ok g c =

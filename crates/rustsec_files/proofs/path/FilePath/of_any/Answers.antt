@@ -6,7 +6,7 @@ use Rattle.std.proofs.lemmas.Iterator.Splits.{YieldsList-from_str_split}
 use Rattle.std.proofs.lemmas.List.{map-append}
 use Rattle.rustsec_files.specs.Paths.{is_segment, last, without_last}
 use Rattle.rustsec_files.proofs.Segments.{filter-kept, pushed}
-use Rattle.rustsec_lint_database.proofs.file_path.FilePath.of_any.Goals as goal
+use Rattle.rustsec_files.proofs.path.FilePath.of_any.Goals as goal
 
 pub loop-text-preserved-then-is_segment : goal.loop-text-preserved-then-is_segment
 loop-text-preserved-then-is_segment c =

@@ -1,6 +1,6 @@
 use Rattle.std.proofs.Common.{◌∙◌, sym}
-use Rattle.rustsec_lint_database.proofs.LastSegments.{at-slash}
-use Rattle.rustsec_lint_database.proofs.file_path.split_last.Goals as goal
+use Rattle.rustsec_files.proofs.LastSegments.{at-slash}
+use Rattle.rustsec_files.proofs.path.split_last.Goals as goal
 
 pub returns-then-is_segment : goal.returns-then-is_segment
 returns-then-is_segment c =

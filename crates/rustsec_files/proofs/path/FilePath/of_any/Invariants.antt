@@ -2,7 +2,7 @@ use Rattle.std.proofs.Common.{◌≡◌, map}
 use Rattle.std.specs.List.{filter}
 use Rattle.std.specs.Option.{option_copied}
 use Rattle.rustsec_files.specs.Paths.{is_segment, last, without_last}
-use Rattle.rustsec_lint_database.proofs.file_path.FilePath.of_any.Given as goal
+use Rattle.rustsec_files.proofs.path.FilePath.of_any.Given as goal
 
 -- the last three segments so far
 abbrev pub invariant-loop-text : goal.invariant-loop-text

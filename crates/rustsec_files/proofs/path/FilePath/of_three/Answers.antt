@@ -1,5 +1,5 @@
-use Rattle.rustsec_lint_database.proofs.LastSegments.{last-three}
-use Rattle.rustsec_lint_database.proofs.file_path.FilePath.of_three.Goals as goal
+use Rattle.rustsec_files.proofs.LastSegments.{last-three}
+use Rattle.rustsec_files.proofs.path.FilePath.of_three.Goals as goal
 
 pub invariant_of-result : goal.invariant_of-result
 invariant_of-result c =

@@ -1,4 +1,0 @@
-use Rattle.rustsec_files.proofs.path.is_draft.Goals as goal
-
-pub returns-in-Some : goal.returns-in-Some
-returns-in-Some c = rw (← c.file_name.ensures, c.in-Some.is) c.is_draft_name.ensures
