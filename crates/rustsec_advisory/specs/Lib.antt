@@ -1,4 +1,5 @@
 pub mod Addresses
+pub mod PlainAddresses
 pub mod Requirements
 pub mod FileRefusals
 pub mod Affected

@@ -1,6 +1,6 @@
-//! Addresses (URL Standard), which contracts see as they print.
+//! Addresses (URL Standard), each kept as the text that it prints.
 
-ghost use Rattle.std.specs.Prelude.{◌≡◌, IfErr, IfOk, None, Ok, Some, nat_eq};
+ghost use Rattle.std.specs.Prelude.{◌≡◌, IfErr, IfOk, IsAscii, None, Ok, Some, nat_eq};
 ghost use Rattle.std.specs.Cmp.{partial_equiv_from_equiv};
 ghost use Rattle.std.specs.Cmp.Lexicographic.{bytes_decides, nat_list_eq_equiv, pointwise};
 ghost use Rattle.url.specs.Parser.{parse_url};
@@ -8,31 +8,31 @@ ghost use Rattle.url.specs.Parts.{serialize};
 ghost use Rattle.rustsec_advisory.specs.Addresses.{address_of, unless_no_room};
 ghost use Rattle.rustsec_error.specs.Failure.{IsMemory, IsRefusal};
 
-use rustsec_error::{ErrorKind, FromText, Result, refused_for};
-use rustsec_values::{ExactClone, ExactEq};
+use crate::plain_address::is_plain;
+use rustsec_error::{Error, ErrorKind, FromText, Result, refused_for};
+use rustsec_values::{ExactClone, ExactEq, Text};
 use std::alloc::{AllocError, Global};
 use std::convert::AsStr;
 use std::fmt;
 use std::marker::Model;
 use url::{ParseError, ParseResult, Url};
 
-/// An address that was parsed by the URL Standard. Every contract sees it as the text that it prints; parsing that
-/// text gives the same address.
-#[derive(Debug, Drop)]
+/// An address that was parsed by the URL Standard, kept as the text that it prints. Parsing that text gives the same
+/// address.
+#[derive(Clone, Debug, Drop)]
 pub struct Address {
-    url: Url,
+    text: Text,
 }
 
 impl Model for Address {
-    ghost use Rattle.std.specs.Prelude.{◌≡◌, ℕ, List, None, Ok};
-    ghost use Rattle.url.specs.Parser.{parse_url};
-    ghost use Rattle.url.specs.Parts.{serialize};
+    ghost use Rattle.std.specs.Prelude.{ℕ, List};
+    ghost use Rattle.rustsec_advisory.specs.Addresses.{IsAddress};
 
     ghost Value = { List ℕ };
 
-    ghost view = { λ a. serialize a.url };
+    ghost view = { λ a. a.text };
 
-    ghost invariant = { λ a. parse_url None (serialize a.url) ≡ Ok a.url };
+    ghost invariant = { λ a. IsAddress a.text };
 }
 
 /// Returns the parsed address, or none if the parser refuses the text. Only an address beyond the size limit is an
@@ -58,38 +58,61 @@ fn reason(alloc: Global, parsed: &ParseResult<Url>) -> std::result::Result<Strin
 /// Returns the address for a text that the parser reads as this URL.
 fn read_from(url: Url, text: &str) -> Address
     requires { parse_url None text.now ≡ Ok url }
-    ensures { result ≡ serialize url }
+    ensures { address_of text.now ≡ Some result }
 {
     // The contract of `as_str` states that a `Url` is valid; this call brings that fact into the proof.
     let _text = url.as_str();
-    Address { url }
+    Address {
+        text: Text::from(String::from(url)),
+    }
+}
+
+/// Parses an address by the URL Standard's parser.
+fn parsed(alloc: Global, text: &str) -> Result<Address>
+    ensures ok { IfOk result (λ a. address_of text.now ≡ Some a) }
+    ensures err { IfErr result (IsRefusal ErrorKind.Parse (address_of text.now ≡ None)) }
+{
+    let parsed = Url::parse(alloc, text);
+    let reason = reason(alloc, &parsed)?;
+    match unless_no_room(parsed)? {
+        Some(url) => Ok(read_from(url, text)),
+        None => Err(refused_for(alloc, "not an address", text, "an absolute URL", &reason)),
+    }
 }
 
 impl Address {
-    /// Parses an address (URL Standard).
+    /// Parses an address (URL Standard). A plain one is read as it is; any other goes through the crate `url`.
     ///
     /// # Errors
     ///
     /// `Parse` if the URL Standard's parser refuses the text, with its reason as the cause; else `OutOfMemory`, also for
-    /// an address over 4 GB, the limit of the type `Url`.
+    /// an address over 4 GB that is not plain, the limit of the type `Url`.
     pub fn from_str(alloc: Global, text: &str) -> Result<Address>
         ensures ok { IfOk result (λ a. address_of text.now ≡ Some a) }
         ensures err { IfErr result (IsRefusal ErrorKind.Parse (address_of text.now ≡ None)) }
     {
-        let parsed = Url::parse(alloc, text);
-        let reason = reason(alloc, &parsed)?;
-        match unless_no_room(parsed)? {
-            Some(url) => Ok(read_from(url, text)),
-            None => Err(refused_for(alloc, "not an address", text, "an absolute URL", &reason)),
+        if !is_plain(text) {
+            return parsed(alloc, text);
         }
+        let text = Text::from_str(alloc, text)?;
+        Ok(Address { text })
     }
 
     /// Returns the address as the type of `url`.
-    pub fn as_url(&self) -> &Url
-        ensures text { serialize result.now ≡ self.now }
-        ensures parsed { parse_url None self.now ≡ Ok result.now }
+    ///
+    /// # Errors
+    ///
+    /// `OutOfMemory` alone, also for an address over 4 GB, the limit of that type.
+    pub fn to_url(&self, alloc: Global) -> Result<Url>
+        ensures text { IfOk result (λ url. serialize url ≡ self.now) }
+        ensures parsed { IfOk result (λ url. parse_url None self.now ≡ Ok url) }
+        ensures err { IfErr result IsMemory }
     {
-        &self.url
+        match Url::parse(alloc, self.as_str()) {
+            Ok(url) => Ok(url),
+            // The text is an address, so the parser refuses it only where there is no room.
+            Err(_) => Err(Error::from(AllocError)),
+        }
     }
 
     /// Returns the text that it prints.
@@ -98,8 +121,9 @@ impl Address {
 
         // Parsing the text gives the same address, whatever its scheme.
         ensures read_again { address_of self.now ≡ Some self.now }
+        ensures ascii { IsAscii result.now }
     {
-        self.url.as_str()
+        self.text.as_str()
     }
 
     /// Returns an equal address.
@@ -116,17 +140,10 @@ impl Address {
     }
 }
 
-impl Clone for Address {
-    ghost is_clone = { λ a b. b ≡ a };
-
-    fn clone(&self) -> std::result::Result<Address, AllocError> {
-        let url = self.url.clone()?;
-        Ok(Address { url })
-    }
-}
-
 impl ExactClone for Address {
-    ghost exact = { λ x y e. e };
+    ghost use Rattle.std.proofs.Common.{rules};
+
+    ghost exact = { λ x y e. Prim.search rules };
 }
 
 impl PartialEq for Address {

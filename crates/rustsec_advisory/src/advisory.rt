@@ -17,7 +17,7 @@ use crate::affected::Affected;
 use crate::front_matter;
 use crate::metadata::Metadata;
 use rustsec_error::{Error, ErrorKind, Result, refused_file};
-use rustsec_files::path;
+use rustsec_files::path::FilePath;
 use rustsec_folders::{Folders, RealFolders};
 use rustsec_lock::Severity;
 use rustsec_texts::{Date, Id, Parts};
@@ -30,7 +30,7 @@ use toml::Table;
 
 /// A security advisory: its metadata, the platforms and functions that are affected, and the requirements that
 /// determine the affected versions.
-#[derive(Debug, PartialEq, Eq)]
+#[derive(Clone, Debug, PartialEq, Eq)]
 pub struct Advisory {
     /// The table `advisory` of the document, with the title and the description.
     pub metadata: Metadata,
@@ -102,12 +102,17 @@ fn late_header(alloc: Global, front: TablePlace<'_>, error: Error) -> Error
     ensures kind { IsOfKind ErrorKind.Parse error → IsOfKind ErrorKind.Parse result }
     ensures memory { IsMemory error → IsMemory result }
 {
-    let is_late = !has_header(front.text) && key_at(alloc, front.text, &["advisory"]).is_some();
-    if !is_late || error.kind() == ErrorKind::OutOfMemory {
+    if has_header(front.text) || error.kind() == ErrorKind::OutOfMemory {
         return error;
     }
-    let late = Error::new(alloc, ErrorKind::Parse, late_words(front.text));
-    front.refused_at(alloc, "advisory", late)
+    match key_at(alloc, front.text, &["advisory"]) {
+        Ok(Some(_)) => {
+            let late = Error::new(alloc, ErrorKind::Parse, late_words(front.text));
+            front.refused_at(alloc, "advisory", late)
+        }
+        Ok(None) => error,
+        Err(refused) => Error::from(refused),
+    }
 }
 
 /// Returns the place of a front matter that begins in this line of a file.
@@ -355,7 +360,7 @@ impl Advisory {
     pub fn is_draft(path: &str) -> bool
         ensures { result ≡ is_draft path.now }
     {
-        path::is_draft(path)
+        FilePath::of(path).is_draft()
     }
 
     /// Returns an equal advisory.
@@ -372,23 +377,10 @@ impl Advisory {
     }
 }
 
-impl Clone for Advisory {
-    ghost is_clone = { λ a b. b ≡ a };
-
-    fn clone(&self) -> std::result::Result<Advisory, AllocError> {
-        let metadata = Clone::clone(&self.metadata)?;
-        let affected = Clone::clone(&self.affected)?;
-        let versions = Clone::clone(&self.versions)?;
-        Ok(Advisory {
-            metadata,
-            affected,
-            versions,
-        })
-    }
-}
-
 impl ExactClone for Advisory {
-    ghost exact = { λ x y e. e };
+    ghost use Rattle.std.proofs.Common.{rules};
+
+    ghost exact = { λ x y e. Prim.search rules };
 }
 
 impl ExactEq for Advisory {

@@ -11,7 +11,7 @@ use rustsec_versions::Requirements;
 use std::alloc::{AllocError, Global};
 
 /// The affected platforms and functions.
-#[derive(Debug, PartialEq, Eq)]
+#[derive(Clone, Debug, PartialEq, Eq)]
 pub struct Affected {
     /// The architectures; an empty list means all.
     pub arch: Items<Arch>,
@@ -76,23 +76,10 @@ impl Affected {
     }
 }
 
-impl Clone for Affected {
-    ghost is_clone = { λ a b. b ≡ a };
-
-    fn clone(&self) -> std::result::Result<Affected, AllocError> {
-        let arch = Clone::clone(&self.arch)?;
-        let os = Clone::clone(&self.os)?;
-        let functions = Clone::clone(&self.functions)?;
-        Ok(Affected {
-            arch,
-            os,
-            functions,
-        })
-    }
-}
-
 impl ExactClone for Affected {
-    ghost exact = { λ x y e. e };
+    ghost use Rattle.std.proofs.Common.{rules};
+
+    ghost exact = { λ x y e. Prim.search rules };
 }
 
 impl ExactEq for Affected {

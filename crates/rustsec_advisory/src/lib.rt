@@ -11,6 +11,7 @@ mod lint_rules;
 mod lint_values;
 pub mod linter;
 pub mod metadata;
+mod plain_address;
 mod requirements;
 
 pub use crate::address::Address;

@@ -21,7 +21,7 @@ ghost use Rattle.rustsec_error.specs.declared.error.ErrorKind.TheVariants as fai
 use crate::advisory::{self, Advisory};
 use crate::lint_rules;
 use rustsec_error::{Result, refused_file, refused_text};
-use rustsec_files::path;
+use rustsec_files::path::FilePath;
 use rustsec_folders::{Folders, RealFolders};
 use rustsec_texts::Parts;
 use rustsec_values::{ExactClone, ExactEq, Items, Text};
@@ -384,7 +384,7 @@ impl Linter {
         ensures same { AllowSame (F.allowed folders.old) (F.allowed folders.new) }
         ensures names { IfErr result (λ e. F.refuses folders.old path.now e ⊎ IsOfFile path.now e) }
     {
-        if !path::is_markdown(path) {
+        if !FilePath::of(path).is_markdown() {
             let other = refused_text(alloc, "not a Markdown file", path, "the extension `md`");
             return Err(refused_file(alloc, path, &other));
         }
@@ -397,7 +397,7 @@ impl Linter {
         ensures err { IfErr result (IsTextRefusal text.now) }
         ensures names { IfErr result (IsOfFile path.now) }
     {
-        match Linter::lint_string(alloc, text, Some(path::is_draft(path))) {
+        match Linter::lint_string(alloc, text, Some(FilePath::of(path).is_draft())) {
             Ok(linter) => Ok(linter),
             Err(e) => Err(refused_file(alloc, path, &e)),
         }

@@ -75,7 +75,7 @@ fn linked_id(alloc: Global, address: &Address) -> Result<Id>
     ensures ok { IfOk result (λ i. linked_id address.now ≡ Some i) }
     ensures err { IfErr result (IsRefusal ErrorKind.Parse (linked_id address.now ≡ None)) }
 {
-    let address = address.as_url().as_str();
+    let address = address.as_str();
     match linked_text(address) {
         Some(text) => Id::from_str(alloc, text),
         None => Err(refused_text(

@@ -15,7 +15,7 @@ use rustsec_advisory::metadata::Kinds;
 use rustsec_lock::Cvss;
 use rustsec_lock::package::Name;
 use rustsec_texts::{Date, FunctionPath};
-use rustsec_values::{Items, Text};
+use rustsec_values::{Items, Text, exact_copy};
 use rustsec_versions::Requirements;
 use std::alloc::{AllocError, Global};
 use std::collections::BTreeMap;
@@ -149,7 +149,7 @@ pub(crate) fn severity_of(cvss: &Cvss) -> Result<OsvSeverity, AllocError>
         Cvss::CvssV30(base) => Ok(OsvSeverity::CVSS_V3(*base)),
         Cvss::CvssV31(base) => Ok(OsvSeverity::CVSS_V3(*base)),
         Cvss::CvssV40(text) => {
-            let text = Clone::clone(text)?;
+            let text = exact_copy(text)?;
             Ok(OsvSeverity::CVSS_V4(text))
         }
     }

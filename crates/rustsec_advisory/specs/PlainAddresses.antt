@@ -1,0 +1,40 @@
+-- Plain addresses: `https://`, a domain of plain bytes, a slash and a path of plain bytes. The URL Standard's parser reads such
+-- a text as it is (URL Standard, sections 3.5 and 4.4).
+use Rattle.std.specs.Prelude.{◌≡◌, ◌&&◌, ◌||◌, ◌==◌, ◌++◌, ℕ, Bool, true, false, not, List, [], ◌∷◌, codes, slice_index}
+use Rattle.std.specs.Char.{is_ascii_digit, is_ascii_lowercase, is_ascii_uppercase}
+use Rattle.std.specs.List.{list_all, slice_split}
+
+-- a byte of a plain domain's label: a small letter, a digit or a hyphen
+abbrev pub is_label_byte : ℕ → Bool
+is_label_byte b = is_ascii_lowercase b || is_ascii_digit b || b == 45
+
+-- a byte of a plain domain: that of a label, or a full stop
+abbrev pub is_domain_byte : ℕ → Bool
+is_domain_byte b = is_label_byte b || b == 46
+
+-- a byte of a plain segment: a letter, a digit, a hyphen, a full stop or an underscore
+abbrev pub is_segment_byte : ℕ → Bool
+is_segment_byte b = is_domain_byte b || is_ascii_uppercase b || b == 95
+
+-- a label that begins with a small letter, so that it is not a number
+abbrev pub is_last_label : List ℕ → Bool
+is_last_label [] = false
+is_last_label (b ∷ label) = is_ascii_lowercase b && list_all is_label_byte label
+
+-- a segment of a path that does not begin with a full stop, so that it is neither `.` nor `..`
+abbrev pub is_plain_segment : List ℕ → Bool
+is_plain_segment segment = not (slice_index segment 0 == 46) && list_all is_segment_byte segment
+
+-- the segments of a path, after its first slash
+abbrev pub segments : List ℕ → List (List ℕ)
+segments path = slice_split (λ b. b == 47) path
+
+-- the text of a plain address: its domain is some labels and a last one, and each segment of its path is plain
+pub record IsPlain (text : List ℕ) : Type 0 where
+  pub labels : List ℕ
+  pub last : List ℕ
+  pub path : List ℕ
+  pub is : text ≡ codes "https://" ++ (labels ++ 46 ∷ last) ++ 47 ∷ path
+  pub are_labels : list_all is_domain_byte labels ≡ true
+  pub is_last : is_last_label last ≡ true
+  pub is_path : list_all is_plain_segment (segments path) ≡ true
