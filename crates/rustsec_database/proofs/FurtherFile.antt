@@ -1,12 +1,12 @@
 -- What one more file, after the others, adds to the loaded advisories.
-use Rattle.std.proofs.Common.{◌≡◌, ◌∙◌, ◌+◌, ◌<◌, ◌++◌, ℕ, List, [], ◌∷◌, refl, subst, ap, arith}
+use Rattle.std.proofs.Common.{◌≡◌, ◌∙◌, ◌++◌, List, [], ◌∷◌, refl, subst, ap, arith}
 use Rattle.std.proofs.lemmas.List.{get_or_append_left, length-append}
 use Rattle.std.proofs.lemmas.List.Elements.{filter-append}
 use Rattle.std.specs.List.{filter}
 use Rattle.rustsec_advisory.specs.declared.advisory.Advisory.{Advisory}
 use Rattle.rustsec_folders.specs.declared.source_file.SourceFile.{SourceFile}
 use Rattle.rustsec_database.specs.Filing.{IsFiled}
-use Rattle.rustsec_database.specs.Loaded.{AreFiled, AreLoaded, HaveOwnIds, has_id, is_stored}
+use Rattle.rustsec_database.specs.Loaded.{AreFiled, AreLoaded, HaveOwnIds, is_stored}
 
 -- the advisories of some files and of one more
 record LastFiled (files : List SourceFile) (file : SourceFile) (all : List Advisory) : Type 0 where

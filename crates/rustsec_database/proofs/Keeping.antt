@@ -1,11 +1,11 @@
 -- What is kept of the advisories of some files, one file after another.
-use Rattle.std.proofs.Common.{◌≡◌, ◌∙◌, ◌⊎◌, ◌+◌, ◌++◌, ◌||◌, ℕ, Bool, true, false, cond, List, [], ◌∷◌, Option, Some, None, inl, inr, length, not, refl, sym, ap, subst, arith, length-append}
+use Rattle.std.proofs.Common.{◌≡◌, ◌∙◌, ◌⊎◌, ◌+◌, ◌++◌, ◌||◌, ℕ, Bool, true, false, cond, List, [], ◌∷◌, Some, None, inl, inr, length, not, refl, sym, ap, subst, arith, length-append}
 use Rattle.std.proofs.lemmas.Bool.Decides.{same_from_decides}
 use Rattle.std.proofs.lemmas.List.Elements.{filter-append}
 use Rattle.std.proofs.lemmas.List.Folds.{list_any-append}
 use Rattle.std.specs.Prelude.{Err, IfErr, IfOk, Ok, Result}
 use Rattle.std.specs.HashSet.{HashSet, Updates}
-use Rattle.std.specs.List.{filter, list_any}
+use Rattle.std.specs.List.{list_any}
 use Rattle.rustsec_error.specs.Failure.{Failure, IsMemory}
 use Rattle.rustsec_texts.specs.IdOrder.{id_decides, id_eq}
 use Rattle.rustsec_texts.specs.Ids.{IdValue}
@@ -15,13 +15,13 @@ use Rattle.rustsec_folders.specs.Listed.{IsFile, Pairwise, Paths}
 use Rattle.rustsec_folders.specs.declared.source_file.SourceFile.{SourceFile}
 use Rattle.rustsec_database.specs.Filing.{IsFiled, IsMisfiled}
 use Rattle.rustsec_database.specs.Kept.{AreOpenedFor, HaveIdsAmong, IsKept, IsKeptLoadOf, IsKeptWith, KeptValue}
-use Rattle.rustsec_database.specs.Latest.{last_date, later}
+use Rattle.rustsec_database.specs.Latest.{later}
 use Rattle.rustsec_database.specs.Loaded.{AreLoaded, IsAtFault, IsFault, IsFirstFault, has_id, is_known, is_stored}
 use Rattle.rustsec_database.specs.Opened.{AreRead, IsReadRefusal}
 use Rattle.rustsec_database.proofs.Files.{added, loaded-more, loaded-none, one-more}
 use Rattle.rustsec_database.proofs.Latest.{last-date-more}
 use Rattle.rustsec_database.proofs.Opening.{last-fault, opened, still-refused}
-use Rattle.rustsec_database.proofs.Places.{is-false, neither}
+use Rattle.rustsec_database.proofs.Places.{neither}
 
 -- ---- IDs
 

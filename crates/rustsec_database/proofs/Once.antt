@@ -1,18 +1,16 @@
 -- Files load as one list of advisories only, or their first fault has one kind only, and not both.
-use Rattle.std.proofs.Common.{◌≡◌, ◌∙◌, ◌⊎◌, ◌+◌, ◌<◌, ◌++◌, ℕ, Bool, true, false, List, [], ◌∷◌, Some, None, Ok, Err, Contains, inl, inr, filter, get_or, length, refl, subst, sym, ap, arith}
+use Rattle.std.proofs.Common.{◌≡◌, ◌∙◌, ◌⊎◌, ◌++◌, ℕ, Bool, true, false, List, [], ◌∷◌, Ok, inl, inr, filter, length, refl, subst, sym, ap, arith}
 use Rattle.std.proofs.lemmas.Bool.{cases_Bool}
 use Rattle.std.proofs.lemmas.List.{get_or_append_left, length-append}
 use Rattle.std.proofs.lemmas.List.Elements.{filter-append}
 use Rattle.std.proofs.lemmas.List.Folds.{Any-from_list_any}
 use Rattle.std.proofs.Math.Seq.{get_or-append_seam}
 use Rattle.std.specs.Prelude.{cond}
-use Rattle.rustsec_error.specs.Failure.{Failure, IsMemory, IsRefusal}
+use Rattle.rustsec_error.specs.Failure.{Failure, IsMemory}
 use Rattle.rustsec_error.specs.declared.error.ErrorKind.{ErrorKind}
-use Rattle.rustsec_error.specs.declared.error.ErrorKind.TheVariants as kind
 use Rattle.rustsec_advisory.proofs.Unique.{advisory_unique}
 use Rattle.rustsec_advisory.specs.declared.advisory.Advisory.{Advisory}
 use Rattle.rustsec_folders.specs.Allowed.{Allowed, AnswersOnce}
-use Rattle.rustsec_folders.specs.Listed.{Listed}
 use Rattle.rustsec_folders.specs.declared.source_file.SourceFile.{SourceFile}
 use Rattle.rustsec_folders.proofs.Once.{listed-once, listed-or-error}
 use Rattle.rustsec_database.specs.Filing.{IsFiled, IsMisfiled, placed_in, kind_of, path_verdict}

@@ -1,13 +1,13 @@
 -- The result of loading one file after another: it keeps the error of the first file at fault.
-use Rattle.std.proofs.Common.{◌≡◌, ◌∙◌, ◌⊎◌, ◌+◌, ◌<◌, ◌++◌, ℕ, List, [], ◌∷◌, Option, Some, None, inl, inr, get_or, length, take, refl, subst, sym, ap}
+use Rattle.std.proofs.Common.{◌≡◌, ◌∙◌, ◌⊎◌, ◌++◌, ℕ, List, [], ◌∷◌, Option, Some, None, inl, inr, refl, subst, sym, ap}
 use Rattle.std.proofs.lemmas.List.{append_assoc}
-use Rattle.std.specs.Prelude.{Err, IfErr, IfOk, Ok, Result}
+use Rattle.std.specs.Prelude.{Contains, Err, IfErr, IfOk, Ok, Result}
 use Rattle.rustsec_error.specs.Failure.{Failure, IsMemory}
 use Rattle.rustsec_advisory.specs.declared.advisory.Advisory.{Advisory}
 use Rattle.rustsec_folders.specs.Allowed.{Allowed, AllowSame}
 use Rattle.rustsec_folders.specs.Listed.{FailsAtFile, IsFile, Pairwise, Paths}
 use Rattle.rustsec_folders.specs.declared.source_file.SourceFile.{SourceFile}
-use Rattle.rustsec_folders.proofs.Lists.{contains-item, pairwise-step}
+use Rattle.rustsec_folders.proofs.Lists.{pairwise-push}
 use Rattle.rustsec_folders.proofs.Same.{listed-fails, listed-found}
 use Rattle.rustsec_error.proofs.Refusals.{refused_by}
 use Rattle.rustsec_error.specs.declared.error.ErrorKind.TheVariants as kind
@@ -68,9 +68,9 @@ refused-next files f before answer e r was is same h =
 -- ---- a loop over paths
 
 -- a path that cannot be read
-pub file-fails : (a b : Allowed) (paths : List (List ℕ)) (i : ℕ) (item path : List ℕ) → AllowSame a b → i < length paths → item ≡ get_or paths i item
+pub file-fails : (a b : Allowed) (paths : List (List ℕ)) (item path : List ℕ) → AllowSame a b → Contains paths item
     → path ≡ item → b.reads path None → FailsAtFile a paths
-file-fails a b paths i item path same l at is h = (item, contains-item paths i item l at, rw (← is) ((same.reads path None).1 h))
+file-fails a b paths item path same among is h = (item, among, rw (← is) ((same.reads path None).1 h))
 
 file-read : (a b : Allowed) (item path copy text whole : List ℕ) → AllowSame a b → path ≡ item → copy ≡ item → text ≡ whole
     → b.reads path (Some whole) → IsFile a item (record { path = copy; text = text })
@@ -78,24 +78,24 @@ file-read a b item path copy text whole same is also all h =
     (also, subst (λ (p : List ℕ). a.reads p (Some text)) is (subst (λ (t : List ℕ). a.reads path (Some t)) (sym all) ((same.reads path (Some whole)).1 h)))
 
 -- one more file was read and loaded, with a property of the files and of the result of loading them
-pub load-step : {A : Type 0} (P : List SourceFile → Result A Failure → Type 0) (a b : Allowed) (paths : List (List ℕ)) (i : ℕ)
-    (item path copy text whole : List ℕ) (before answer : Result A Failure) → AllowSame a b → i < length paths → item ≡ get_or paths i item
-    → path ≡ item → copy ≡ item → text ≡ whole → (files : List SourceFile) × (Pairwise (IsFile a) (take i paths) files × P files before)
+pub load-step : {A : Type 0} (P : List SourceFile → Result A Failure → Type 0) (a b : Allowed) (paths : List (List ℕ))
+    (item path copy text whole : List ℕ) (before answer : Result A Failure) → AllowSame a b
+    → path ≡ item → copy ≡ item → text ≡ whole → (files : List SourceFile) × (Pairwise (IsFile a) paths files × P files before)
     → b.reads path (Some whole)
     → ((files : List SourceFile) → P files before → P (files ++ record { path = copy; text = text } ∷ []) answer)
-    → (files : List SourceFile) × (Pairwise (IsFile a) (take (i + 1) paths) files × P files answer)
-load-step P a b paths i item path copy text whole before answer same l at is also all (files, (read, load)) h next = (
+    → (files : List SourceFile) × (Pairwise (IsFile a) (paths ++ item ∷ []) files × P files answer)
+load-step P a b paths item path copy text whole before answer same is also all (files, (read, load)) h next = (
   files ++ record { path = copy; text = text } ∷ [],
   (
-    pairwise-step (IsFile a) paths files i item (record { path = copy; text = text }) l at read (file-read a b item path copy text whole same is also all h),
+    pairwise-push (IsFile a) paths files item (record { path = copy; text = text }) read (file-read a b item path copy text whole same is also all h),
     next files load,
   ),
 )
 
 -- nothing is read yet
-pub load-none : (a : Allowed) (paths : List (List ℕ)) (answer : List Advisory) → answer ≡ [] → AreLoaded [] []
-    → (files : List SourceFile) × (Pairwise (IsFile a) (take 0 paths) files × IsLoadOf files (Ok answer))
-load-none a paths answer is none = ([], (tt, (rw is none, tt)))
+pub load-none : (a : Allowed) (answer : List Advisory) → answer ≡ [] → AreLoaded [] []
+    → (files : List SourceFile) × (Pairwise (IsFile a) [] files × IsLoadOf files (Ok answer))
+load-none a answer is none = ([], (tt, (rw is none, tt)))
 
 -- ---- paths that are listed under a root, and the files that are read at them afterwards
 

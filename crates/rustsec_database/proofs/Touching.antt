@@ -4,13 +4,13 @@ use Rattle.std.proofs.lemmas.Grind.{common_steps}
 use Rattle.std.proofs.lemmas.List.{length-take-le, take_more}
 use Rattle.std.specs.Cmp.Lexicographic.{bytes_decides, pointwise}
 use Rattle.std.specs.List.{cons_option, filter, filter_map, list_any, slice_get}
-use Rattle.rustsec_versions.specs.acceptance.Lists.{Lists, affected}
+use Rattle.rustsec_versions.specs.acceptance.Lists.{affected}
 use Rattle.rustsec_lock.specs.Package.{PackageValue}
 use Rattle.rustsec_advisory.specs.declared.advisory.Advisory.{Advisory}
-use Rattle.rustsec_database.specs.Kept.{is_about_any, touches, touches_any}
+use Rattle.rustsec_database.specs.Kept.{is_about_any, touches_any}
 use Rattle.rustsec_database.specs.Places.{IsIndexByName, affects_at, at_places, holds_at, is_named, places_from}
 use Rattle.rustsec_database.specs.Slots.{slots_at, with_slot}
-use Rattle.rustsec_database.proofs.Places.{is-false, places-below, places-in, places-out, taken}
+use Rattle.rustsec_database.proofs.Places.{places-below, places-in, places-out, taken}
 use Rattle.rustsec_database.proofs.Slots.{with_slot-last}
 use Rattle.rustsec_database.proofs.Tables.{name-back, plus-zero}
 

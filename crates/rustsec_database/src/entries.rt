@@ -18,6 +18,7 @@ use rustsec_advisory::Advisory;
 use rustsec_error::{Error, ErrorKind, Result, refused_file};
 use rustsec_folders::{Folders, RealFolders};
 use rustsec_texts::Id;
+use rustsec_values::exact_copy;
 use std::alloc::{AllocError, Global};
 use std::collections::HashMap;
 use std::marker::Model;
@@ -73,7 +74,7 @@ impl Entries {
         ensures slot { IfOk result (λ slot. slot ≡ length self.old) }
         ensures err { OnErr result (self.new ≡ self.old) }
     {
-        let id = Clone::clone(&advisory.metadata.id)?;
+        let id = exact_copy(&advisory.metadata.id)?;
         let slot = Slot::new(self.advisories.as_slice().len());
         self.advisories.reserve(1)?;
         self.slots.insert(id, slot)?;

@@ -10,6 +10,7 @@ ghost use Rattle.rustsec_database.specs.Slots.{Rises, slots_at, where_any, with_
 use crate::slot::Slot;
 use rustsec_error::Result;
 use rustsec_lock::package::Name;
+use rustsec_values::exact_copy;
 use std::alloc::{AllocError, Global};
 use std::collections::HashMap;
 use std::marker::Model;
@@ -71,7 +72,7 @@ impl Index {
         ensures err { OnErr result (self.new ≡ self.old) }
     {
         let slots = vec![in alloc; slot]?;
-        let key = Clone::clone(key)?;
+        let key = exact_copy(key)?;
         self.slots.insert(key, slots)?;
         Ok(())
     }

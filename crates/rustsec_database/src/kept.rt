@@ -20,7 +20,7 @@ use rustsec_advisory::Advisory;
 use rustsec_error::{Result, refused_file};
 use rustsec_folders::{Folders, source_paths};
 use rustsec_texts::{Date, Id};
-use rustsec_values::{Test, Text};
+use rustsec_values::{Items, Test, Text, exact_copy};
 use std::alloc::{AllocError, Global};
 use std::collections::HashSet;
 use std::marker::Model;
@@ -50,7 +50,7 @@ fn add_id(ids: &mut HashSet<Id>, id: &Id) -> std::result::Result<bool, AllocErro
     ensures among { OnOk result ((q : IdValue) → list_any (id_eq q) ids.new.keys ≡ (list_any (id_eq q) ids.old.keys || id_eq q id.now)) }
     ensures number { IfOk result (λ fresh. length ids.new.keys ≡ length ids.old.keys + (if fresh then 1 else 0)) }
 {
-    let id = Clone::clone(id)?;
+    let id = exact_copy(id)?;
     let fresh = ids.insert(id)?;
     Ok(fresh)
 }
@@ -62,7 +62,7 @@ fn later(latest: Option<Date>, date: &Date) -> std::result::Result<Option<Date>,
     match latest {
         Some(other) if *date <= other => Ok(Some(other)),
         _ => {
-            let date = Clone::clone(date)?;
+            let date = exact_copy(date)?;
             Ok(Some(date))
         }
     }
@@ -198,7 +198,7 @@ impl KeptDatabase {
         ensures same { AllowSame (F.allowed folders.old) (F.allowed folders.new) }
     {
         let paths = source_paths(alloc, folders, root)?;
-        keep_paths(alloc, folders, paths.as_slice(), test)
+        keep_paths(alloc, folders, paths, test)
     }
 }
 
@@ -218,19 +218,20 @@ fn keep_next<T: Test<Advisory>>(
     kept.with_file(alloc, path, text, test)
 }
 
-/// Loads the files at some paths. Files after one at fault are read too. One text is held at a time.
+/// Loads the files at some paths. Files after one at fault are read too. One text is held at a time, and a path until its
+/// file is loaded.
 fn keep_paths<F: Folders, T: Test<Advisory>>(
     alloc: Global,
     folders: &mut F,
-    paths: &[Text],
+    paths: Items<Text>,
     test: &T,
 ) -> Result<KeptDatabase>
-    ensures ok { IfOk result (λ k. (all : List given.Advisory) × (AreRead (F.allowed folders.old) paths.now all × IsKept (T.passes test.now) all k)) }
-    ensures err { IfErr result (IsReadRefusal (F.allowed folders.old) paths.now) }
+    ensures ok { IfOk result (λ k. (all : List given.Advisory) × (AreRead (F.allowed folders.old) paths all × IsKept (T.passes test.now) all k)) }
+    ensures err { IfErr result (IsReadRefusal (F.allowed folders.old) paths) }
     ensures same { AllowSame (F.allowed folders.old) (F.allowed folders.new) }
 {
     let mut loaded = Ok(KeptDatabase::empty(alloc));
-    for path in paths {
+    for path in Vec::from(paths) {
         let text = folders.read(alloc, path.as_str())?;
         loaded = keep_next(alloc, loaded, path.as_str(), text.as_str(), test);
     }

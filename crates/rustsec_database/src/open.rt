@@ -8,7 +8,7 @@ ghost use Rattle.rustsec_database.specs.Opened.{AreOpened, AreRead, IsLoadOf, Is
 use crate::database::Database;
 use rustsec_error::Result;
 use rustsec_folders::{Folders, RealFolders, source_paths};
-use rustsec_values::Text;
+use rustsec_values::{Items, Text};
 use std::alloc::Global;
 use std::rt::Files;
 
@@ -23,14 +23,14 @@ fn load_next(alloc: Global, before: Result<Database>, path: &str, text: &str) ->
 }
 
 /// Loads the database of the files at some paths. Files after one at fault are read too. One text is held
-/// at a time.
-fn load_paths<F: Folders>(alloc: Global, folders: &mut F, paths: &[Text]) -> Result<Database>
-    ensures ok { IfOk result (AreRead (F.allowed folders.old) paths.now) }
-    ensures err { IfErr result (IsReadRefusal (F.allowed folders.old) paths.now) }
+/// at a time, and a path until its file is loaded.
+fn load_paths<F: Folders>(alloc: Global, folders: &mut F, paths: Items<Text>) -> Result<Database>
+    ensures ok { IfOk result (AreRead (F.allowed folders.old) paths) }
+    ensures err { IfErr result (IsReadRefusal (F.allowed folders.old) paths) }
     ensures same { AllowSame (F.allowed folders.old) (F.allowed folders.new) }
 {
     let mut loaded = Ok(Database::empty(alloc));
-    for path in paths {
+    for path in Vec::from(paths) {
         let text = folders.read(alloc, path.as_str())?;
         loaded = load_next(alloc, loaded, path.as_str(), text.as_str());
     }
@@ -52,7 +52,7 @@ impl Database {
         ensures same { AllowSame (F.allowed folders.old) (F.allowed folders.new) }
     {
         let paths = source_paths(alloc, folders, root)?;
-        load_paths(alloc, folders, paths.as_slice())
+        load_paths(alloc, folders, paths)
     }
 
     /// Opens the database of the files under a root of the disk. A pipe, a device or a socket where a file

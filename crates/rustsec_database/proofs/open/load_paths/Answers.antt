@@ -1,4 +1,6 @@
-use Rattle.std.proofs.Common.{inl}
+use Rattle.std.proofs.Common.{inl, length, rules, sym}
+use Rattle.std.proofs.lemmas.Iterator.Adapters.{YieldsList-from_vec}
+use Rattle.std.proofs.lemmas.Iterator.Consumers.{YieldsList-turn}
 use Rattle.std.proofs.lemmas.Result.{err_from_is_err_and}
 use Rattle.rustsec_folders.proofs.Same.{same-refl, same-trans}
 use Rattle.rustsec_error.proofs.Refusals.{refused_by}
@@ -10,24 +12,26 @@ use Rattle.rustsec_database.proofs.open.load_paths.Goals as goal
 pub loop-path-init : goal.loop-path-init
 loop-path-init g c = record {
   same = same-refl _;
-  load = load-none (g.F.Folders.allowed c.args.folders.now) c.args.paths.now c.empty.result c.empty.ensures loaded-none;
+  load = load-none (g.F.Folders.allowed c.args.folders.now) c.empty.result c.empty.ensures loaded-none;
 }
 
 pub loop-path-preserved : goal.loop-path-preserved
 loop-path-preserved g c = record {
   same = same-trans _ _ _ c.loop-path.invariant.same c.read.ensures.same;
-  load = load-step IsLoadOf _ (g.F.Folders.allowed c.loop-path.folders) c.args.paths.now c.loop-path.path-index c.path-item.result c.as_str.result.now
+  load = load-step IsLoadOf _ (g.F.Folders.allowed c.loop-path.folders) c.loop-path.yielded c.in-Some.path c.as_str.result.now
       c.as_str-in-loop-path.result.now c.as_str-in-loop-path-2.result.now c.in_ok-text.text c.loop-path.loaded c.load_next-loaded.result
-      c.loop-path.invariant.same c.loop-path-test.true c.path-item.is c.as_str.ensures c.as_str-in-loop-path.ensures c.as_str-in-loop-path-2.ensures
+      c.loop-path.invariant.same c.as_str.ensures c.as_str-in-loop-path.ensures c.as_str-in-loop-path-2.ensures
       c.loop-path.invariant.load c.in_ok-text.ensures.ok c.load_next-loaded.ensures;
 }
 
 pub returns-in_err-text-clause-err : goal.returns-in_err-text-clause-err
 returns-in_err-text-clause-err g c =
+    let whole = YieldsList-from_vec {s = c.into_iter-path-iterator.result} c.args.paths (search rules) (search rules) in
+    let turn = YieldsList-turn whole c.loop-path.yielded c.loop-path.path-iterator c.loop-path.yielded_by c.next.result c.next.new.self c.in-Some.path c.in-Some.is c.next.ensures.steps in
     let p = err_from_is_err_and c.from_residual.result c.from_residual.ensures.1 in
     rw (p.1, p.2) (inl (refused_by _ c.in_err-text.field-0.0
-    (file-fails _ (g.F.Folders.allowed c.loop-path.folders) c.args.paths.now c.loop-path.path-index c.path-item.result c.as_str.result.now
-    c.loop-path.invariant.same c.loop-path-test.true c.path-item.is c.as_str.ensures) c.in_err-text.ensures.err))
+    (file-fails _ (g.F.Folders.allowed c.loop-path.folders) c.args.paths c.in-Some.path c.as_str.result.now
+    c.loop-path.invariant.same (length c.loop-path.yielded, turn.0, sym turn.1) c.as_str.ensures) c.in_err-text.ensures.err))
 
 pub returns-in_err-text-clause-same : goal.returns-in_err-text-clause-same
 returns-in_err-text-clause-same g c = same-trans _ _ _ c.loop-path.invariant.same c.read.ensures.same

@@ -1,4 +1,4 @@
-use Rattle.std.proofs.Common.{List, take}
+use Rattle.std.proofs.Common.{List}
 use Rattle.rustsec_folders.specs.Allowed.{AllowSame}
 use Rattle.rustsec_folders.specs.Listed.{IsFile, Pairwise}
 use Rattle.rustsec_folders.specs.declared.source_file.SourceFile.{SourceFile}
@@ -9,5 +9,5 @@ use Rattle.rustsec_database.proofs.open.load_paths.Given as goal
 abbrev pub invariant-loop-path : goal.invariant-loop-path
 invariant-loop-path g l = record {
   same : AllowSame (g.F.Folders.allowed l.fn.folders) (g.F.Folders.allowed l.folders);
-  load : (files : List SourceFile) × (Pairwise (IsFile (g.F.Folders.allowed l.fn.folders)) (take l.path-index l.paths) files × IsLoadOf files l.loaded);
+  load : (files : List SourceFile) × (Pairwise (IsFile (g.F.Folders.allowed l.fn.folders)) l.yielded files × IsLoadOf files l.loaded);
 }

@@ -1,4 +1,4 @@
-use Rattle.std.proofs.Common.{◌∙◌, ap, subst, sym}
+use Rattle.std.proofs.Common.{◌∙◌, ap, subst}
 use Rattle.std.specs.List.{position_from}
 use Rattle.rustsec_database.specs.Loaded.{HaveOwnIds, has_id}
 use Rattle.rustsec_database.proofs.OnlyWithId.{only_found}

@@ -13,7 +13,7 @@ invariant_of-self-2 c =
     let are = c.in_ok-push.ensures.items ∙ ap (λ l. l ++ c.args.advisory ∷ []) c.in_ok-reserve.ensures.items in
     let at = c.new-slot.ensures ∙ ap length c.as_slice.ensures.value in
     subst (λ (l : List Advisory). IsTableOf l c.insert.new.self × HaveOwnIds l) (sym are) (
-      table-more old c.args.advisory c.in_ok-id.id c.self.inside.slots c.insert.new.self c.new-slot.result c.in_ok-id.ensures.cases at
+      table-more old c.args.advisory c.in_ok-id.id c.self.inside.slots c.insert.new.self c.new-slot.result c.in_ok-id.ensures at
           c.in_ok-insert.ensures.updates new c.self.invariant.0,
       own-more true old c.args.advisory (λ _. new) c.self.invariant.1,
     )

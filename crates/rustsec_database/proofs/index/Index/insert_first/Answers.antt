@@ -12,4 +12,4 @@ invariant_of-self-2 c =
 pub returns-clause-ok : goal.returns-clause-ok
 returns-clause-ok c = λ name.
     put-seen c.self.inside.slots c.insert.new.self c.args.key.now c.in_ok-key.key c.in_ok-slots.slots (c.args.slot ∷ []) c.args.self.now
-    c.in_ok-key.ensures.cases c.in_ok-slots.ensures.items c.self.view_is c.in_ok-insert.ensures.updates name
+    c.in_ok-key.ensures c.in_ok-slots.ensures.items c.self.view_is c.in_ok-insert.ensures.updates name

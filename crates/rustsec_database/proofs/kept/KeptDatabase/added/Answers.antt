@@ -1,7 +1,5 @@
-use Rattle.std.proofs.Common.{◌≡◌, ◌∙◌, ◌+◌, Bool, false, true, cond, inr, length, refl, subst, sym}
+use Rattle.std.proofs.Common.{◌≡◌, ◌∙◌, ◌+◌, Bool, true, cond, inr, length, refl, subst, sym}
 use Rattle.std.proofs.lemmas.Result.{err_from_is_err_and}
-use Rattle.std.specs.List.{list_any}
-use Rattle.rustsec_texts.specs.IdOrder.{id_eq}
 use Rattle.rustsec_database.specs.Kept.{IsKept, KeptValue}
 use Rattle.rustsec_database.proofs.Files.{known-fault, not-false}
 use Rattle.rustsec_database.proofs.Keeping.{among-more, is-known, is-new, kept-with, known-kept, misfiled-fault}
