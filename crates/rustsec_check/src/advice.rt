@@ -16,7 +16,7 @@ use rustsec_error::Result;
 use rustsec_lock::package::Package;
 use rustsec_query::Query;
 use rustsec_texts::Id;
-use rustsec_values::ExactClone;
+use rustsec_values::{ExactClone, exact_copy};
 use rustsec_versions::Versions;
 use semver::Version;
 use std::alloc::{AllocError, Global};
@@ -96,7 +96,7 @@ fn query_about(alloc: Global, package: &Package) -> Result<Query>
     ensures ok { IfOk result (λ q. q ≡ about «package».now) }
     ensures err { IfErr result IsMemory }
 {
-    let name = Clone::clone(&package.name)?;
+    let name = exact_copy(&package.name)?;
     let query = Query::crate_scope(alloc).package_name(name);
     match package.source.clone()? {
         Some(source) => Ok(query.package_source(source)),

@@ -63,7 +63,7 @@ impl fmt::Display for ErrorKind {
 }
 
 /// An error: its kind, a message and, if it has a cause, the text of the cause.
-#[derive(Debug, Drop)]
+#[derive(Clone, Debug, Drop)]
 pub struct Error {
     kind: ErrorKind,
     message: Option<Text>,
@@ -167,22 +167,10 @@ impl Error {
     }
 }
 
-impl Clone for Error {
-    ghost is_clone = { λ a b. b ≡ a };
-
-    fn clone(&self) -> std::result::Result<Error, AllocError> {
-        let message = self.message.clone()?;
-        let cause = self.cause.clone()?;
-        Ok(Error {
-            kind: self.kind,
-            message,
-            cause,
-        })
-    }
-}
-
 impl ExactClone for Error {
-    ghost exact = { λ x y e. e };
+    ghost use Rattle.std.proofs.Common.{rules};
+
+    ghost exact = { λ x y e. Prim.search rules };
 }
 
 impl From<AllocError> for Error {

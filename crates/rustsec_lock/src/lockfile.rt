@@ -173,7 +173,7 @@ fn packages_at(alloc: Global, table: &Table, text: &str) -> Result<Items<Package
 }
 
 /// A lockfile: its packages, in order.
-#[derive(Debug, PartialEq, Eq, Drop)]
+#[derive(Clone, Debug, PartialEq, Eq, Drop)]
 pub struct Lockfile {
     /// The packages.
     pub packages: Items<Package>,
@@ -274,17 +274,10 @@ impl Lockfile {
     }
 }
 
-impl Clone for Lockfile {
-    ghost is_clone = { λ a b. b ≡ a };
-
-    fn clone(&self) -> std::result::Result<Lockfile, AllocError> {
-        let packages = self.packages.clone()?;
-        Ok(Lockfile { packages })
-    }
-}
-
 impl ExactClone for Lockfile {
-    ghost exact = { λ x y e. e };
+    ghost use Rattle.std.proofs.Common.{rules};
+
+    ghost exact = { λ x y e. Prim.search rules };
 }
 
 impl ExactEq for Lockfile {

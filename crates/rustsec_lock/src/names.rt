@@ -12,7 +12,7 @@ use std::fmt;
 use std::marker::Model;
 
 /// The name of a package: a text that is not empty.
-#[derive(PartialEq, Eq, PartialOrd, Ord, Hash, Debug, Drop)]
+#[derive(Clone, PartialEq, Eq, PartialOrd, Ord, Hash, Debug, Drop)]
 pub struct Name {
     text: Text,
 }
@@ -81,17 +81,10 @@ impl FromText for Name {
     }
 }
 
-impl Clone for Name {
-    ghost is_clone = { λ a b. b ≡ a };
-
-    fn clone(&self) -> std::result::Result<Name, AllocError> {
-        let text = self.text.clone()?;
-        Ok(Name { text })
-    }
-}
-
 impl ExactClone for Name {
-    ghost exact = { λ x y e. e };
+    ghost use Rattle.std.proofs.Common.{rules};
+
+    ghost exact = { λ x y e. Prim.search rules };
 }
 
 impl ExactEq for Name {

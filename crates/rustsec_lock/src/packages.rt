@@ -15,7 +15,7 @@ use std::cmp::Ordering;
 use std::marker::Model;
 
 /// A package of a lockfile. Packages are ordered by these fields, in this order.
-#[derive(Debug, Drop)]
+#[derive(Clone, Debug, Drop)]
 pub struct Package {
     /// The name.
     pub name: Name,
@@ -51,25 +51,10 @@ impl Package {
     }
 }
 
-impl Clone for Package {
-    ghost is_clone = { λ a b. b ≡ a };
-
-    fn clone(&self) -> std::result::Result<Package, AllocError> {
-        let name = Clone::clone(&self.name)?;
-        let version = self.version.clone()?;
-        let source = self.source.clone()?;
-        let checksum = self.checksum.clone()?;
-        Ok(Package {
-            name,
-            version,
-            source,
-            checksum,
-        })
-    }
-}
-
 impl ExactClone for Package {
-    ghost exact = { λ x y e. e };
+    ghost use Rattle.std.proofs.Common.{rules};
+
+    ghost exact = { λ x y e. Prim.search rules };
 }
 
 impl PartialEq for Package {

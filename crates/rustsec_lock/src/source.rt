@@ -111,7 +111,7 @@ fn location(kind: SourceKind, address: &str) -> &str
 
 /// Where a package comes from: a kind and an address, as in `registry+https://github.com/rust-lang/crates.io-index`
 /// (a source ID of Cargo). It is compared by its text.
-#[derive(Debug, Drop)]
+#[derive(Clone, Debug, Drop)]
 pub struct SourceId {
     pub(crate) kind: SourceKind,
     pub(crate) address: Text,
@@ -230,20 +230,10 @@ impl FromText for SourceId {
     }
 }
 
-impl Clone for SourceId {
-    ghost is_clone = { λ a b. b ≡ a };
-
-    fn clone(&self) -> std::result::Result<SourceId, AllocError> {
-        let address = self.address.clone()?;
-        Ok(SourceId {
-            kind: self.kind,
-            address,
-        })
-    }
-}
-
 impl ExactClone for SourceId {
-    ghost exact = { λ x y e. e };
+    ghost use Rattle.std.proofs.Common.{rules};
+
+    ghost exact = { λ x y e. Prim.search rules };
 }
 
 impl fmt::Display for SourceId {

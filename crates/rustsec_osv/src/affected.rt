@@ -9,7 +9,7 @@ use rustsec_error::Result;
 use rustsec_lock::Cvss;
 use rustsec_lock::platforms::{Arch, OS};
 use rustsec_texts::{Category, FunctionPath, Informational};
-use rustsec_values::{ExactClone, Items, Text};
+use rustsec_values::{ExactClone, Items, Text, exact_copy};
 use std::alloc::{AllocError, Global};
 
 /// A package (OSV schema, `affected[].package`).
@@ -182,13 +182,6 @@ impl ExactClone for OsvDatabaseSpecific {
     ghost exact = { λ x y e. Prim.search rules };
 }
 
-/// Returns an equal value.
-fn copy_of<T: ExactClone>(value: &T) -> std::result::Result<T, AllocError>
-    ensures { IfOk result (λ x. x ≡ value.now) }
-{
-    value.clone()
-}
-
 /// A package and its affected versions (OSV schema, `affected[]`).
 #[derive(Clone, Debug)]
 pub struct OsvAffected {
@@ -227,7 +220,7 @@ impl OsvAffected {
         ensures ok { IfOk result (λ x. x ≡ self.now) }
         ensures err { IfErr result IsMemory }
     {
-        Ok(copy_of(self)?)
+        Ok(exact_copy(self)?)
     }
 }
 

@@ -5,7 +5,7 @@ ghost use Rattle.rustsec_error.specs.Failure.{IsMemory};
 
 use crate::timeline::OsvTimelineEvent;
 use rustsec_error::Result;
-use rustsec_values::{ExactClone, Text};
+use rustsec_values::{ExactClone, Text, exact_copy};
 use std::alloc::{AllocError, Global};
 use std::marker::Model;
 
@@ -52,7 +52,7 @@ impl Clone for OsvJsonRange {
     ghost is_clone = { λ a b. b ≡ a };
 
     fn clone(&self) -> std::result::Result<OsvJsonRange, AllocError> {
-        let kind = Clone::clone(&self.kind)?;
+        let kind = exact_copy(&self.kind)?;
         let events = self.events.clone()?;
         Ok(OsvJsonRange { kind, events })
     }

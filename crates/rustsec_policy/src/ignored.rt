@@ -13,7 +13,7 @@ use crate::nearest::{asking, with_nearest};
 use rustsec_error::{Error, ErrorKind, Result, refused_text};
 use rustsec_texts::{Date, Id};
 use rustsec_toml::{Section, TablePlace};
-use rustsec_values::{Items, Text};
+use rustsec_values::{Items, Text, exact_copy};
 use std::alloc::Global;
 use toml::value::Array;
 use toml::{Table, Value};
@@ -198,7 +198,7 @@ fn add_id(alloc: Global, ids: &mut Items<Id>, today: Option<&Date>, entry: &Igno
     ensures err { IfErr result (IsRefusal ErrorKind.BadParam (id_on (option_map (λ d. d.now) today.entry) entry.now ≡ None)) }
 {
     if counts_on(alloc, today, entry)? {
-        let id = Clone::clone(&entry.id)?;
+        let id = exact_copy(&entry.id)?;
         ids.push(id)?;
     }
     Ok(())

@@ -33,7 +33,7 @@ impl ExactClone for LockfileInfo {
 }
 
 /// The vulnerabilities of a report.
-#[derive(Debug, Drop)]
+#[derive(Clone, Debug, Drop)]
 pub struct VulnerabilityInfo {
     /// Whether there are any.
     pub found: bool,
@@ -83,19 +83,8 @@ impl VulnerabilityInfo {
     }
 }
 
-impl Clone for VulnerabilityInfo {
-    ghost is_clone = { λ a b. b ≡ a };
-
-    fn clone(&self) -> std::result::Result<VulnerabilityInfo, AllocError> {
-        let list = Clone::clone(&self.list)?;
-        Ok(VulnerabilityInfo {
-            found: self.found,
-            count: self.count,
-            list,
-        })
-    }
-}
-
 impl ExactClone for VulnerabilityInfo {
-    ghost exact = { λ x y e. e };
+    ghost use Rattle.std.proofs.Common.{rules};
+
+    ghost exact = { λ x y e. Prim.search rules };
 }

@@ -11,7 +11,7 @@ use rustsec_values::ExactClone;
 use std::alloc::{AllocError, Global};
 
 /// The report of a lockfile.
-#[derive(Debug, Drop)]
+#[derive(Clone, Debug, Drop)]
 pub struct Report {
     /// The lockfile.
     pub lockfile: LockfileInfo,
@@ -38,22 +38,8 @@ impl Report {
     }
 }
 
-impl Clone for Report {
-    ghost is_clone = { λ a b. b ≡ a };
-
-    fn clone(&self) -> std::result::Result<Report, AllocError> {
-        let settings = Clone::clone(&self.settings)?;
-        let vulnerabilities = Clone::clone(&self.vulnerabilities)?;
-        let warnings = Clone::clone(&self.warnings)?;
-        Ok(Report {
-            lockfile: self.lockfile,
-            settings,
-            vulnerabilities,
-            warnings,
-        })
-    }
-}
-
 impl ExactClone for Report {
-    ghost exact = { λ x y e. e };
+    ghost use Rattle.std.proofs.Common.{rules};
+
+    ghost exact = { λ x y e. Prim.search rules };
 }

@@ -13,7 +13,7 @@ use rustsec_values::{ExactClone, Items};
 use std::alloc::{AllocError, Global};
 
 /// The settings of a report.
-#[derive(Debug)]
+#[derive(Clone, Debug)]
 pub struct Settings {
     /// The architectures; an advisory must affect one of them. An empty list means any.
     pub target_arch: Items<Arch>,
@@ -96,24 +96,8 @@ impl Settings {
     }
 }
 
-impl Clone for Settings {
-    ghost is_clone = { λ a b. b ≡ a };
-
-    fn clone(&self) -> std::result::Result<Settings, AllocError> {
-        let target_arch = Clone::clone(&self.target_arch)?;
-        let target_os = Clone::clone(&self.target_os)?;
-        let ignore = Clone::clone(&self.ignore)?;
-        let informational_warnings = Clone::clone(&self.informational_warnings)?;
-        Ok(Settings {
-            target_arch,
-            target_os,
-            severity: self.severity,
-            ignore,
-            informational_warnings,
-        })
-    }
-}
-
 impl ExactClone for Settings {
-    ghost exact = { λ x y e. e };
+    ghost use Rattle.std.proofs.Common.{rules};
+
+    ghost exact = { λ x y e. Prim.search rules };
 }

@@ -7,7 +7,7 @@ use rustsec_advisory::{Affected, Metadata};
 use rustsec_error::Result;
 use rustsec_lock::package::Package;
 use rustsec_texts::WarningKind;
-use rustsec_values::ExactClone;
+use rustsec_values::{ExactClone, exact_copy};
 use rustsec_versions::Versions;
 use std::alloc::{AllocError, Global};
 
@@ -46,7 +46,7 @@ impl Warning {
     ///
     /// `OutOfMemory` alone.
     pub fn new(
-        _alloc: Global,
+        alloc: Global,
         kind: WarningKind,
         package: &Package,
         advisory: Option<Metadata>,
@@ -62,7 +62,7 @@ impl Warning {
         }) }
         ensures err { IfErr result IsMemory }
     {
-        let package = Clone::clone(package)?;
+        let package = package.clone(alloc)?;
         Ok(Warning {
             kind,
             package,
@@ -125,7 +125,7 @@ impl Clone for Warning {
     ghost is_clone = { λ a b. b ≡ a };
 
     fn clone(&self) -> std::result::Result<Warning, AllocError> {
-        let package = Clone::clone(&self.package)?;
+        let package = exact_copy(&self.package)?;
         let advisory = copy_of(&self.advisory)?;
         let affected = copy_of(&self.affected)?;
         let versions = copy_of(&self.versions)?;

@@ -39,9 +39,12 @@ fn as_warning(alloc: Global, kind: WarningKind, pair: &Pair<'_>) -> Result<Warni
     ensures ok { IfOk result (λ w. w ≡ as_warning kind (as_vulnerability pair.now)) }
     ensures err { IfErr result IsMemory }
 {
-    let advisory = Clone::clone(&pair.advisory.metadata)?;
-    let affected = Clone::clone(&pair.advisory.affected)?;
-    let versions = Clone::clone(&pair.advisory.versions)?;
+    let advisory = pair.advisory.metadata.clone(alloc)?;
+    let versions = pair.advisory.versions.clone(alloc)?;
+    let affected = match &pair.advisory.affected {
+        Some(affected) => Some(affected.clone(alloc)?),
+        None => None,
+    };
     Warning::new(
         alloc,
         kind,

@@ -21,7 +21,7 @@ use std::hash::{Hash, Hasher};
 use std::marker::Model;
 
 /// A date `YYYY-MM-DD` (RFC 3339, `full-date`) of the years 2000 to 2100 that exists in the calendar.
-#[derive(Debug, Drop)]
+#[derive(Clone, Debug, Drop)]
 pub struct Date {
     text: Text,
     year: u32,
@@ -157,22 +157,10 @@ impl FromText for Date {
     }
 }
 
-impl Clone for Date {
-    ghost is_clone = { λ a b. b ≡ a };
-
-    fn clone(&self) -> std::result::Result<Date, AllocError> {
-        let text = self.text.clone()?;
-        Ok(Date {
-            text,
-            year: self.year,
-            month: self.month,
-            day: self.day,
-        })
-    }
-}
-
 impl ExactClone for Date {
-    ghost exact = { λ x y e. e };
+    ghost use Rattle.std.proofs.Common.{rules};
+
+    ghost exact = { λ x y e. Prim.search rules };
 }
 
 impl PartialEq for Date {

@@ -19,7 +19,7 @@ use std::marker::Model;
 use std::{fmt, slice};
 
 /// The path of a function or a type: the crate's name and one or more further identifiers, joined by `::`.
-#[derive(Debug, Drop)]
+#[derive(Clone, Debug, Drop)]
 pub struct FunctionPath {
     segments: Items<Identifier>,
 }
@@ -139,17 +139,10 @@ impl FromText for FunctionPath {
     }
 }
 
-impl Clone for FunctionPath {
-    ghost is_clone = { λ a b. b ≡ a };
-
-    fn clone(&self) -> std::result::Result<FunctionPath, AllocError> {
-        let segments = self.segments.clone()?;
-        Ok(FunctionPath { segments })
-    }
-}
-
 impl ExactClone for FunctionPath {
-    ghost exact = { λ x y e. e };
+    ghost use Rattle.std.proofs.Common.{rules};
+
+    ghost exact = { λ x y e. Prim.search rules };
 }
 
 impl PartialEq for FunctionPath {

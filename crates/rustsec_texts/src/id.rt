@@ -21,7 +21,7 @@ use std::marker::Model;
 
 /// The ID of an advisory: `RUSTSEC-YEAR-NUMBER`, `CVE-YEAR-NUMBER`, `TALOS-YEAR-NUMBER`, or any other text, which is
 /// kept unchanged. Two IDs are equal exactly if their texts are.
-#[derive(Debug, Drop)]
+#[derive(Clone, Debug, Drop)]
 pub struct Id {
     kind: IdKind,
     year: Option<u32>,
@@ -256,21 +256,10 @@ impl FromText for Id {
     }
 }
 
-impl Clone for Id {
-    ghost is_clone = { λ a b. b ≡ a };
-
-    fn clone(&self) -> std::result::Result<Id, AllocError> {
-        let text = self.text.clone()?;
-        Ok(Id {
-            kind: self.kind,
-            year: self.year,
-            text,
-        })
-    }
-}
-
 impl ExactClone for Id {
-    ghost exact = { λ x y e. e };
+    ghost use Rattle.std.proofs.Common.{rules};
+
+    ghost exact = { λ x y e. Prim.search rules };
 }
 
 impl PartialEq for Id {

@@ -14,7 +14,7 @@ use std::marker::Model;
 
 /// An identifier of a function path: a letter, `_` or `<`, and then letters, digits, `_`, `<`, `>` or `,`,
 /// all of ASCII.
-#[derive(PartialEq, Eq, PartialOrd, Ord, Hash, Debug, Drop)]
+#[derive(Clone, PartialEq, Eq, PartialOrd, Ord, Hash, Debug, Drop)]
 pub struct Identifier {
     text: Text,
 }
@@ -120,17 +120,10 @@ impl FromText for Identifier {
     }
 }
 
-impl Clone for Identifier {
-    ghost is_clone = { λ a b. b ≡ a };
-
-    fn clone(&self) -> std::result::Result<Identifier, AllocError> {
-        let text = self.text.clone()?;
-        Ok(Identifier { text })
-    }
-}
-
 impl ExactClone for Identifier {
-    ghost exact = { λ x y e. e };
+    ghost use Rattle.std.proofs.Common.{rules};
+
+    ghost exact = { λ x y e. Prim.search rules };
 }
 
 impl ExactEq for Identifier {

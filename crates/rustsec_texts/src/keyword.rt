@@ -11,7 +11,7 @@ use std::fmt;
 use std::marker::Model;
 
 /// A keyword of an advisory, which may be any text. Keywords are ordered by their bytes.
-#[derive(PartialEq, Eq, PartialOrd, Ord, Debug, Drop)]
+#[derive(Clone, PartialEq, Eq, PartialOrd, Ord, Debug, Drop)]
 pub struct Keyword {
     text: Text,
 }
@@ -71,17 +71,10 @@ impl FromText for Keyword {
     }
 }
 
-impl Clone for Keyword {
-    ghost is_clone = { λ a b. b ≡ a };
-
-    fn clone(&self) -> std::result::Result<Keyword, AllocError> {
-        let text = Clone::clone(&self.text)?;
-        Ok(Keyword { text })
-    }
-}
-
 impl ExactClone for Keyword {
-    ghost exact = { λ x y e. e };
+    ghost use Rattle.std.proofs.Common.{rules};
+
+    ghost exact = { λ x y e. Prim.search rules };
 }
 
 impl ExactEq for Keyword {

@@ -13,7 +13,7 @@ mod text;
 pub use crate::beginning::beginning_of;
 pub use crate::closed_table::{Named, value_named};
 pub use crate::items::Items;
-pub use crate::laws::{ExactClone, ExactEq, StatedOrder};
+pub use crate::laws::{ExactClone, ExactEq, StatedOrder, exact_copy};
 pub use crate::sorted_map::SortedMap;
 pub use crate::test::Test;
 pub use crate::text::Text;

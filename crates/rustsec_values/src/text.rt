@@ -17,7 +17,7 @@ use std::hash::{Hash, Hasher};
 use std::marker::Model;
 
 /// A text, which every contract sees as the list of its bytes. It is compared and hashed by them.
-#[derive(Drop)]
+#[derive(Clone, Drop)]
 pub struct Text {
     string: String,
 }
@@ -115,17 +115,10 @@ impl From<Text> for String {
     }
 }
 
-impl Clone for Text {
-    ghost is_clone = { λ a b. b ≡ a };
-
-    fn clone(&self) -> Result<Text, AllocError> {
-        let string = self.string.clone()?;
-        Ok(Text { string })
-    }
-}
-
 impl ExactClone for Text {
-    ghost exact = { λ x y e. e };
+    ghost use Rattle.std.proofs.Common.{rules};
+
+    ghost exact = { λ x y e. Prim.search rules };
 }
 
 impl PartialEq for Text {

@@ -17,7 +17,7 @@ use std::alloc::{AllocError, Global};
 use std::marker::Model;
 
 /// An interval of affected versions; it may be empty.
-#[derive(Debug, Drop)]
+#[derive(Clone, Debug, Drop)]
 pub(crate) struct Gap {
     pub(crate) start: Bound,
     pub(crate) end: Bound,
@@ -32,18 +32,10 @@ impl Model for Gap {
     ghost view = { λ g. interval_between g.start g.end };
 }
 
-impl Clone for Gap {
-    ghost is_clone = { λ a b. b ≡ a };
-
-    fn clone(&self) -> std::result::Result<Gap, AllocError> {
-        let start = Clone::clone(&self.start)?;
-        let end = Clone::clone(&self.end)?;
-        Ok(Gap { start, end })
-    }
-}
-
 impl ExactClone for Gap {
-    ghost exact = { λ x y e. e };
+    ghost use Rattle.std.proofs.Common.{rules};
+
+    ghost exact = { λ x y e. Prim.search rules };
 }
 
 impl Gap {
