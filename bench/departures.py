@@ -110,8 +110,10 @@ def quoting_beside_a_source(command, data, ours, theirs):
 
 
 def source_that_is_no_address(command, data, ours, theirs):
-    """The Rust crate reads what stands behind a source's kind as an address; ours takes any text."""
-    return b"source = " in data and theirs == (b"refused: parse error\n", 2) and ours[1] < 2
+    """The Rust crate reads what stands behind a source's kind as an address; ours takes any text, and may refuse the
+    file for its place after that."""
+    misplaced = ours == (b"refused: git operation failed\n", 2)
+    return b"source = " in data and theirs == (b"refused: parse error\n", 2) and (ours[1] < 2 or misplaced)
 
 
 def message_cut_inside_a_character(command, data, ours, theirs):
@@ -207,6 +209,11 @@ def key_that_stands_twice(command, data, ours, theirs):
     return False
 
 
+def key_that_stands_twice_in_some_file(command, data, ours, theirs):
+    """The key above, in some file of a database."""
+    return any(key_that_stands_twice(command, text, ours, theirs) for text in files_of(data).values())
+
+
 OF_LINT = [
     number_of_an_advisory, starts_of_an_advisory, fault_of_a_source, source_that_is_no_address,
     message_cut_inside_a_character, empty_name, edition_of_toml, nesting, merged_patched_of_an_advisory,
@@ -219,7 +226,7 @@ OF_OSV = [
 OF_DATABASES = [
     number_of_an_advisory, starts_in_some_file, source_that_is_no_address, message_cut_inside_a_character, empty_name,
     checksum_of_another_form, edition_of_toml, edition_before_a_fault, other_keys_of_a_lockfile, message_cut_in_some_file,
-    merged_patched_in_some_file, first_of_faults, nesting,
+    merged_patched_in_some_file, first_of_faults, nesting, key_that_stands_twice_in_some_file,
 ]
 
 
