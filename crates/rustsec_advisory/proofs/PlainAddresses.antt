@@ -1,4 +1,4 @@
--- The URL Standard's parser reads a plain address as it is.
+-- The parser of the crate `url` reads a plain address as it is.
 use Rattle.std.proofs.Common.{◌≡◌, ◌∙◌, ◌==◌, ◌&&◌, ◌||◌, ◌<◌, ◌++◌, ℕ, Bool, true, false, cond, not, All, List, [], ◌∷◌, None, Some, ap, append-nil, arith, codes, drop, inl, length, length-append, lit<, refl, slice_index, sym}
 use Rattle.std.specs.Char.{is_ascii_digit, is_ascii_lowercase, is_ascii_uppercase, is_digit, to_ascii_lowercase}
 use Rattle.std.specs.List.{list_all, onto_first}

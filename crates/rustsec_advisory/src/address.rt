@@ -17,8 +17,7 @@ use std::fmt;
 use std::marker::Model;
 use url::{ParseError, ParseResult, Url};
 
-/// An address that was parsed by the URL Standard, kept as the text that it prints. Parsing that text gives the same
-/// address.
+/// An address (URL Standard), kept as the text that it prints. Parsing that text gives the same address.
 #[derive(Clone, Debug, Drop)]
 pub struct Address {
     text: Text,
@@ -35,8 +34,7 @@ impl Model for Address {
     ghost invariant = { λ a. IsAddress a.text };
 }
 
-/// Returns the parsed address, or none if the parser refuses the text. Only an address beyond the size limit is an
-/// error.
+/// Returns the parsed address, or none if the parser refuses the text. Only a lack of room is an error.
 fn unless_no_room(parsed: ParseResult<Url>) -> std::result::Result<Option<Url>, AllocError>
     ensures { result ≡ unless_no_room parsed }
 {
@@ -81,12 +79,12 @@ fn parsed(alloc: Global, text: &str) -> Result<Address>
 }
 
 impl Address {
-    /// Parses an address (URL Standard). A plain one is read as it is; any other goes through the crate `url`.
+    /// Parses an address (URL Standard). A plain one is kept as it is written; the crate `url` parses any other.
     ///
     /// # Errors
     ///
-    /// `Parse` if the URL Standard's parser refuses the text, with its reason as the cause; else `OutOfMemory`, also for
-    /// an address over 4 GB that is not plain, the limit of the type `Url`.
+    /// `Parse` if the URL Standard's parser refuses the text; the cause is its reason. Else `OutOfMemory`. An address of 4 GB
+    /// or more that is not plain is `OutOfMemory` too, since a `Url` cannot hold it.
     pub fn from_str(alloc: Global, text: &str) -> Result<Address>
         ensures ok { IfOk result (λ a. address_of text.now ≡ Some a) }
         ensures err { IfErr result (IsRefusal ErrorKind.Parse (address_of text.now ≡ None)) }
@@ -98,11 +96,11 @@ impl Address {
         Ok(Address { text })
     }
 
-    /// Returns the address as the type of `url`.
+    /// Returns the address as a `Url`.
     ///
     /// # Errors
     ///
-    /// `OutOfMemory` alone, also for an address over 4 GB, the limit of that type.
+    /// `OutOfMemory` alone. An address of 4 GB or more is `OutOfMemory` too, since a `Url` cannot hold it.
     pub fn to_url(&self, alloc: Global) -> Result<Url>
         ensures text { IfOk result (λ url. serialize url ≡ self.now) }
         ensures parsed { IfOk result (λ url. parse_url None self.now ≡ Ok url) }

@@ -8,7 +8,7 @@ use rustsec_lock::platforms::{Arch, OS};
 use rustsec_texts::FunctionPath;
 use rustsec_values::{ExactClone, ExactEq, Items, SortedMap};
 use rustsec_versions::Requirements;
-use std::alloc::{AllocError, Global};
+use std::alloc::Global;
 
 /// The affected platforms and functions.
 #[derive(Clone, Debug, PartialEq, Eq)]

@@ -183,6 +183,7 @@ fn as_parse(alloc: Global, section: Section<'_>, error: Error) -> Error
     if error.kind() == ErrorKind::OutOfMemory {
         return Error::from(AllocError);
     }
+    // Both lists were read before, so only a lack of memory is an error here.
     let Ok(list) = list_at_fault(alloc, section) else {
         return Error::from(AllocError);
     };

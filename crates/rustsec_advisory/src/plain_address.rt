@@ -1,4 +1,4 @@
-//! Plain addresses, which the URL Standard's parser reads as they are.
+//! Plain addresses, which the parser of the crate `url` reads and prints as they are.
 
 ghost use Rattle.std.specs.Prelude.{◌≡◌, ◌++◌, ◌∷◌, IfSome, IsTrue, codes, true};
 ghost use Rattle.std.specs.List.{list_all};
@@ -26,7 +26,7 @@ fn is_segment_byte(b: u8) -> bool
     is_domain_byte(b) || b.is_ascii_uppercase() || b == b'_'
 }
 
-/// Returns whether these are labels of a plain domain, with full stops between them.
+/// Returns whether a text has only bytes of labels, with full stops between them.
 fn are_labels(labels: &str) -> bool
     ensures { result ≡ list_all is_domain_byte labels.now }
 {
@@ -40,7 +40,7 @@ fn are_label_bytes(bytes: &[u8]) -> bool
     bytes.iter().all(|b| is_label_byte(*b))
 }
 
-/// Returns whether a text is a last label, which begins with a small letter.
+/// Returns whether a text is a last label: bytes of a label, and the first is a small letter.
 fn is_last_label(label: &str) -> bool
     ensures { result ≡ is_last_label label.now }
 {
@@ -57,7 +57,7 @@ fn are_segment_bytes(bytes: &[u8]) -> bool
     bytes.iter().all(|b| is_segment_byte(*b))
 }
 
-/// Returns whether a segment of a path is plain: it does not begin with a full stop.
+/// Returns whether a segment of a path is plain: it has such bytes alone, and does not begin with a full stop.
 fn is_plain_segment(segment: &str) -> bool
     ensures { result ≡ is_plain_segment segment.now }
 {
@@ -67,7 +67,7 @@ fn is_plain_segment(segment: &str) -> bool
     }
 }
 
-/// Returns whether each segment of a path is plain.
+/// Returns whether each segment of a path is plain. The path is without its first slash.
 fn is_plain_path(path: &str) -> bool
     ensures { IsTrue result → list_all is_plain_segment (segments path.now) ≡ true }
 {
@@ -93,14 +93,15 @@ fn split_labels(domain: &str) -> Option<(&str, &str)>
     domain.rsplit_once('.')
 }
 
-/// Returns the text after `https://`.
+/// Returns the text after `https://`, if a text begins so.
 fn after_scheme(text: &str) -> Option<&str>
     ensures { IfSome result (λ rest. text.now ≡ codes "https://" ++ rest.now) }
 {
     text.strip_prefix("https://")
 }
 
-/// Returns the domain and the path of an address whose scheme is `https`.
+/// Returns the labels before the last one, the last label, and the path without its first slash, of a text that begins with
+/// `https://`; none if there is no slash or no full stop.
 fn parts_of(text: &str) -> Option<(&str, &str, &str)>
     ensures { IfSome result (λ parts. text.now ≡ codes "https://" ++ (parts.0.now ++ 46 ∷ parts.1.now) ++ 47 ∷ parts.2.now) }
 {
@@ -109,7 +110,7 @@ fn parts_of(text: &str) -> Option<(&str, &str, &str)>
     Some((labels, last, path))
 }
 
-/// Returns whether a text is a plain address, which the URL Standard's parser reads as it is.
+/// Returns whether a text is a plain address. If so, it is an address that prints so.
 pub(crate) fn is_plain(text: &str) -> bool
     ensures { IsTrue result → IsAddress text.now }
 {

@@ -6,7 +6,7 @@ ghost use Rattle.rustsec_lock.specs.Names.{name_cmp, name_of};
 
 use rustsec_error::{ErrorKind, FromText, Result, refused_text};
 use rustsec_values::{ExactClone, ExactEq, StatedOrder, Text};
-use std::alloc::{AllocError, Global};
+use std::alloc::Global;
 use std::convert::AsStr;
 use std::fmt;
 use std::marker::Model;

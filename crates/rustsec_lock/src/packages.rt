@@ -10,7 +10,7 @@ use crate::source::SourceId;
 use rustsec_error::Result;
 use rustsec_values::{ExactClone, ExactEq, Text};
 use semver::Version;
-use std::alloc::{AllocError, Global};
+use std::alloc::Global;
 use std::cmp::Ordering;
 use std::marker::Model;
 

@@ -7,7 +7,7 @@ ghost use Rattle.rustsec_lock.specs.Source.{default_source, is_default, kind_wor
 
 use rustsec_error::{ErrorKind, FromText, Result, refused_text};
 use rustsec_values::{ExactClone, ExactEq, Named, Text, value_named};
-use std::alloc::{AllocError, Global};
+use std::alloc::Global;
 use std::fmt;
 use std::marker::Model;
 

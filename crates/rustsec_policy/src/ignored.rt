@@ -10,11 +10,12 @@ ghost use Rattle.rustsec_policy.specs.Policies.{counts_until, id_on, ids_on, ign
 
 use crate::keys::{IgnoredKeys, expect_keys};
 use crate::nearest::{asking, with_nearest};
+use crate::refused::{array_in, is_refused};
 use rustsec_error::{Error, ErrorKind, Result, refused_text};
 use rustsec_texts::{Date, Id};
 use rustsec_toml::{Section, TablePlace};
 use rustsec_values::{Items, Text, exact_copy};
-use std::alloc::Global;
+use std::alloc::{AllocError, Global};
 use toml::value::Array;
 use toml::{Table, Value};
 
@@ -158,11 +159,19 @@ pub(crate) fn all_ignored(alloc: Global, array: &Array) -> Result<Items<Ignored>
 }
 
 /// Returns the index of the first refused value of an array of entries.
-pub(crate) fn first_refused(alloc: Global, value: Option<&Value>) -> Option<usize> {
-    let entries = value?.as_array()?;
-    entries
-        .iter()
-        .position(|entry| ignored_of(alloc, entry).is_err())
+pub(crate) fn first_refused(
+    alloc: Global,
+    value: Option<&Value>,
+) -> std::result::Result<Option<usize>, AllocError> {
+    let Some(entries) = array_in(value) else {
+        return Ok(None);
+    };
+    for (index, entry) in entries.iter().enumerate() {
+        if is_refused(ignored_of(alloc, entry))? {
+            return Ok(Some(index));
+        }
+    }
+    Ok(None)
 }
 
 /// Returns the error for an entry with a last day if no day is given.

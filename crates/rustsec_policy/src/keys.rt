@@ -90,7 +90,7 @@ pub(crate) fn expect_keys<'a, K: Keys>(alloc: Global, section: Section<'a>) -> R
                 error: unknown(alloc, section.name, key.as_str(), K::all()),
                 table: section.name,
                 key: key.as_str(),
-                entry: None,
+                entry: Ok(None),
             });
         }
     }

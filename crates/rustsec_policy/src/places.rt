@@ -38,7 +38,7 @@ fn refused_part<'a>(
     let Some(key) = key_of(alloc, text, refused.table, refused.key)? else {
         return Ok(None);
     };
-    match refused.entry {
+    match refused.entry? {
         Some(index) => Ok(Some(element_at(alloc, key, index)?.unwrap_or(key))),
         None => Ok(Some(key)),
     }

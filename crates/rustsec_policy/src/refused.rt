@@ -2,10 +2,11 @@
 
 ghost use Rattle.std.specs.Prelude.{◌≡◌, Err, IfErr, IfOk, Ok};
 
-use rustsec_error::{Error, FromText, Result};
+use rustsec_error::{Error, ErrorKind, FromText, Result};
 use rustsec_toml::Section;
-use std::alloc::Global;
+use std::alloc::{AllocError, Global};
 use toml::Value;
+use toml::value::Array;
 
 /// A refusal, and the key that it is about.
 #[derive(Drop)]
@@ -14,8 +15,8 @@ pub(crate) struct Refused<'a> {
     /// The name of the key's table in messages.
     pub(crate) table: &'a str,
     pub(crate) key: &'a str,
-    /// The index of the element that is refused, if the value is a list.
-    pub(crate) entry: Option<usize>,
+    /// The index of the element that is refused, if the value is a list; an error if there was no memory to look for it.
+    pub(crate) entry: std::result::Result<Option<usize>, AllocError>,
 }
 
 /// What was read of a policy file, or why it was refused.
@@ -36,25 +37,53 @@ pub(crate) fn at_key<'a, T: Drop>(
             error,
             table: section.name,
             key,
-            entry: None,
+            entry: Ok(None),
         }),
     }
 }
 
-/// Returns whether a value is a text of a type.
-fn is_text<T: FromText>(alloc: Global, value: &Value) -> bool {
+/// Returns whether what was read is a refusal.
+///
+/// # Errors
+///
+/// `AllocError` if memory ran out while it was read.
+pub(crate) fn is_refused<T: Drop>(read: Result<T>) -> std::result::Result<bool, AllocError> {
+    let Err(error) = read else {
+        return Ok(false);
+    };
+    if error.kind() == ErrorKind::OutOfMemory {
+        return Err(AllocError);
+    }
+    Ok(true)
+}
+
+/// Returns the array that a value is, if any.
+pub(crate) fn array_in(value: Option<&Value>) -> Option<&Array> {
+    value?.as_array()
+}
+
+/// Returns whether a value is not a text of a type.
+fn is_other<T: FromText>(alloc: Global, value: &Value) -> std::result::Result<bool, AllocError> {
     match value.as_str() {
-        Some(text) => T::from_text(alloc, text).is_ok(),
-        None => false,
+        Some(text) => is_refused(T::from_text(alloc, text)),
+        None => Ok(true),
     }
 }
 
 /// Returns the index of the first element of an array that is not a text of a type.
-fn first_other<T: FromText>(alloc: Global, value: Option<&Value>) -> Option<usize> {
-    let elements = value?.as_array()?;
-    elements
-        .iter()
-        .position(|element| !is_text::<T>(alloc, element))
+fn first_other<T: FromText>(
+    alloc: Global,
+    value: Option<&Value>,
+) -> std::result::Result<Option<usize>, AllocError> {
+    let Some(elements) = array_in(value) else {
+        return Ok(None);
+    };
+    for (index, element) in elements.iter().enumerate() {
+        if is_other::<T>(alloc, element)? {
+            return Ok(Some(index));
+        }
+    }
+    Ok(None)
 }
 
 /// Returns what was read at a key of a table whose value may be a list of texts of a type, or the refusal with the key

@@ -8,7 +8,7 @@ use rustsec_error::Result;
 use rustsec_lock::Lockfile;
 use rustsec_query::Vulnerability;
 use rustsec_values::{ExactClone, Items};
-use std::alloc::{AllocError, Global};
+use std::alloc::Global;
 
 /// What a report contains about its lockfile.
 #[derive(Clone, Copy, Debug)]

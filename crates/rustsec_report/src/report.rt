@@ -8,7 +8,7 @@ use crate::settings::Settings;
 use crate::warnings::WarningInfo;
 use rustsec_error::Result;
 use rustsec_values::ExactClone;
-use std::alloc::{AllocError, Global};
+use std::alloc::Global;
 
 /// The report of a lockfile.
 #[derive(Clone, Debug, Drop)]

@@ -10,7 +10,7 @@ use rustsec_lock::platforms::{Arch, OS};
 use rustsec_query::Query;
 use rustsec_texts::{Id, Informational};
 use rustsec_values::{ExactClone, Items};
-use std::alloc::{AllocError, Global};
+use std::alloc::Global;
 
 /// The settings of a report.
 #[derive(Clone, Debug)]

@@ -13,7 +13,7 @@ ghost use Rattle.rustsec_texts.specs.Dates.{Day, date_of, day_numbers, day_of, i
 use crate::numbers::{digits, three_parts};
 use rustsec_error::{ErrorKind, FromText, Result, refused_text};
 use rustsec_values::{ExactClone, ExactEq, Text};
-use std::alloc::{AllocError, Global};
+use std::alloc::Global;
 use std::cmp::Ordering;
 use std::convert::AsStr;
 use std::fmt;

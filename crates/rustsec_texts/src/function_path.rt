@@ -12,7 +12,7 @@ ghost use Rattle.rustsec_texts.specs.Paths.{IsPathOf, between_colons, is_identif
 use crate::identifier::Identifier;
 use rustsec_error::{ErrorKind, FromText, Result, refused_text};
 use rustsec_values::{ExactClone, ExactEq, Items};
-use std::alloc::{AllocError, Global};
+use std::alloc::Global;
 use std::cmp::Ordering;
 use std::hash::{Hash, Hasher};
 use std::marker::Model;

@@ -12,7 +12,7 @@ use crate::id_kind::IdKind;
 use crate::numbers::{number, three_parts};
 use rustsec_error::{Error, ErrorKind, FromText, Result, refused_text};
 use rustsec_values::{ExactClone, ExactEq, Text};
-use std::alloc::{AllocError, Global};
+use std::alloc::Global;
 use std::cmp::Ordering;
 use std::convert::AsStr;
 use std::fmt;

@@ -7,7 +7,7 @@ ghost use Rattle.rustsec_texts.specs.Paths.{identifier_of, is_first, is_identifi
 
 use rustsec_error::{ErrorKind, FromText, Result, refused_text};
 use rustsec_values::{ExactClone, ExactEq, StatedOrder, Text};
-use std::alloc::{AllocError, Global};
+use std::alloc::Global;
 use std::convert::AsStr;
 use std::fmt;
 use std::marker::Model;

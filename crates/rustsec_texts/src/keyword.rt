@@ -5,7 +5,7 @@ ghost use Rattle.rustsec_error.specs.Failure.{IsMemory};
 
 use rustsec_error::{FromText, Result};
 use rustsec_values::{ExactClone, ExactEq, StatedOrder, Text};
-use std::alloc::{AllocError, Global};
+use std::alloc::Global;
 use std::convert::AsStr;
 use std::fmt;
 use std::marker::Model;

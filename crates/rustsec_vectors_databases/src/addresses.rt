@@ -1,5 +1,5 @@
-//! Addresses at the border between plain ones, which are read as they are, and those that the URL Standard's parser reads
-//! otherwise or refuses. The expected texts are those of another implementation of the URL Standard (`URL` of Node.js).
+//! Addresses at the border between plain ones, which are kept as they are written, and those that the crate `url` parses or
+//! refuses. The expected texts are those of `URL` of Node.js 20.
 
 use rustsec_advisory::Address;
 use rustsec_error::{Error, ErrorKind};
@@ -43,6 +43,17 @@ const KEPT: &[&str] = &[
     "https://.../a",
     "https://../a",
     "mailto:a@b.c",
+    "https://.a/b",
+    "https://1.2.3.a/b",
+    "https://0x1.b/c",
+    "https://a.b/_",
+    "https://a.b/-",
+    "https://./a",
+    "https://a.-b/c",
+    "https://a.b/c/.d",
+    "https://a{b.c/",
+    "https://a`b.c/",
+    "https://aaaaaaaaaaaaaaaaaaaaaaaaaaaaaaaaaaaaaaaaaaaaaaaaaaaaaaaaaaaaaaaaaaaaaa.b/c",
 ];
 
 /// Addresses that print otherwise: the text, and what it prints.
@@ -81,6 +92,13 @@ const CHANGED: &[(&str, &str)] = &[
     (" https://example.com/a ", "https://example.com/a"),
     ("https://example.com/a\tb", "https://example.com/ab"),
     ("ht\ntps://example.com/a", "https://example.com/a"),
+    ("https://a.b/a/.", "https://a.b/a/"),
+    ("https://a.b/a/..", "https://a.b/"),
+    ("https://a.b//../a", "https://a.b/a"),
+    ("https://a.b/.%2e/b", "https://a.b/b"),
+    ("https://1.2.3.4./", "https://1.2.3.4/"),
+    ("https://@a.b/c", "https://a.b/c"),
+    ("https://a\u{3002}b/c", "https://a.b/c"),
 ];
 
 /// Texts that are not addresses.
@@ -100,6 +118,10 @@ const REFUSED: &[&str] = &[
     "https:",
     "example.com/a",
     "",
+    "https://a.1./b",
+    "https://a.%31/b",
+    "https://a.\u{FF11}/b",
+    "https://u@/a",
 ];
 
 /// Returns whether a text is an address that prints so, and is read again from what it prints.

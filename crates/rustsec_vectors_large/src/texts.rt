@@ -133,6 +133,14 @@ fn refusal<T: FromText>(
     }
 }
 
+/// Returns whether the URL of a long address prints as the address.
+fn has_long_url(alloc: Global) -> Result<bool, Fail> {
+    let text = long(alloc, "https://example.com/", "a")?;
+    let address = Address::from_str(alloc, &text)?;
+    let url = address.to_url(alloc)?;
+    Ok(url.as_str() == address.as_str())
+}
+
 #[test]
 fn long_texts_that_are_read(rt: HostRuntime) -> Result<(), Fail> {
     let alloc = rt.alloc();
@@ -145,6 +153,8 @@ fn long_texts_that_are_read(rt: HostRuntime) -> Result<(), Fail> {
     assert!(rt; is_kept::<SourceId>(alloc, "git+https://example.com/", "a")?);
     assert!(rt; is_kept::<SourceId>(alloc, "registry+https://example.com/", "a")?);
     assert!(rt; is_kept::<Address>(alloc, "https://example.com/", "a")?);
+    assert!(rt; is_kept::<Address>(alloc, "https://example.com/?", "a")?);
+    assert!(rt; has_long_url(alloc)?);
     assert!(rt; is_kept::<Cvss>(alloc, "CVSS:4.0/", "a")?);
     assert!(rt; is_kept::<Category>(alloc, "x", "a")?);
     assert!(rt; is_kept::<Informational>(alloc, "x", "a")?);
