@@ -112,8 +112,12 @@ def quoting_beside_a_source(command, data, ours, theirs):
 def source_that_is_no_address(command, data, ours, theirs):
     """The Rust crate reads what comes after a source's kind as an address; ours takes any text, and may refuse the
     file for its place after that."""
-    misplaced = ours == (b"refused: git operation failed\n", 2)
-    return b"source = " in data and theirs == (b"refused: parse error\n", 2) and (ours[1] < 2 or misplaced)
+    if theirs != (b"refused: parse error\n", 2):
+        return False
+    others = [it for it in re.findall(rb'source = "[a-z]+\+([^"]*)"', data)
+              if not re.fullmatch(rb"[a-z]+://[A-Za-z0-9.-]+(/\S*)?", it)]
+    misplaced = ours == (b"refused: git operation failed\n", 2) and bool(others)
+    return b"source = " in data and (ours[1] < 2 or misplaced)
 
 
 def message_cut_inside_a_character(command, data, ours, theirs):

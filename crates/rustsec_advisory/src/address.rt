@@ -108,7 +108,7 @@ impl Address {
     {
         match Url::parse(alloc, self.as_str()) {
             Ok(url) => Ok(url),
-            // The text is an address, so the parser refuses it only where there is no room.
+            // The text is an address, so the parser refuses it only for lack of room.
             Err(_) => Err(Error::from(AllocError)),
         }
     }

@@ -101,7 +101,7 @@ fn after_scheme(text: &str) -> Option<&str>
 }
 
 /// Returns the labels before the last one, the last label, and the path without its first slash, of a text that begins with
-/// `https://`; none if there is no slash or no full stop.
+/// `https://`; none if a slash or a full stop is missing.
 fn parts_of(text: &str) -> Option<(&str, &str, &str)>
     ensures { IfSome result (λ parts. text.now ≡ codes "https://" ++ (parts.0.now ++ 46 ∷ parts.1.now) ++ 47 ∷ parts.2.now) }
 {
