@@ -7,7 +7,7 @@ use rustsec_database::Database;
 use rustsec_folders::SourceFile;
 use rustsec_lock::Lockfile;
 use rustsec_lock::package::Package;
-use rustsec_policy::Ignored;
+use rustsec_policy::Policy;
 use rustsec_texts::WarningKind;
 use rustsec_values::Text;
 use semver::Version;
@@ -225,6 +225,21 @@ pub(crate) struct Case<'a> {
 }
 
 impl<'a> Case<'a> {
+    /// Returns the case of a check, of yanked packages, if any, and of a note.
+    pub(crate) fn new(
+        alloc: Global,
+        check: Check<'a>,
+        yanked: Option<Vec<Yanked<'a>>>,
+        note: &str,
+    ) -> Result<Case<'a>, Fail> {
+        let notes = vec![in alloc; Text::from_str(alloc, note)?]?;
+        Ok(Case {
+            check,
+            yanked,
+            notes,
+        })
+    }
+
     /// Returns the yanked packages, if any.
     fn yanked(&self) -> Option<&[Yanked<'a>]> {
         match &self.yanked {
@@ -232,21 +247,71 @@ impl<'a> Case<'a> {
             None => None,
         }
     }
+}
 
-    /// Returns what is written of the case.
-    pub(crate) fn written<'c>(
-        &'c self,
-        database: &'c Dated<'c>,
-        lockfile: &'c Lockfile,
-        entries: &'c [Ignored],
-    ) -> Written<'c, 'a> {
-        Written {
+/// The database, the lockfile and the policy of a case.
+pub(crate) struct Sample {
+    database: Database,
+    lockfile: Lockfile,
+    policy: Policy,
+}
+
+/// Hand-written: a derived `Drop` is proved again, field by field, at every exit of every owner.
+impl Drop for Sample {
+    fn drop(self) {
+        let Sample {
+            database: _,
+            lockfile: _,
+            policy: _,
+        } = self;
+    }
+}
+
+impl Sample {
+    /// Returns the sample of a database and the texts of a lockfile and a policy.
+    pub(crate) fn new(
+        alloc: Global,
+        database: Database,
+        lockfile: &str,
+        policy: &str,
+    ) -> Result<Sample, Fail> {
+        let lockfile = Lockfile::from_str(alloc, lockfile)?;
+        let policy = Policy::from_str(alloc, policy)?;
+        Ok(Sample {
             database,
             lockfile,
-            check: &self.check,
-            entries,
-            notes: self.notes.as_slice(),
-            yanked: self.yanked(),
+            policy,
+        })
+    }
+
+    /// Returns the advisories.
+    pub(crate) fn advisories(&self) -> &[Advisory] {
+        self.database.iter().as_slice()
+    }
+
+    /// Returns the packages.
+    pub(crate) fn packages(&self) -> &[Package] {
+        self.lockfile.packages.as_slice()
+    }
+
+    /// Returns the number of the advisories, and their latest date.
+    pub(crate) fn dated(&self) -> Dated<'_> {
+        Dated::new(&self.database)
+    }
+
+    /// Returns what is written of a case.
+    pub(crate) fn written<'c, 'a>(
+        &'c self,
+        dated: &'c Dated<'c>,
+        case: &'c Case<'a>,
+    ) -> Written<'c, 'a> {
+        Written {
+            database: dated,
+            lockfile: &self.lockfile,
+            check: &case.check,
+            entries: self.policy.advisories.ignore.as_slice(),
+            notes: case.notes.as_slice(),
+            yanked: case.yanked(),
         }
     }
 }

@@ -1,14 +1,10 @@
 //! A check of three packages as text and as JSON, written by hand.
 
-use crate::cases::{CRITICAL, Case, LOCKFILE, POLICY, UNMAINTAINED, check, database, yanked_http};
-use rustsec_advisory::Advisory;
-use rustsec_check_output::{Dated, Written, check_line, check_text, refused_line};
-use rustsec_database::Database;
+use crate::cases::{
+    CRITICAL, Case, LOCKFILE, POLICY, Sample, UNMAINTAINED, check, database, yanked_http,
+};
+use rustsec_check_output::{Written, check_line, check_text, refused_line};
 use rustsec_error::ErrorKind;
-use rustsec_lock::Lockfile;
-use rustsec_lock::package::Package;
-use rustsec_policy::{Ignored, Policy};
-use rustsec_values::Text;
 use std::alloc::Global;
 use std::process::Abort;
 use std::test::Fail;
@@ -72,55 +68,28 @@ fn is_written(alloc: Global, written: &Written<'_, '_>) -> Result<bool, Fail> {
 }
 
 /// Returns the check with a note and a yanked package.
-fn whole_case<'a>(
-    alloc: Global,
-    advisories: &'a [Advisory],
-    packages: &'a [Package],
-) -> Result<Option<Case<'a>>, Fail> {
-    let Some(check) = check(alloc, advisories, packages)? else {
+fn whole_case<'a>(alloc: Global, sample: &'a Sample) -> Result<Option<Case<'a>>, Fail> {
+    let packages = sample.packages();
+    let Some(check) = check(alloc, sample.advisories(), packages)? else {
         return Ok(None);
     };
     let Some(http) = packages.get(1) else {
         return Ok(None);
     };
-    let mut all = Vec::new(alloc);
-    all.push(yanked_http(alloc, http)?)?;
-    let mut notes = Vec::new(alloc);
-    notes.push(Text::from_str(alloc, "one\ntwo")?)?;
-    Ok(Some(Case {
-        check,
-        yanked: Some(all),
-        notes,
-    }))
-}
-
-/// Returns whether the check of the database and the lockfile is written as the rows above say.
-fn is_written_of(
-    alloc: Global,
-    database: &Database,
-    lockfile: &Lockfile,
-    entries: &[Ignored],
-) -> Result<bool, Fail> {
-    let packages = lockfile.packages.as_slice();
-    let loaded = database.iter();
-    let Some(case) = whole_case(alloc, loaded.as_slice(), packages)? else {
-        return Ok(false);
-    };
-    let dated = Dated::new(database);
-    is_written(alloc, &case.written(&dated, lockfile, entries))
+    let yanked = vec![in alloc; yanked_http(alloc, http)?]?;
+    let case = Case::new(alloc, check, Some(yanked), "one\ntwo")?;
+    Ok(Some(case))
 }
 
 /// Returns whether the whole is written as the rows above say.
 fn is_whole(alloc: Global) -> Result<bool, Fail> {
     let database = database(alloc, CRITICAL, UNMAINTAINED)?;
-    let lockfile = Lockfile::from_str(alloc, LOCKFILE)?;
-    let policy = Policy::from_str(alloc, POLICY)?;
-    is_written_of(
-        alloc,
-        &database,
-        &lockfile,
-        policy.advisories.ignore.as_slice(),
-    )
+    let sample = Sample::new(alloc, database, LOCKFILE, POLICY)?;
+    let Some(case) = whole_case(alloc, &sample)? else {
+        return Ok(false);
+    };
+    let dated = sample.dated();
+    is_written(alloc, &sample.written(&dated, &case))
 }
 
 /// Returns whether a refusal is written as the row above says.

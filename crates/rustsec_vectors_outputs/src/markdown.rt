@@ -1,18 +1,16 @@
 //! A check of three packages, and one that is too long, as Markdown, written by hand.
 
 use crate::cases::{
-    CRITICAL, Case, LOCKFILE, POLICY, UNMAINTAINED, check_of, database, ignored, vulnerability,
-    warning, yanked,
+    CRITICAL, Case, LOCKFILE, POLICY, Sample, UNMAINTAINED, check_of, database, ignored,
+    vulnerability, warning, yanked,
 };
 use rustsec_advisory::Advisory;
 use rustsec_check::{Check, Finding};
-use rustsec_check_output::{Dated, Written};
+use rustsec_check_output::Written;
 use rustsec_database::Database;
 use rustsec_fixtures::changed;
-use rustsec_lock::Lockfile;
 use rustsec_lock::package::Package;
 use rustsec_markdown::markdown_text;
-use rustsec_policy::{Ignored, Policy};
 use rustsec_values::Text;
 use std::alloc::Global;
 use std::test::Fail;
@@ -118,55 +116,33 @@ fn is_text(alloc: Global, written: &Written<'_, '_>, want: &str) -> Result<bool,
 }
 
 /// Returns the check of both findings with a yanked package and a note.
-fn whole_case<'a>(
-    alloc: Global,
-    advisories: &'a [Advisory],
-    packages: &'a [Package],
-) -> Result<Option<Case<'a>>, Fail> {
-    let Some(check) = check(alloc, advisories, packages)? else {
+fn whole_case<'a>(alloc: Global, sample: &'a Sample) -> Result<Option<Case<'a>>, Fail> {
+    let packages = sample.packages();
+    let Some(check) = check(alloc, sample.advisories(), packages)? else {
         return Ok(None);
     };
     let Some(quillpack) = packages.get(2) else {
         return Ok(None);
     };
-    let mut all = Vec::new(alloc);
-    all.push(yanked(alloc, quillpack, 2, true))?;
-    let mut notes = Vec::new(alloc);
-    notes.push(Text::from_str(alloc, "one\ntwo")?)?;
-    Ok(Some(Case {
-        check,
-        yanked: Some(all),
-        notes,
-    }))
+    let yanked = vec![in alloc; yanked(alloc, quillpack, 2, true)]?;
+    let case = Case::new(alloc, check, Some(yanked), "one\ntwo")?;
+    Ok(Some(case))
 }
 
-/// Returns whether the check of both findings is written as the row above says.
-fn is_written_of(
-    alloc: Global,
-    database: &Database,
-    lockfile: &Lockfile,
-    entries: &[Ignored],
-) -> Result<bool, Fail> {
-    let packages = lockfile.packages.as_slice();
-    let loaded = database.iter();
-    let Some(case) = whole_case(alloc, loaded.as_slice(), packages)? else {
-        return Ok(false);
-    };
-    let dated = Dated::new(database);
-    is_text(alloc, &case.written(&dated, lockfile, entries), TEXT)
+/// Returns the sample of the marked advisory, the lockfile and a policy.
+fn marked_sample(alloc: Global, policy: &str) -> Result<Sample, Fail> {
+    let database = marked_database(alloc)?;
+    Sample::new(alloc, database, LOCKFILE, policy)
 }
 
 /// Returns whether the whole text is written as the row above says.
 fn is_whole(alloc: Global) -> Result<bool, Fail> {
-    let database = marked_database(alloc)?;
-    let lockfile = Lockfile::from_str(alloc, LOCKFILE)?;
-    let policy = Policy::from_str(alloc, POLICY)?;
-    is_written_of(
-        alloc,
-        &database,
-        &lockfile,
-        policy.advisories.ignore.as_slice(),
-    )
+    let sample = marked_sample(alloc, POLICY)?;
+    let Some(case) = whole_case(alloc, &sample)? else {
+        return Ok(false);
+    };
+    let dated = sample.dated();
+    is_text(alloc, &sample.written(&dated, &case), TEXT)
 }
 
 /// Returns whether the text of what is written is that of 277 rows, and is short enough.
@@ -177,41 +153,24 @@ fn is_long_text(alloc: Global, written: &Written<'_, '_>) -> Result<bool, Fail> 
 }
 
 /// Returns the check of 300 findings with a note of 20,000 bytes and a short one.
-fn long_case<'a>(
-    alloc: Global,
-    advisories: &'a [Advisory],
-    packages: &'a [Package],
-) -> Result<Option<Case<'a>>, Fail> {
-    let Some(check) = long_check(alloc, advisories, packages)? else {
+fn long_case<'a>(alloc: Global, sample: &'a Sample) -> Result<Option<Case<'a>>, Fail> {
+    let Some(check) = long_check(alloc, sample.advisories(), sample.packages())? else {
         return Ok(None);
     };
     let long = "x".repeat(alloc, 20_000)?;
-    let mut notes = Vec::new(alloc);
-    notes.push(Text::from(long))?;
-    notes.push(Text::from_str(alloc, "short")?)?;
-    Ok(Some(Case {
-        check,
-        yanked: None,
-        notes,
-    }))
-}
-
-/// Returns whether the check of 300 findings is written as the rows above say.
-fn is_bounded_of(alloc: Global, database: &Database, lockfile: &Lockfile) -> Result<bool, Fail> {
-    let packages = lockfile.packages.as_slice();
-    let loaded = database.iter();
-    let Some(case) = long_case(alloc, loaded.as_slice(), packages)? else {
-        return Ok(false);
-    };
-    let dated = Dated::new(database);
-    is_long_text(alloc, &case.written(&dated, lockfile, &[]))
+    let mut case = Case::new(alloc, check, None, &long)?;
+    case.notes.push(Text::from_str(alloc, "short")?)?;
+    Ok(Some(case))
 }
 
 /// Returns whether a long check is written as the rows above say.
 fn is_bounded(alloc: Global) -> Result<bool, Fail> {
-    let database = marked_database(alloc)?;
-    let lockfile = Lockfile::from_str(alloc, LOCKFILE)?;
-    is_bounded_of(alloc, &database, &lockfile)
+    let sample = marked_sample(alloc, "")?;
+    let Some(case) = long_case(alloc, &sample)? else {
+        return Ok(false);
+    };
+    let dated = sample.dated();
+    is_long_text(alloc, &sample.written(&dated, &case))
 }
 
 #[test]

@@ -1,14 +1,10 @@
 //! The page of a check of three packages, written by hand.
 
-use crate::cases::{Case, LOCKFILE, UNMAINTAINED, check, database, yanked_http};
-use rustsec_advisory::Advisory;
-use rustsec_check_output::{Dated, Written};
-use rustsec_database::Database;
+use crate::cases::{Case, LOCKFILE, Sample, UNMAINTAINED, check, database, yanked_http};
+use rustsec_check_output::Written;
 use rustsec_lock::Lockfile;
 use rustsec_lock::package::Package;
 use rustsec_page::{page_text, push_yanked_list};
-use rustsec_policy::{Ignored, Policy};
-use rustsec_values::Text;
 use std::alloc::Global;
 use std::process::Abort;
 use std::test::Fail;
@@ -146,51 +142,16 @@ fn ends_with_body(alloc: Global, written: &Written<'_, '_>) -> Result<bool, Fail
     })
 }
 
-/// Returns the check with a note.
-fn whole_case<'a>(
-    alloc: Global,
-    advisories: &'a [Advisory],
-    packages: &'a [Package],
-) -> Result<Option<Case<'a>>, Fail> {
-    let Some(check) = check(alloc, advisories, packages)? else {
-        return Ok(None);
-    };
-    let mut notes = Vec::new(alloc);
-    notes.push(Text::from_str(alloc, "one\n<b>two")?)?;
-    Ok(Some(Case {
-        check,
-        yanked: None,
-        notes,
-    }))
-}
-
-/// Returns whether the check of the database and the lockfile is written as the row above says.
-fn is_written_of(
-    alloc: Global,
-    database: &Database,
-    lockfile: &Lockfile,
-    entries: &[Ignored],
-) -> Result<bool, Fail> {
-    let packages = lockfile.packages.as_slice();
-    let loaded = database.iter();
-    let Some(case) = whole_case(alloc, loaded.as_slice(), packages)? else {
-        return Ok(false);
-    };
-    let dated = Dated::new(database);
-    ends_with_body(alloc, &case.written(&dated, lockfile, entries))
-}
-
-/// Returns whether the whole is written as the row above says.
+/// Returns whether the whole is written as the row above says, with a note.
 fn is_whole(alloc: Global) -> Result<bool, Fail> {
     let database = database(alloc, LINKED, UNMAINTAINED)?;
-    let lockfile = Lockfile::from_str(alloc, LOCKFILE)?;
-    let policy = Policy::from_str(alloc, QUOTED_POLICY)?;
-    is_written_of(
-        alloc,
-        &database,
-        &lockfile,
-        policy.advisories.ignore.as_slice(),
-    )
+    let sample = Sample::new(alloc, database, LOCKFILE, QUOTED_POLICY)?;
+    let Some(check) = check(alloc, sample.advisories(), sample.packages())? else {
+        return Ok(false);
+    };
+    let case = Case::new(alloc, check, None, "one\n<b>two")?;
+    let dated = sample.dated();
+    ends_with_body(alloc, &sample.written(&dated, &case))
 }
 
 /// Returns whether the section of the yanked package is written as the row above says.

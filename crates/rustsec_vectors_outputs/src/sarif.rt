@@ -1,11 +1,9 @@
 //! A check of four packages as a log, written by hand from SARIF 2.1.0.
 
-use crate::cases::{Case, check_of, database, vulnerability, warning, yanked};
+use crate::cases::{Case, Sample, check_of, database, vulnerability, warning, yanked};
 use rustsec_advisory::Advisory;
 use rustsec_check::{Check, Yanked};
-use rustsec_check_output::{Dated, Written};
-use rustsec_database::Database;
-use rustsec_lock::Lockfile;
+use rustsec_check_output::Written;
 use rustsec_lock::package::Package;
 use rustsec_places::{Place, package_places};
 use rustsec_sarif::sarif_text;
@@ -143,12 +141,9 @@ fn is_written(alloc: Global, places: &[Place], written: &Written<'_, '_>) -> Res
 }
 
 /// Returns the check with the yanked packages.
-fn whole_case<'a>(
-    alloc: Global,
-    advisories: &'a [Advisory],
-    packages: &'a [Package],
-) -> Result<Option<Case<'a>>, Fail> {
-    let Some(check) = check(alloc, advisories, packages)? else {
+fn whole_case<'a>(alloc: Global, sample: &'a Sample) -> Result<Option<Case<'a>>, Fail> {
+    let packages = sample.packages();
+    let Some(check) = check(alloc, sample.advisories(), packages)? else {
         return Ok(None);
     };
     let yanked = all_yanked(alloc, packages)?;
@@ -159,28 +154,16 @@ fn whole_case<'a>(
     }))
 }
 
-/// Returns whether the check of the database and the lockfile is written as the rows above say.
-fn is_written_of(
-    alloc: Global,
-    database: &Database,
-    lockfile: &Lockfile,
-    places: &[Place],
-) -> Result<bool, Fail> {
-    let packages = lockfile.packages.as_slice();
-    let loaded = database.iter();
-    let Some(case) = whole_case(alloc, loaded.as_slice(), packages)? else {
-        return Ok(false);
-    };
-    let dated = Dated::new(database);
-    is_written(alloc, places, &case.written(&dated, lockfile, &[]))
-}
-
 /// Returns whether the whole is written as the rows above say.
 fn is_whole(alloc: Global) -> Result<bool, Fail> {
     let database = database(alloc, CRITICAL, UNMAINTAINED)?;
-    let lockfile = Lockfile::from_str(alloc, LOCKFILE)?;
+    let sample = Sample::new(alloc, database, LOCKFILE, "")?;
     let places = package_places(alloc, LOCKFILE)?;
-    is_written_of(alloc, &database, &lockfile, places.as_slice())
+    let Some(case) = whole_case(alloc, &sample)? else {
+        return Ok(false);
+    };
+    let dated = sample.dated();
+    is_written(alloc, places.as_slice(), &sample.written(&dated, &case))
 }
 
 /// Asserts that everything is written as the rows above say.
