@@ -1,20 +1,22 @@
 //! Calls over a database, which is read and loaded before the calls are made.
 
 use rustsec_database::{Database, SourceFile};
-use rustsec_error::Result;
+use rustsec_error::{Error, ErrorKind, Result};
 use rustsec_folders::{RealFolders, source_files};
 use rustsec_lock::Lockfile;
 use rustsec_lock::package::Name;
 use rustsec_query::Query;
 use rustsec_report::{Report, Settings};
 use rustsec_texts::{Collection, Informational};
-use rustsec_values::Items;
+use rustsec_values::{Items, exact_copy};
 use std::alloc::{AllocError, Global};
+use std::collections::HashMap;
 
 /// The call that is made.
 #[derive(Clone, Copy)]
 pub(crate) enum Call {
     Load,
+    LookUp,
     Query,
     Vulnerabilities,
     Report,
@@ -24,6 +26,7 @@ pub(crate) enum Call {
 pub(crate) fn call_of(word: &str) -> Option<Call> {
     match word {
         "load" => Some(Call::Load),
+        "look_up" => Some(Call::LookUp),
         "query" => Some(Call::Query),
         "vulnerabilities" => Some(Call::Vulnerabilities),
         "report" => Some(Call::Report),
@@ -44,6 +47,30 @@ fn query(alloc: Global, times: u32, database: &Database, name: &str) -> Result<(
     let query = Query::crate_scope(alloc).package_name(Name::from_str(alloc, name)?);
     for _ in 0..times {
         database.query(alloc, &query)?;
+    }
+    Ok(())
+}
+
+/// Returns a hash map of the names of all packages, each with the place of the last advisory about it.
+fn places_of(
+    alloc: Global,
+    database: &Database,
+) -> std::result::Result<HashMap<Name, usize>, AllocError> {
+    let mut places = HashMap::new(alloc);
+    for (place, advisory) in database.iter().enumerate() {
+        places.insert(exact_copy(&advisory.metadata.package)?, place)?;
+    }
+    Ok(places)
+}
+
+/// Looks a name up many times in a hash map of the names of all packages, to compare `query` with.
+fn look_up(alloc: Global, times: u32, database: &Database, name: &str) -> Result<()> {
+    let places = places_of(alloc, database)?;
+    let name = Name::from_str(alloc, name)?;
+    for _ in 0..times {
+        if places.get(&name).is_none() {
+            return Err(Error::new(alloc, ErrorKind::NotFound, "no such package"));
+        }
     }
     Ok(())
 }
@@ -92,6 +119,7 @@ pub(crate) fn repeat(rt: &HostRuntime, call: Call, times: u32, root: &str, of: &
     let database = Database::load(alloc, files.as_slice())?;
     match call {
         Call::Load => Ok(()),
+        Call::LookUp => look_up(alloc, times, &database, of),
         Call::Query => query(alloc, times, &database, of),
         Call::Vulnerabilities => {
             vulnerabilities(alloc, times, &database, &Lockfile::load(rt, alloc, of)?)

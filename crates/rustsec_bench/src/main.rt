@@ -4,11 +4,13 @@
 //!     rustsec_bench document|lockfile|dependencies|parts|advisory|lint N FILE
 //!     rustsec_bench copy|from_rustsec|to_value|from_value N FILE
 //!     rustsec_bench read FILE
-//!     rustsec_bench load|query|vulnerabilities|report N ROOT NAME|LOCKFILE
+//!     rustsec_bench load|query|look_up|vulnerabilities|report N ROOT NAME|LOCKFILE
 //!
-//! `document` only parses the text as a TOML document, `dependencies` reads a lockfile with the graph of its packages, and `parts` splits an advisory and parses its front matter.
-//! The calls over a database take its root, and the name of a package for `query`, else the path of a lockfile. These
-//! calls write nothing. The status is 0, 2 for other arguments, and 1 if the file cannot be read or a call fails.
+//! `document` only parses the text as a TOML document, `dependencies` reads a lockfile with the graph of its packages,
+//! and `parts` splits an advisory and parses its front matter. The calls over a database take its root, and the name of
+//! a package for `query` and `look_up`, else the path of a lockfile. `look_up` looks the name up in a hash map of the
+//! names of all packages. These calls write nothing. The status is 0, 2 for other arguments, and 1 if the file cannot be
+//! read or a call fails.
 //!
 //! `copy` and `from_rustsec` copy an advisory, and `from_rustsec` exports the copy; `to_value` builds the tree of
 //! its document and prints the tree; `from_value` reads a JSON tree as a document. If one of these fails, the kind of
