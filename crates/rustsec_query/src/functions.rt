@@ -9,6 +9,7 @@ ghost use Rattle.rustsec_versions.specs.Views.{comparators_of};
 ghost use Rattle.rustsec_query.specs.Functions.{functions_of, matching, matches_some};
 
 use crate::vulnerability::Vulnerability;
+use crate::vulnerability_ref::VulnerabilityRef;
 use rustsec_texts::FunctionPath;
 use rustsec_values::SortedMap;
 use rustsec_versions::Requirements;
@@ -52,6 +53,40 @@ fn matching(
     Ok(paths)
 }
 
+impl<'a> VulnerabilityRef<'a> {
+    /// Returns the paths of the listed functions with a requirement that the package's version matches, by Cargo's
+    /// rule of matching, in the order of paths. The result is `None` if no function is listed.
+    ///
+    /// # Errors
+    ///
+    /// `OutOfMemory` alone, and only if there is such a function.
+    pub fn affected_functions(
+        &self,
+        alloc: Global,
+    ) -> rustsec_error::Result<Option<Vec<FunctionPath>>>
+        ensures ok { IfOk result (λ o. option_map (λ v. v.items) o ≡ functions_of self.now) }
+        ensures err { IfErr result IsMemory }
+
+        // The answer that no function is listed takes no memory.
+        ensures refused { OnErr result (functions_of self.now ≢ None) }
+
+        // The answer that functions are listed, and none of them has such a requirement, takes no memory.
+        ensures none { OnErr result (functions_of self.now ≢ Some []) }
+    {
+        match self.affected {
+            Some(affected) => {
+                if affected.functions.is_empty() {
+                    return Ok(None);
+                }
+                let package = self.package;
+                let paths = matching(alloc, &affected.functions, &package.version)?;
+                Ok(Some(paths))
+            }
+            None => Ok(None),
+        }
+    }
+}
+
 impl Vulnerability {
     /// Returns the paths of the listed functions with a requirement that the package's version matches, by Cargo's
     /// rule of matching, in the order of paths. The result is `None` if no function is listed.
@@ -72,15 +107,6 @@ impl Vulnerability {
         // The answer that functions are listed, and none of them has such a requirement, takes no memory.
         ensures none { OnErr result (functions_of self.now ≢ Some []) }
     {
-        match &self.affected {
-            Some(affected) => {
-                if affected.functions.is_empty() {
-                    return Ok(None);
-                }
-                let paths = matching(alloc, &affected.functions, &self.package.version)?;
-                Ok(Some(paths))
-            }
-            None => Ok(None),
-        }
+        VulnerabilityRef::new(self).affected_functions(alloc)
     }
 }

@@ -5,5 +5,7 @@ pub mod FurtherFiles
 pub mod Held
 pub mod KeptReports
 pub mod Members
+pub mod NoFloats
 pub mod PlainTrees
 pub mod ReportLaws
+pub mod ReportText

@@ -4,4 +4,5 @@ pub mod Held
 pub mod Kinds
 pub mod Report
 pub mod ReportLaws
+pub mod ReportText
 pub mod Trees

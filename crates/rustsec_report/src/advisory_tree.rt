@@ -1,6 +1,6 @@
 //! Builds the JSON trees of advisories and packages.
 
-ghost use Rattle.std.specs.Prelude.{◌≡◌, IfOk, OnOk};
+ghost use Rattle.std.specs.Prelude.{◌≡◌, IfOk, OnOk, option_map};
 ghost use Rattle.serde_json.specs.View.{members_view, view};
 ghost use Rattle.rustsec_json.specs.Trees.{optional_tree};
 ghost use Rattle.rustsec_report.specs.Trees.{affected_entries, affected_tree, functions, kinds, metadata_entries, metadata_tree, object_of, origin, package_entries, package_tree, subject, terms, versions_entries, versions_tree, with_members};
@@ -56,8 +56,8 @@ fn put_affected(alloc: Global, members: &mut Members, affected: &Affected) -> Re
 }
 
 /// Builds the tree of the table `affected`, null if the table is missing.
-pub(crate) fn affected_tree(alloc: Global, affected: &Option<Affected>) -> Result<Value, AllocError>
-    ensures { IfOk result (λ v. view v ≡ optional_tree affected_tree affected.now) }
+pub(crate) fn affected_tree(alloc: Global, affected: Option<&Affected>) -> Result<Value, AllocError>
+    ensures { IfOk result (λ v. view v ≡ optional_tree affected_tree (option_map (λ a. a.now) affected.entry)) }
 {
     let Some(affected) = affected else {
         return Ok(Value::Null);

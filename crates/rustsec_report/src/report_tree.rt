@@ -1,23 +1,24 @@
 //! Builds the JSON tree of a report.
 
-ghost use Rattle.std.specs.Prelude.{◌≡◌, [], ◌∷◌, IfErr, IfOk, OnOk};
+ghost use Rattle.std.specs.Prelude.{◌≡◌, [], ◌∷◌, IfErr, IfOk, OnOk, option_map};
 ghost use Rattle.serde_json.specs.View.{members_view, view};
 ghost use Rattle.rustsec_json.specs.Trees.{list_tree, optional_tree};
 ghost use Rattle.rustsec_error.specs.Failure.{IsMemory};
 ghost use Rattle.rustsec_report.specs.Trees.{info_entries, kinds_of_warnings, lockfile_tree, metadata_tree, object_of, report_entries, report_tree, settings_entries, settings_tree, severity_tree, versions_tree, vulnerabilities_tree, vulnerability_entries, vulnerability_tree, warning_entries, warning_tree, with_members};
 
 use crate::advisory_tree::{affected_tree, metadata_tree, package_tree, versions_tree};
-use crate::info::{LockfileInfo, VulnerabilityInfo};
+use crate::info::LockfileInfo;
 use crate::object::{Members, put_tree, put_value};
 use crate::report::Report;
+use crate::report_ref::ReportRef;
 use crate::settings::Settings;
 use crate::warning::Warning;
-use crate::warnings::WarningInfo;
+use crate::warning_ref::{WarningRef, WarningsOfKind};
 use rustsec_advisory::Metadata;
 use rustsec_error::Result;
 use rustsec_json::ToTree;
 use rustsec_lock::Severity;
-use rustsec_query::Vulnerability;
+use rustsec_query::VulnerabilityRef;
 use rustsec_versions::Versions;
 use serde_json::Value;
 use std::alloc::{AllocError, Global};
@@ -27,26 +28,26 @@ use std::alloc::{AllocError, Global};
 fn put_vulnerability(
     alloc: Global,
     members: &mut Members,
-    vulnerability: &Vulnerability,
+    vulnerability: &VulnerabilityRef<'_>,
 ) -> std::result::Result<(), AllocError>
     ensures { OnOk result (members_view members.new.entries
         ≡ with_members (members_view members.old.entries) (vulnerability_entries vulnerability.now)) }
 {
-    let advisory = metadata_tree(alloc, &vulnerability.advisory)?;
+    let advisory = metadata_tree(alloc, vulnerability.advisory)?;
     put_tree(alloc, members, "advisory", advisory)?;
-    let affected = affected_tree(alloc, &vulnerability.affected)?;
+    let affected = affected_tree(alloc, vulnerability.affected)?;
     put_tree(alloc, members, "affected", affected)?;
-    let package = package_tree(alloc, &vulnerability.package)?;
+    let package = package_tree(alloc, vulnerability.package)?;
     put_tree(alloc, members, "package", package)?;
-    let versions = versions_tree(alloc, &vulnerability.versions)?;
+    let versions = versions_tree(alloc, vulnerability.versions)?;
     put_tree(alloc, members, "versions", versions)
 }
 
 /// Builds the tree of a vulnerability.
 #[tactic(auto, unfolding(crate::specs::Trees::vulnerability_tree))]
-fn vulnerability_tree(
+pub(crate) fn vulnerability_tree(
     alloc: Global,
-    vulnerability: &Vulnerability,
+    vulnerability: &VulnerabilityRef<'_>,
 ) -> std::result::Result<Value, AllocError>
     ensures { IfOk result (λ v. view v ≡ vulnerability_tree vulnerability.now) }
 {
@@ -56,7 +57,7 @@ fn vulnerability_tree(
 }
 
 /// Builds the tree of a list of vulnerabilities.
-fn list_tree(alloc: Global, list: &[Vulnerability]) -> std::result::Result<Value, AllocError>
+fn list_tree(alloc: Global, list: &[VulnerabilityRef<'_>]) -> std::result::Result<Value, AllocError>
     ensures { IfOk result (λ v. view v ≡ list_tree vulnerability_tree list.now) }
 {
     let mut trees = Vec::new(alloc);
@@ -69,9 +70,9 @@ fn list_tree(alloc: Global, list: &[Vulnerability]) -> std::result::Result<Value
 /// Builds the tree of the metadata of a warning's advisory, null without an advisory.
 fn optional_metadata_tree(
     alloc: Global,
-    metadata: &Option<Metadata>,
+    metadata: Option<&Metadata>,
 ) -> std::result::Result<Value, AllocError>
-    ensures { IfOk result (λ v. view v ≡ optional_tree metadata_tree metadata.now) }
+    ensures { IfOk result (λ v. view v ≡ optional_tree metadata_tree (option_map (λ m. m.now) metadata.entry)) }
 {
     match metadata {
         Some(metadata) => metadata_tree(alloc, metadata),
@@ -82,9 +83,9 @@ fn optional_metadata_tree(
 /// Builds the tree of a warning's lists of requirements, null without them.
 fn optional_versions_tree(
     alloc: Global,
-    versions: &Option<Versions>,
+    versions: Option<&Versions>,
 ) -> std::result::Result<Value, AllocError>
-    ensures { IfOk result (λ v. view v ≡ optional_tree versions_tree versions.now) }
+    ensures { IfOk result (λ v. view v ≡ optional_tree versions_tree (option_map (λ v. v.now) versions.entry)) }
 {
     match versions {
         Some(versions) => versions_tree(alloc, versions),
@@ -97,24 +98,24 @@ fn optional_versions_tree(
 fn put_warning(
     alloc: Global,
     members: &mut Members,
-    warning: &Warning,
+    warning: &WarningRef<'_>,
 ) -> std::result::Result<(), AllocError>
     ensures { OnOk result (members_view members.new.entries
         ≡ with_members (members_view members.old.entries) (warning_entries warning.now)) }
 {
-    let advisory = optional_metadata_tree(alloc, &warning.advisory)?;
+    let advisory = optional_metadata_tree(alloc, warning.advisory)?;
     put_tree(alloc, members, "advisory", advisory)?;
-    let affected = affected_tree(alloc, &warning.affected)?;
+    let affected = affected_tree(alloc, warning.affected)?;
     put_tree(alloc, members, "affected", affected)?;
     let kind = Value::try_from_str(alloc, warning.kind.as_str())?;
     put_tree(alloc, members, "kind", kind)?;
-    let package = package_tree(alloc, &warning.package)?;
+    let package = package_tree(alloc, warning.package)?;
     put_tree(alloc, members, "package", package)?;
-    let versions = optional_versions_tree(alloc, &warning.versions)?;
+    let versions = optional_versions_tree(alloc, warning.versions)?;
     put_tree(alloc, members, "versions", versions)
 }
 
-impl ToTree for Warning {
+impl<'a> ToTree for WarningRef<'a> {
     ghost use Rattle.rustsec_report.specs.Trees.{warning_tree};
 
     ghost tree = { warning_tree };
@@ -127,24 +128,37 @@ impl ToTree for Warning {
     }
 }
 
+impl ToTree for Warning {
+    ghost use Rattle.rustsec_report.specs.Trees.{warning_tree};
+
+    ghost tree = { warning_tree };
+
+    fn to_tree(&self, alloc: Global) -> std::result::Result<Value, AllocError> {
+        WarningRef::new(self).to_tree(alloc)
+    }
+}
+
 /// Sets a key for each kind of warnings, with the list of its warnings.
 #[tactic(auto, unfolding(crate::specs::Trees::with_members))]
 fn put_warnings(
     alloc: Global,
     members: &mut Members,
-    warnings: &WarningInfo,
+    warnings: &[WarningsOfKind<'_>],
 ) -> std::result::Result<(), AllocError>
     ensures { OnOk result (members_view members.new.entries
         ≡ with_members (members_view members.old.entries) (kinds_of_warnings warnings.now)) }
 {
-    for (kind, list) in warnings.as_map() {
-        put_value(alloc, members, kind.as_str(), list)?;
+    for of_kind in warnings {
+        put_value(alloc, members, of_kind.kind.as_str(), &of_kind.list)?;
     }
     Ok(())
 }
 
 /// Builds the tree of warnings: an object from each kind to its list.
-fn warnings_tree(alloc: Global, warnings: &WarningInfo) -> std::result::Result<Value, AllocError>
+pub(crate) fn warnings_tree(
+    alloc: Global,
+    warnings: &[WarningsOfKind<'_>],
+) -> std::result::Result<Value, AllocError>
     ensures { IfOk result (λ v. view v ≡ object_of (kinds_of_warnings warnings.now)) }
 {
     let mut members = Members::new(alloc);
@@ -185,7 +199,10 @@ fn put_settings(
 }
 
 /// Builds the tree of settings.
-fn settings_tree(alloc: Global, settings: &Settings) -> std::result::Result<Value, AllocError>
+pub(crate) fn settings_tree(
+    alloc: Global,
+    settings: &Settings,
+) -> std::result::Result<Value, AllocError>
     ensures { IfOk result (λ v. view v ≡ settings_tree settings.now) }
 {
     let mut members = Members::new(alloc);
@@ -195,7 +212,10 @@ fn settings_tree(alloc: Global, settings: &Settings) -> std::result::Result<Valu
 
 /// Builds the tree of what a report contains about its lockfile.
 #[tactic(auto, unfolding(crate::specs::Trees::with_members))]
-fn lockfile_tree(alloc: Global, info: LockfileInfo) -> std::result::Result<Value, AllocError>
+pub(crate) fn lockfile_tree(
+    alloc: Global,
+    info: LockfileInfo,
+) -> std::result::Result<Value, AllocError>
     ensures { IfOk result (λ v. view v ≡ lockfile_tree info) }
 {
     let mut members = Members::new(alloc);
@@ -204,31 +224,31 @@ fn lockfile_tree(alloc: Global, info: LockfileInfo) -> std::result::Result<Value
     Ok(Value::from(members))
 }
 
-/// Sets the keys of the vulnerabilities.
+/// Sets the keys of the vulnerabilities of a report.
 #[tactic(auto, unfolding(crate::specs::Trees::with_members))]
 fn put_info(
     alloc: Global,
     members: &mut Members,
-    info: &VulnerabilityInfo,
+    report: &ReportRef<'_>,
 ) -> std::result::Result<(), AllocError>
     ensures { OnOk result (members_view members.new.entries
-        ≡ with_members (members_view members.old.entries) (info_entries info.now)) }
+        ≡ with_members (members_view members.old.entries) (info_entries report.now.vulnerabilities)) }
 {
-    put_tree(alloc, members, "count", Value::from(info.count))?;
-    put_tree(alloc, members, "found", Value::from(info.found))?;
-    let list = list_tree(alloc, info.list.as_slice())?;
+    put_tree(alloc, members, "count", Value::from(report.count))?;
+    put_tree(alloc, members, "found", Value::from(report.found))?;
+    let list = list_tree(alloc, report.vulnerabilities.as_slice())?;
     put_tree(alloc, members, "list", list)
 }
 
-/// Builds the tree of the vulnerabilities.
+/// Builds the tree of the vulnerabilities of a report.
 fn vulnerabilities_tree(
     alloc: Global,
-    info: &VulnerabilityInfo,
+    report: &ReportRef<'_>,
 ) -> std::result::Result<Value, AllocError>
-    ensures { IfOk result (λ v. view v ≡ vulnerabilities_tree info.now) }
+    ensures { IfOk result (λ v. view v ≡ vulnerabilities_tree report.now.vulnerabilities) }
 {
     let mut members = Members::new(alloc);
-    put_info(alloc, &mut members, info)?;
+    put_info(alloc, &mut members, report)?;
     Ok(Value::from(members))
 }
 
@@ -237,18 +257,18 @@ fn vulnerabilities_tree(
 fn put_report(
     alloc: Global,
     members: &mut Members,
-    report: &Report,
+    report: &ReportRef<'_>,
 ) -> std::result::Result<(), AllocError>
     ensures { OnOk result (members_view members.new.entries
         ≡ with_members (members_view members.old.entries) (report_entries report.now)) }
 {
     let lockfile = lockfile_tree(alloc, report.lockfile)?;
     put_tree(alloc, members, "lockfile", lockfile)?;
-    let settings = settings_tree(alloc, &report.settings)?;
+    let settings = settings_tree(alloc, report.settings)?;
     put_tree(alloc, members, "settings", settings)?;
-    let vulnerabilities = vulnerabilities_tree(alloc, &report.vulnerabilities)?;
+    let vulnerabilities = vulnerabilities_tree(alloc, report)?;
     put_tree(alloc, members, "vulnerabilities", vulnerabilities)?;
-    let warnings = warnings_tree(alloc, &report.warnings)?;
+    let warnings = warnings_tree(alloc, report.warnings.as_slice())?;
     put_tree(alloc, members, "warnings", warnings)
 }
 
@@ -263,8 +283,9 @@ impl Report {
         ensures ok { IfOk result (λ v. view v ≡ report_tree self.now) }
         ensures err { IfErr result IsMemory }
     {
+        let report = ReportRef::new(alloc, self)?;
         let mut members = Members::new(alloc);
-        put_report(alloc, &mut members, self)?;
+        put_report(alloc, &mut members, &report)?;
         Ok(Value::from(members))
     }
 }

@@ -1,18 +1,19 @@
 //! The warnings of informational advisories.
 
-ghost use Rattle.std.specs.Prelude.{◌≡◌, IfErr, IfOk, OnOk, map, option_and_then};
+ghost use Rattle.std.specs.Prelude.{◌≡◌, ◌++◌, ◌∷◌, [], IfErr, IfOk, OnOk, map, option_and_then};
 ghost use Rattle.rustsec_error.specs.Failure.{IsMemory};
 ghost use Rattle.rustsec_query.specs.Pairs.{as_vulnerability};
-ghost use Rattle.rustsec_report.specs.Report.{as_warning, is_wanted, wanted_kind, warnings_by_kind, warnings_of_kind};
+ghost use Rattle.rustsec_report.specs.Report.{is_wanted, present, wanted_kind, warnings_by_kind, warnings_of_kind};
 ghost use Rattle.rustsec_report.specs.Kinds.{with_kind};
 
 use crate::settings::Settings;
 use crate::warning::Warning;
+use crate::warning_ref::{WarningRef, WarningsOfKind};
 use rustsec_database::Pair;
 use rustsec_error::Result;
 use rustsec_texts::{Informational, WarningKind};
 use rustsec_values::{Items, Named, SortedMap};
-use std::alloc::Global;
+use std::alloc::{AllocError, Global};
 
 /// Warnings by their kinds. A kind without warnings may be missing.
 pub type WarningInfo = SortedMap<WarningKind, Items<Warning>>;
@@ -34,44 +35,63 @@ fn wanted_kind(settings: &Settings, kind: &Option<Informational>) -> Option<Warn
     }
 }
 
-/// Returns a pair as a warning of a kind, with copies of the package and of the advisory.
-fn as_warning(alloc: Global, kind: WarningKind, pair: &Pair<'_>) -> Result<Warning>
-    ensures ok { IfOk result (λ w. w ≡ as_warning kind (as_vulnerability pair.now)) }
-    ensures err { IfErr result IsMemory }
-{
-    let advisory = pair.advisory.metadata.clone(alloc)?;
-    let versions = pair.advisory.versions.clone(alloc)?;
-    let affected = match &pair.advisory.affected {
-        Some(affected) => Some(affected.clone(alloc)?),
-        None => None,
-    };
-    Warning::new(
-        alloc,
-        kind,
-        pair.package,
-        Some(advisory),
-        affected,
-        Some(versions),
-    )
-}
-
-/// Returns the warnings of a kind that settings ask for, in order. A pair that gives none is not copied.
-fn warnings_of_kind(
+/// Returns the warnings of a kind that settings ask for, in order.
+fn warnings_of_kind<'a>(
     alloc: Global,
-    pairs: &[Pair<'_>],
+    pairs: &[Pair<'a>],
     settings: &Settings,
     kind: WarningKind,
-) -> Result<Items<Warning>>
-    ensures ok { IfOk result (λ ws. ws ≡ warnings_of_kind settings.now (map as_vulnerability pairs.now) kind) }
-    ensures err { IfErr result IsMemory }
+) -> std::result::Result<Items<WarningRef<'a>>, AllocError>
+    ensures { IfOk result (λ ws. ws ≡ warnings_of_kind settings.now (map as_vulnerability pairs.now) kind) }
 {
     let mut warnings = Items::new(alloc);
     for pair in pairs {
         if wanted_kind(settings, &pair.advisory.metadata.informational) == Some(kind) {
-            warnings.push(as_warning(alloc, kind, pair)?)?;
+            warnings.push(WarningRef::of_pair(kind, pair))?;
         }
     }
     Ok(warnings)
+}
+
+/// Appends the warnings of a kind, unless there are none.
+fn push_kind<'a>(
+    warnings: &mut Items<WarningsOfKind<'a>>,
+    of_kind: WarningsOfKind<'a>,
+) -> std::result::Result<(), AllocError>
+    ensures { OnOk result (warnings.new ≡ warnings.old ++ present (of_kind.entry ∷ [])) }
+{
+    if !of_kind.list.is_empty() {
+        warnings.push(of_kind)?;
+    }
+    Ok(())
+}
+
+/// Returns the warnings that settings ask for, kind by kind, from the pairs that count.
+pub(crate) fn warnings_of_pairs<'a>(
+    alloc: Global,
+    pairs: &[Pair<'a>],
+    settings: &Settings,
+) -> std::result::Result<Items<WarningsOfKind<'a>>, AllocError>
+    ensures { IfOk result (λ ws. ws ≡ warnings_by_kind settings.now (map as_vulnerability pairs.now)) }
+{
+    let mut warnings = Items::new(alloc);
+    for kind in WarningKind::all() {
+        let list = warnings_of_kind(alloc, pairs, settings, *kind)?;
+        push_kind(&mut warnings, WarningsOfKind { kind: *kind, list })?;
+    }
+    Ok(warnings)
+}
+
+/// Returns copies of warnings, in order.
+fn copies_of(alloc: Global, warnings: &[WarningRef<'_>]) -> Result<Items<Warning>>
+    ensures ok { IfOk result (λ ws. ws ≡ warnings.now) }
+    ensures err { IfErr result IsMemory }
+{
+    let mut copies = Items::new(alloc);
+    for warning in warnings {
+        copies.push(warning.to_warning(alloc)?)?;
+    }
+    Ok(copies)
 }
 
 /// Sets the warnings of a kind, unless there are none.
@@ -88,12 +108,12 @@ fn add_kind(
 {
     let list = warnings_of_kind(alloc, pairs, settings, kind)?;
     if !list.is_empty() {
-        warnings.insert(kind, list)?;
+        warnings.insert(kind, copies_of(alloc, list.as_slice())?)?;
     }
     Ok(())
 }
 
-/// Returns the warnings that settings ask for, kind by kind, from the pairs that count.
+/// Returns copies of the warnings that settings ask for, kind by kind, from the pairs that count.
 pub(crate) fn warnings_by_kind(
     alloc: Global,
     pairs: &[Pair<'_>],

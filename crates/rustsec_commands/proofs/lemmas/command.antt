@@ -1,5 +1,4 @@
 -- The outputs of commands, that there is one only, and their trees without floats.
-pub mod NoFloats
 pub mod NoFloatsOsv
 pub mod OneOutput
 pub mod ParsedOutputs

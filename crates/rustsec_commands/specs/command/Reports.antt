@@ -3,15 +3,19 @@ use Rattle.std.specs.Prelude.{◌≡◌, ◌≢◌, ◌⊎◌, ℕ, List, [], �
 use Rattle.rustsec_values.specs.Reading.{read_all}
 use Rattle.rustsec_error.specs.Failure.{Failure}
 use Rattle.rustsec_error.specs.declared.error.ErrorKind.TheVariants as kind
-use Rattle.rustsec_lock.specs.Lockfile.{IsLockfileRefusal}
+use Rattle.toml.specs.Data.{Members}
+use Rattle.rustsec_lock.specs.Lockfile.{IsLockfileAt, IsLockfileRefusal, packages_of}
+use Rattle.rustsec_lock.specs.Package.{PackageValue}
 use Rattle.rustsec_texts.specs.Ids.{IdValue, id_of}
 use Rattle.rustsec_texts.specs.declared.informational.Informational.TheVariants as informational
 use Rattle.rustsec_advisory.specs.declared.advisory.Advisory.{Advisory}
 use Rattle.rustsec_folders.specs.Allowed.{Allowed}
 use Rattle.rustsec_folders.specs.Listed.{Listed}
 use Rattle.rustsec_folders.specs.declared.source_file.SourceFile.{SourceFile}
+use Rattle.rustsec_database.specs.Kept.{AreOpenedFor, IsKept, KeptValue, touches_any}
+use Rattle.rustsec_database.specs.Loaded.{AreLoaded}
 use Rattle.rustsec_database.specs.Opened.{AreOpened, IsOpenRefusal}
-use Rattle.rustsec_report.specs.EndToEnd.{IsReportOfText}
+use Rattle.rustsec_report.specs.EndToEnd.{IsReportOf, IsReportOfText}
 use Rattle.rustsec_report.specs.Trees.{report_tree}
 use Rattle.rustsec_report.specs.declared.report.Report.{Report}
 use Rattle.rustsec_report.specs.declared.settings.Settings.{Settings}
@@ -37,6 +41,16 @@ report_output r = record { text = tree_line (report_tree r); status = if r.vulne
 abbrev pub IsReportOfPaths : Allowed → List ℕ → List ℕ → Settings → Report → Type 0
 IsReportOfPaths allowed root lock s r =
     (files : List SourceFile) × (Listed allowed root (Some files) × ((text : List ℕ) × (allowed.reads lock (Some text) × IsReportOfText files text s r)))
+
+-- what was kept of the database under a root for the lockfile at a path, and the packages of that lockfile
+abbrev pub AreReadFrom : Allowed → List ℕ → List ℕ → KeptValue → List PackageValue → Type 0
+AreReadFrom allowed root lock k packages = AreOpenedFor allowed root (touches_any packages) k × IsLockfileAt allowed lock packages
+
+-- the report of all files and tables that give what was kept and these packages
+abbrev pub IsReportByKept : KeptValue → List PackageValue → Settings → Report → Type 0
+IsReportByKept k packages s r =
+    (all : List Advisory) (files : List SourceFile) (table : Members) → IsKept (touches_any packages) all k → AreLoaded files all
+    → packages_of table ≡ Some packages → IsReportOf files table s r
 
 -- why there is no report: the database under the root is refused; or it opens, and the lockfile at its path is refused
 abbrev pub IsReportRefusal : Allowed → List ℕ → List ℕ → Failure → Type 0

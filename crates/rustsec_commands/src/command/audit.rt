@@ -8,8 +8,9 @@ ghost use Rattle.rustsec_commands.specs.command.Reports.{IsAuditOutput, IsOutput
 use crate::args::options;
 use crate::command::audit::advice::advice;
 use crate::command::audit::text::audit_output;
+use crate::command::report::inputs::{NotedReport, read_inputs};
 use crate::command::report::overview::Paths;
-use crate::command::report::{NotedReport, report_of, settings_with};
+use crate::command::report::settings_with;
 use crate::error_output::{misuse, refusal_output};
 use crate::output::{Output, usage_output};
 use rustsec_folders::Folders;
@@ -21,7 +22,7 @@ pub(crate) mod advice;
 pub(crate) mod text;
 
 /// Returns what helps against what a report found, and after it what the report looked at.
-fn advice_and_note(alloc: Global, noted: &NotedReport) -> rustsec_error::Result<String> {
+fn advice_and_note(alloc: Global, noted: &NotedReport<'_>) -> rustsec_error::Result<String> {
     let mut note = advice(alloc, &noted.report)?;
     if let Some(looked) = &noted.note {
         note.push_str(looked)?;
@@ -33,7 +34,7 @@ fn advice_and_note(alloc: Global, noted: &NotedReport) -> rustsec_error::Result<
 fn advised_output(
     alloc: Global,
     deny_warnings: bool,
-    noted: &NotedReport,
+    noted: &NotedReport<'_>,
 ) -> Result<Output, AllocError>
     ensures { IfOk result (λ o. o ≡ audit_output deny_warnings noted.now) }
 {
@@ -65,8 +66,12 @@ fn audit_with<F: Folders>(
         deny_warnings,
     } = wanted;
     let settings = settings_with(alloc, ignored)?;
-    match report_of(alloc, folders, Paths { root, lock }, &settings) {
-        Ok(noted) => advised_output(alloc, deny_warnings, &noted),
+    let paths = Paths { root, lock };
+    match read_inputs(alloc, folders, paths) {
+        Ok(inputs) => {
+            let noted = inputs.report(alloc, folders, paths, &settings)?;
+            advised_output(alloc, deny_warnings, &noted)
+        }
         Err(error) => refusal_output(alloc, &error),
     }
 }

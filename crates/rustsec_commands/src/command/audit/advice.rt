@@ -4,8 +4,8 @@ use rustsec_advisory::Metadata;
 use rustsec_error::Result;
 use rustsec_lock::Cvss;
 use rustsec_lock::package::Package;
-use rustsec_query::Vulnerability;
-use rustsec_report::{Report, Warning, WarningInfo};
+use rustsec_query::VulnerabilityRef;
+use rustsec_report::{ReportRef, WarningRef, WarningsOfKind};
 use rustsec_shown::push_shown;
 use rustsec_texts::WarningKind;
 use rustsec_versions::{Versions, requirement_text};
@@ -76,7 +76,11 @@ fn add_solution(alloc: Global, note: &mut String, versions: &Versions) -> Result
 }
 
 /// Appends a line for each function that is affected in the package's version.
-fn add_functions(alloc: Global, note: &mut String, vulnerability: &Vulnerability) -> Result<()> {
+fn add_functions(
+    alloc: Global,
+    note: &mut String,
+    vulnerability: &VulnerabilityRef<'_>,
+) -> Result<()> {
     let Some(paths) = vulnerability.affected_functions(alloc)? else {
         return Ok(());
     };
@@ -91,14 +95,14 @@ fn add_functions(alloc: Global, note: &mut String, vulnerability: &Vulnerability
 fn add_vulnerability(
     alloc: Global,
     note: &mut String,
-    vulnerability: &Vulnerability,
+    vulnerability: &VulnerabilityRef<'_>,
 ) -> Result<()> {
-    add_package(note, &vulnerability.package)?;
-    add_advisory(alloc, note, &vulnerability.advisory)?;
+    add_package(note, vulnerability.package)?;
+    add_advisory(alloc, note, vulnerability.advisory)?;
     if let Some(cvss) = &vulnerability.advisory.cvss {
         add_severity(alloc, note, cvss)?;
     }
-    add_solution(alloc, note, &vulnerability.versions)?;
+    add_solution(alloc, note, vulnerability.versions)?;
     add_functions(alloc, note, vulnerability)
 }
 
@@ -107,11 +111,11 @@ fn add_warning(
     alloc: Global,
     note: &mut String,
     kind: WarningKind,
-    warning: &Warning,
+    warning: &WarningRef<'_>,
 ) -> Result<()> {
-    add_package(note, &warning.package)?;
+    add_package(note, warning.package)?;
     writeln!(note, "Warning:   {kind}")?;
-    match &warning.advisory {
+    match warning.advisory {
         Some(advisory) => add_advisory(alloc, note, advisory),
         None => Ok(()),
     }
@@ -122,7 +126,7 @@ fn add_kind(
     alloc: Global,
     note: &mut String,
     kind: WarningKind,
-    warnings: &[Warning],
+    warnings: &[WarningRef<'_>],
 ) -> Result<()> {
     for warning in warnings {
         add_warning(alloc, note, kind, warning)?;
@@ -131,20 +135,20 @@ fn add_kind(
 }
 
 /// Appends the lines for all warnings.
-fn add_warnings(alloc: Global, note: &mut String, warnings: &WarningInfo) -> Result<()> {
-    for (kind, list) in warnings.as_map() {
-        add_kind(alloc, note, *kind, list.as_slice())?;
+fn add_warnings(alloc: Global, note: &mut String, warnings: &[WarningsOfKind<'_>]) -> Result<()> {
+    for of_kind in warnings {
+        add_kind(alloc, note, of_kind.kind, of_kind.list.as_slice())?;
     }
     Ok(())
 }
 
 /// Returns a description of the vulnerabilities and warnings of a report, with what helps. Each text from a
 /// file is shown on one line: only the ends of lines are line feeds.
-pub fn advice(alloc: Global, report: &Report) -> Result<String> {
+pub fn advice(alloc: Global, report: &ReportRef<'_>) -> Result<String> {
     let mut note = String::new(alloc);
-    for vulnerability in report.vulnerabilities.list.as_slice() {
+    for vulnerability in report.vulnerabilities.as_slice() {
         add_vulnerability(alloc, &mut note, vulnerability)?;
     }
-    add_warnings(alloc, &mut note, &report.warnings)?;
+    add_warnings(alloc, &mut note, report.warnings.as_slice())?;
     Ok(note)
 }

@@ -8,26 +8,30 @@ ghost use Rattle.rustsec_commands.specs.declared.fault.Fault.TheVariants as faul
 
 use crate::fault::Fault;
 use crate::output::Output;
-use rustsec_query::Vulnerability;
-use rustsec_report::{Report, Warning, WarningInfo};
+use rustsec_query::VulnerabilityRef;
+use rustsec_report::{Report, ReportRef, WarningRef, WarningsOfKind};
 use rustsec_texts::WarningKind;
 use std::alloc::{AllocError, Global};
 use std::fmt::Write as _;
 use std::io::Write;
 
 /// Appends the line for a vulnerability.
-fn add_vulnerability(text: &mut String, vulnerability: &Vulnerability) -> Result<(), AllocError>
+fn add_vulnerability(
+    text: &mut String,
+    vulnerability: &VulnerabilityRef<'_>,
+) -> Result<(), AllocError>
     ensures { OnOk result (string_bytes text.new ≡ string_bytes text.old ++ vulnerability_line vulnerability.now) }
 {
     let id = &vulnerability.advisory.id;
-    let name = &vulnerability.package.name;
-    let version = &vulnerability.package.version;
+    let package = vulnerability.package;
+    let name = &package.name;
+    let version = &package.version;
     writeln!(text, "vulnerability {id} {name} {version}")?;
     Ok(())
 }
 
 /// Appends a line for each vulnerability.
-fn add_vulnerabilities(text: &mut String, found: &[Vulnerability]) -> Result<(), AllocError>
+fn add_vulnerabilities(text: &mut String, found: &[VulnerabilityRef<'_>]) -> Result<(), AllocError>
     ensures { OnOk result (string_bytes text.new ≡ string_bytes text.old ++ flat_map vulnerability_line found.now) }
 {
     for vulnerability in found {
@@ -37,12 +41,17 @@ fn add_vulnerabilities(text: &mut String, found: &[Vulnerability]) -> Result<(),
 }
 
 /// Appends the line for a warning.
-fn add_warning(text: &mut String, kind: WarningKind, warning: &Warning) -> Result<(), AllocError>
+fn add_warning(
+    text: &mut String,
+    kind: WarningKind,
+    warning: &WarningRef<'_>,
+) -> Result<(), AllocError>
     ensures { OnOk result (string_bytes text.new ≡ string_bytes text.old ++ warning_line kind warning.now) }
 {
-    let name = &warning.package.name;
-    let version = &warning.package.version;
-    match &warning.advisory {
+    let package = warning.package;
+    let name = &package.name;
+    let version = &package.version;
+    match warning.advisory {
         Some(advisory) => {
             let id = &advisory.id;
             writeln!(text, "warning {kind} {id} {name} {version}")?;
@@ -53,7 +62,11 @@ fn add_warning(text: &mut String, kind: WarningKind, warning: &Warning) -> Resul
 }
 
 /// Appends a line for each warning of a kind.
-fn add_kind(text: &mut String, kind: WarningKind, warnings: &[Warning]) -> Result<(), AllocError>
+fn add_kind(
+    text: &mut String,
+    kind: WarningKind,
+    warnings: &[WarningRef<'_>],
+) -> Result<(), AllocError>
     ensures { OnOk result (string_bytes text.new ≡ string_bytes text.old ++ flat_map (warning_line kind) warnings.now) }
 {
     for warning in warnings {
@@ -63,23 +76,23 @@ fn add_kind(text: &mut String, kind: WarningKind, warnings: &[Warning]) -> Resul
 }
 
 /// Appends a line for each warning, kind by kind.
-fn add_warnings(text: &mut String, warnings: &WarningInfo) -> Result<(), AllocError>
+fn add_warnings(text: &mut String, warnings: &[WarningsOfKind<'_>]) -> Result<(), AllocError>
     ensures { OnOk result (string_bytes text.new ≡ string_bytes text.old ++ flat_map kind_lines warnings.now) }
 {
-    for (kind, list) in warnings.as_map() {
-        add_kind(text, *kind, list.as_slice())?;
+    for of_kind in warnings {
+        add_kind(text, of_kind.kind, of_kind.list.as_slice())?;
     }
     Ok(())
 }
 
 /// Counts all warnings. A sum that exceeds a `usize` is answered as out of memory: no memory holds that
 /// many.
-fn warning_count(warnings: &WarningInfo) -> Result<usize, AllocError>
+fn warning_count(warnings: &[WarningsOfKind<'_>]) -> Result<usize, AllocError>
     ensures { IfOk result (λ n. n ≡ warning_count warnings.now) }
 {
     let mut count: usize = 0;
-    for (_kind, list) in warnings.as_map() {
-        match count.checked_add(list.len()) {
+    for of_kind in warnings {
+        match count.checked_add(of_kind.list.len()) {
             Some(sum) => count = sum,
             None => return Err(AllocError),
         }
@@ -88,14 +101,14 @@ fn warning_count(warnings: &WarningInfo) -> Result<usize, AllocError>
 }
 
 /// Returns the text for a report with this number of warnings.
-fn audit_text(alloc: Global, report: &Report, warnings: usize) -> Result<String, AllocError>
+fn audit_text(alloc: Global, report: &ReportRef<'_>, warnings: usize) -> Result<String, AllocError>
     ensures { IfOk result (λ t. string_bytes t ≡ flat_map vulnerability_line report.now.vulnerabilities.list
         ++ (flat_map kind_lines report.now.warnings ++ count_line (length report.now.vulnerabilities.list) warnings)) }
 {
     let mut text = String::new(alloc);
-    add_vulnerabilities(&mut text, report.vulnerabilities.list.as_slice())?;
-    add_warnings(&mut text, &report.warnings)?;
-    let vulnerabilities = report.vulnerabilities.list.len();
+    add_vulnerabilities(&mut text, report.vulnerabilities.as_slice())?;
+    add_warnings(&mut text, report.warnings.as_slice())?;
+    let vulnerabilities = report.vulnerabilities.len();
     writeln!(
         text,
         "{vulnerabilities} vulnerabilities, {warnings} warnings"
@@ -121,13 +134,13 @@ fn status_of(is_bad: bool) -> u8
 pub(crate) fn audit_output(
     alloc: Global,
     deny_warnings: bool,
-    report: &Report,
+    report: &ReportRef<'_>,
 ) -> Result<Output, AllocError>
     ensures { IfOk result (λ o. o ≡ audit_output deny_warnings report.now) }
 {
-    let warnings = warning_count(&report.warnings)?;
+    let warnings = warning_count(report.warnings.as_slice())?;
     let text = audit_text(alloc, report, warnings)?;
-    let is_bad = is_bad(report.vulnerabilities.list.len(), deny_warnings, warnings);
+    let is_bad = is_bad(report.vulnerabilities.len(), deny_warnings, warnings);
     Ok(Output::new(text, status_of(is_bad)))
 }
 
@@ -149,5 +162,6 @@ pub fn write_audit<W: Write>(
     ensures kept { IfErr result (λ e. e ≢ fault.Write → Keeps (W.contents output.old) (W.contents output.new)) }
     ensures read { IfErr result (λ e. e ≢ fault.Read) }
 {
-    audit_output(alloc, deny_warnings, report)?.write(output)
+    let report = ReportRef::new(alloc, report)?;
+    audit_output(alloc, deny_warnings, &report)?.write(output)
 }

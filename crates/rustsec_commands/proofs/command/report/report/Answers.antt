@@ -1,11 +1,13 @@
 use Rattle.std.proofs.lemmas.Result.{IfOk-weaker}
+use Rattle.rustsec_commands.proofs.lemmas.command.Refused.{report-of-paths}
 use Rattle.rustsec_commands.specs.command.Reports.{refused, reported}
 use Rattle.rustsec_commands.proofs.command.report.report.Goals as goal
 
 pub returns-in-Ok-clause-ok : goal.returns-in-Ok-clause-ok
 returns-in-Ok-clause-ok g c =
-    let is = rw (c.in_ok-settings.ensures, c.new.ensures) at c.in-Ok.ensures.ok in
-    IfOk-weaker c.noted_output.result _ _ (λ o h. reported c.in-Ok.noted is h) c.noted_output.ensures
+    let by = rw (c.in_ok-settings.ensures, c.new.ensures) at c.in_ok-noted-in-Ok.ensures.ok in
+    let is = report-of-paths (g.F.Folders.allowed c.args.folders.now) c.args.root.now c.args.lock.now _ _ _ c.in_ok-noted-in-Ok.noted c.in-Ok.ensures.ok by in
+    IfOk-weaker c.noted_output.result _ _ (λ o h. reported c.in_ok-noted-in-Ok.noted is h) c.noted_output.ensures
 
 pub returns-clause-ok : goal.returns-clause-ok
 returns-clause-ok g c =

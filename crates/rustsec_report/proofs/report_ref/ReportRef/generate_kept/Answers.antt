@@ -3,7 +3,7 @@ use Rattle.std.proofs.lemmas.Result.{IfOk-weaker}
 use Rattle.rustsec_advisory.specs.declared.advisory.Advisory.{Advisory}
 use Rattle.rustsec_report.specs.Report.{report_of}
 use Rattle.rustsec_report.proofs.KeptReports.{kept-chain, kept-report}
-use Rattle.rustsec_report.proofs.report.Report.generate_kept.Goals as goal
+use Rattle.rustsec_report.proofs.report_ref.ReportRef.generate_kept.Goals as goal
 
 pub returns-clause-ok : goal.returns-clause-ok
 returns-clause-ok c =

@@ -1,6 +1,6 @@
 use Rattle.std.proofs.Common.{◌∙◌}
 use Rattle.std.proofs.lemmas.Result.{IfOk-weaker}
-use Rattle.rustsec_commands.proofs.command.report.kept_for.Goals as goal
+use Rattle.rustsec_commands.proofs.command.report.inputs.kept_for.Goals as goal
 
 pub returns-clause-ok : goal.returns-clause-ok
 returns-clause-ok g c =

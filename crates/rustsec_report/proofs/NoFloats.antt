@@ -1,4 +1,4 @@
--- The tree of a report has no float, so that its text is known.
+-- The trees of a report and of its parts have no float, so that their texts are known.
 use Rattle.std.proofs.Common.{List, ◌++◌, refl}
 use Rattle.rustsec_json.specs.Trees.{list_tree}
 use Rattle.rustsec_texts.specs.declared.warning_kind.WarningKind.{WarningKind}
@@ -8,9 +8,8 @@ use Rattle.rustsec_advisory.specs.declared.metadata.Metadata.{Metadata}
 use Rattle.rustsec_versions.specs.acceptance.Lists.{Lists}
 use Rattle.rustsec_lock.specs.Package.{PackageValue}
 use Rattle.rustsec_query.specs.declared.vulnerability.Vulnerability.{Vulnerability}
-use Rattle.rustsec_report.specs.Trees.{affected_entries, affected_tree, functions, info_entries, kinds, kinds_of_warnings, metadata_entries, metadata_tree, origin, package_entries, package_tree, report_entries, report_tree, requirements_tree, settings_entries, settings_tree, subject, terms, versions_entries, versions_tree, vulnerabilities_tree, vulnerability_entries, vulnerability_tree, warning_entries, warning_tree}
-use Rattle.rustsec_report.specs.declared.info.VulnerabilityInfo.{VulnerabilityInfo}
-use Rattle.rustsec_report.specs.declared.report.Report.{Report}
+use Rattle.rustsec_report.specs.Trees.{affected_entries, affected_tree, functions, kinds, kinds_of_warnings, lockfile_tree, metadata_entries, metadata_tree, object_of, origin, package_entries, package_tree, requirements_tree, settings_entries, settings_tree, subject, terms, versions_entries, versions_tree, vulnerability_entries, vulnerability_tree, warning_entries, warning_tree}
+use Rattle.rustsec_report.specs.declared.info.LockfileInfo.{LockfileInfo}
 use Rattle.rustsec_report.specs.declared.settings.Settings.{Settings}
 use Rattle.rustsec_report.specs.declared.warning.Warning.{Warning}
 use Rattle.rustsec_report.proofs.PlainTrees.{AllPlain, Plain, append-plain, list-plain, map-plain, object-plain, optional-plain}
@@ -59,7 +58,7 @@ metadata-plain m = object-plain (metadata_entries m)
 package-plain : (p : PackageValue) → Plain (package_tree p)
 package-plain p = object-plain (package_entries p) (optional-plain _ (λ x. refl) p.checksum, (refl, (optional-plain _ (λ x. refl) p.source, (refl, tt))))
 
-vulnerability-plain : (v : Vulnerability) → Plain (vulnerability_tree v)
+pub vulnerability-plain : (v : Vulnerability) → Plain (vulnerability_tree v)
 unfolding vulnerability_tree
 vulnerability-plain v = object-plain (vulnerability_entries v)
     (metadata-plain v.advisory, (optional-plain _ affected-plain v.affected, (package-plain v.«package», (versions-plain v.versions, tt))))
@@ -69,7 +68,7 @@ unfolding warning_tree
 warning-plain w = object-plain (warning_entries w)
     (optional-plain _ metadata-plain w.advisory, (optional-plain _ affected-plain w.affected, (refl, (package-plain w.«package», (optional-plain _ versions-plain w.versions, tt)))))
 
-settings-plain : (s : Settings) → Plain (settings_tree s)
+pub settings-plain : (s : Settings) → Plain (settings_tree s)
 settings-plain s = object-plain (settings_entries s) (
   list-plain _ (λ x. refl) s.ignore,
   (
@@ -81,21 +80,11 @@ settings-plain s = object-plain (settings_entries s) (
   ),
 )
 
-vulnerabilities-plain : (i : VulnerabilityInfo) → Plain (vulnerabilities_tree i)
-vulnerabilities-plain i = object-plain (info_entries i) (refl, (refl, (list-plain vulnerability_tree vulnerability-plain i.list, tt)))
-
 kind-plain : (e : WarningKind × List Warning) → Plain (list_tree warning_tree e.1)
 kind-plain e = list-plain warning_tree warning-plain e.1
 
-pub report_plain : (r : Report) → Plain (report_tree r)
-unfolding report_tree
-report_plain r = object-plain (report_entries r) (
-  object-plain _ (refl, tt),
-  (
-    settings-plain r.settings,
-    (
-      vulnerabilities-plain r.vulnerabilities,
-      (object-plain (kinds_of_warnings r.warnings) (map-plain _ kind-plain r.warnings), tt),
-    ),
-  ),
-)
+pub lockfile-plain : (l : LockfileInfo) → Plain (lockfile_tree l)
+lockfile-plain l = object-plain _ (refl, tt)
+
+pub warnings-plain : (ws : List (WarningKind × List Warning)) → Plain (object_of (kinds_of_warnings ws))
+warnings-plain ws = object-plain (kinds_of_warnings ws) (map-plain _ kind-plain ws)

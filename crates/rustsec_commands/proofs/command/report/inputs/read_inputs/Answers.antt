@@ -3,16 +3,16 @@ use Rattle.std.proofs.lemmas.Result.{err_from_is_err_and}
 use Rattle.std.specs.Prelude.{IfErr, IfOk}
 use Rattle.rustsec_lock.specs.Lockfile.{IsLockfileAt, IsLockfileRefusal}
 use Rattle.rustsec_database.specs.Kept.{touches_any}
-use Rattle.rustsec_commands.proofs.lemmas.command.Refused.{lockfile-refused, refused-before, report-of-paths}
-use Rattle.rustsec_commands.proofs.command.report.report_of.Goals as goal
+use Rattle.rustsec_commands.proofs.lemmas.command.Refused.{lockfile-refused, read-from, refused-before}
+use Rattle.rustsec_commands.proofs.command.report.inputs.read_inputs.Goals as goal
 
 pub returns-clause-ok : goal.returns-clause-ok
 returns-clause-ok g c =
     let (read, (opened, same)) = c.in_ok-kept.ensures.ok in
-    report-of-paths _ _ c.args.paths.root.now c.args.paths.lock.now c.args.settings.now read c.in_ok-lockfile.lockfile.packages c.in_ok-kept.kept
-    c.in_ok-report.report c.load_with-read.ensures.same opened (subst (λ r. IfOk r (λ l. read ≡ l.packages)) c.in_ok-lockfile.was same)
+    read-from _ _ c.args.paths.root.now c.args.paths.lock.now read c.in_ok-lockfile.lockfile.packages c.in_ok-kept.kept c.load_with-read.ensures.same opened
+    (subst (λ r. IfOk r (λ l. read ≡ l.packages)) c.in_ok-lockfile.was same)
     (subst (λ r. IfOk r (λ l. IsLockfileAt (g.F.Folders.allowed c.args.folders.now) c.args.paths.lock.now l.packages)) c.in_ok-lockfile.was
-    c.load_with-read.ensures.ok) c.in_ok-report.ensures.chain
+    c.load_with-read.ensures.ok)
 
 pub returns-in_err-kept-clause-err : goal.returns-in_err-kept-clause-err
 returns-in_err-kept-clause-err g c =

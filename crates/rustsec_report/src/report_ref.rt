@@ -1,0 +1,215 @@
+//! Reports as references: what they list is not copied.
+
+ghost use Rattle.std.specs.Prelude.{◌≡◌, IfErr, IfOk, List, Some, map};
+ghost use Rattle.toml.specs.Data.{Members};
+ghost use Rattle.rustsec_error.specs.Failure.{IsMemory};
+ghost use Rattle.rustsec_folders.specs.declared.source_file.SourceFile.{SourceFile};
+ghost use Rattle.rustsec_lock.specs.Lockfile.{packages_of};
+ghost use Rattle.rustsec_advisory.specs.declared.advisory.Advisory as given;
+ghost use Rattle.rustsec_database.specs.Kept.{IsKept, touches_any};
+ghost use Rattle.rustsec_database.specs.Loaded.{AreLoaded};
+ghost use Rattle.rustsec_report.specs.EndToEnd.{IsReportOf};
+ghost use Rattle.rustsec_query.specs.Pairs.{as_vulnerability};
+ghost use Rattle.rustsec_report.specs.Report.{report_of, vulnerabilities, warnings};
+
+use crate::counted::counted_pairs;
+use crate::info::LockfileInfo;
+use crate::report::Report;
+use crate::settings::Settings;
+use crate::warning::Warning;
+use crate::warning_ref::{WarningRef, WarningsOfKind};
+use crate::warnings::{WarningInfo, warnings_of_pairs};
+use rustsec_database::{Database, KeptDatabase, Pair};
+use rustsec_error::Result;
+use rustsec_lock::Lockfile;
+use rustsec_query::{Vulnerability, VulnerabilityRef};
+use rustsec_values::Items;
+use std::alloc::{AllocError, Global};
+use std::marker::Model;
+
+/// A report as references. Contracts see it as the report.
+#[derive(Drop)]
+pub struct ReportRef<'a> {
+    /// The lockfile.
+    pub lockfile: LockfileInfo,
+    /// The settings of the report.
+    pub settings: &'a Settings,
+    /// Whether there are any vulnerabilities.
+    pub found: bool,
+    /// Their number.
+    pub count: usize,
+    /// The vulnerabilities.
+    pub vulnerabilities: Items<VulnerabilityRef<'a>>,
+    /// The warnings, kind by kind.
+    pub warnings: Items<WarningsOfKind<'a>>,
+}
+
+impl<'a> Model for ReportRef<'a> {
+    ghost use Rattle.rustsec_report.specs.declared.report.Report as given;
+
+    ghost Value = { given.Report };
+
+    ghost view = { λ r. record {
+      lockfile = r.lockfile;
+      settings = r.settings.now;
+      vulnerabilities = record { found = r.found; count = r.count; list = r.vulnerabilities };
+      warnings = r.warnings;
+    } };
+}
+
+/// Returns vulnerabilities as references.
+fn vulnerability_refs<'a>(
+    alloc: Global,
+    list: &'a [Vulnerability],
+) -> std::result::Result<Items<VulnerabilityRef<'a>>, AllocError>
+    ensures { IfOk result (λ vs. vs ≡ list.now) }
+{
+    let mut refs = Items::new(alloc);
+    for vulnerability in list {
+        refs.push(VulnerabilityRef::new(vulnerability))?;
+    }
+    Ok(refs)
+}
+
+/// Returns warnings as references.
+fn warning_refs<'a>(
+    alloc: Global,
+    list: &'a [Warning],
+) -> std::result::Result<Items<WarningRef<'a>>, AllocError>
+    ensures { IfOk result (λ ws. ws ≡ list.now) }
+{
+    let mut refs = Items::new(alloc);
+    for warning in list {
+        refs.push(WarningRef::new(warning))?;
+    }
+    Ok(refs)
+}
+
+/// Returns warnings by their kinds as references.
+fn refs_by_kind<'a>(
+    alloc: Global,
+    warnings: &'a WarningInfo,
+) -> std::result::Result<Items<WarningsOfKind<'a>>, AllocError>
+    ensures { IfOk result (λ ws. ws ≡ warnings.now) }
+{
+    let mut refs = Items::new(alloc);
+    for (kind, list) in warnings.as_map() {
+        let list = warning_refs(alloc, list.as_slice())?;
+        refs.push(WarningsOfKind { kind: *kind, list })?;
+    }
+    Ok(refs)
+}
+
+/// Returns pairs as vulnerabilities.
+fn vulnerabilities_of_pairs<'a>(
+    alloc: Global,
+    pairs: &[Pair<'a>],
+) -> std::result::Result<Items<VulnerabilityRef<'a>>, AllocError>
+    ensures { IfOk result (λ vs. vs ≡ map as_vulnerability pairs.now) }
+{
+    let mut refs = Items::new(alloc);
+    for pair in pairs {
+        refs.push(VulnerabilityRef::of(pair.advisory, pair.package))?;
+    }
+    Ok(refs)
+}
+
+/// Returns the vulnerabilities of a report, as references.
+fn vulnerabilities_of<'a>(
+    alloc: Global,
+    database: &'a Database,
+    lockfile: &'a Lockfile,
+    settings: &Settings,
+) -> Result<Items<VulnerabilityRef<'a>>>
+    ensures ok { IfOk result (λ vs. vs ≡ vulnerabilities database.now lockfile.now.packages settings.now) }
+    ensures err { IfErr result IsMemory }
+{
+    let query = settings.query(alloc)?;
+    let counted = counted_pairs(alloc, database, lockfile, &query, &settings.ignore)?;
+    let vulnerabilities = vulnerabilities_of_pairs(alloc, counted.as_slice())?;
+    Ok(vulnerabilities)
+}
+
+/// Returns the warnings of a report, as references.
+fn warnings_of<'a>(
+    alloc: Global,
+    database: &'a Database,
+    lockfile: &'a Lockfile,
+    settings: &Settings,
+) -> Result<Items<WarningsOfKind<'a>>>
+    ensures ok { IfOk result (λ ws. ws ≡ warnings database.now lockfile.now.packages settings.now) }
+    ensures err { IfErr result IsMemory }
+{
+    let query = settings.query(alloc)?.informational(true);
+    let counted = counted_pairs(alloc, database, lockfile, &query, &settings.ignore)?;
+    let warnings = warnings_of_pairs(alloc, counted.as_slice(), settings)?;
+    Ok(warnings)
+}
+
+impl<'a> ReportRef<'a> {
+    /// Returns a report as references.
+    pub fn new(alloc: Global, report: &'a Report) -> std::result::Result<ReportRef<'a>, AllocError>
+        ensures { IfOk result (λ r. r ≡ report.now) }
+    {
+        let vulnerabilities = vulnerability_refs(alloc, report.vulnerabilities.list.as_slice())?;
+        let warnings = refs_by_kind(alloc, &report.warnings)?;
+        Ok(ReportRef {
+            lockfile: report.lockfile,
+            settings: &report.settings,
+            found: report.vulnerabilities.found,
+            count: report.vulnerabilities.count,
+            vulnerabilities,
+            warnings,
+        })
+    }
+
+    /// Returns the report of a lockfile by a database, as `Report::generate` does.
+    ///
+    /// # Errors
+    ///
+    /// `OutOfMemory` alone.
+    pub fn generate(
+        alloc: Global,
+        database: &'a Database,
+        lockfile: &'a Lockfile,
+        settings: &'a Settings,
+    ) -> Result<ReportRef<'a>>
+        ensures ok { IfOk result (λ r. r ≡ report_of database.now lockfile.now.packages settings.now) }
+        ensures err { IfErr result IsMemory }
+    {
+        let vulnerabilities = vulnerabilities_of(alloc, database, lockfile, settings)?;
+        let warnings = warnings_of(alloc, database, lockfile, settings)?;
+        Ok(ReportRef {
+            lockfile: LockfileInfo::new(lockfile),
+            settings,
+            found: !vulnerabilities.is_empty(),
+            count: vulnerabilities.len(),
+            vulnerabilities,
+            warnings,
+        })
+    }
+
+    /// Returns the report of a lockfile by a database that was kept for it: only the advisories that affect one of its
+    /// packages are there. It is the report by all advisories.
+    ///
+    /// # Errors
+    ///
+    /// `OutOfMemory` alone.
+    pub fn generate_kept(
+        alloc: Global,
+        kept: &'a KeptDatabase,
+        lockfile: &'a Lockfile,
+        settings: &'a Settings,
+    ) -> Result<ReportRef<'a>>
+        ensures ok { IfOk result (λ r. (all : List given.Advisory) → IsKept (touches_any lockfile.now.packages) all kept.now
+            → r ≡ report_of all lockfile.now.packages settings.now) }
+
+        // It is the report of any files that give these advisories and any table that gives these packages.
+        ensures chain { IfOk result (λ r. (all : List given.Advisory) (files : List SourceFile) (table : Members)
+            → IsKept (touches_any lockfile.now.packages) all kept.now → AreLoaded files all
+            → packages_of table ≡ Some lockfile.now.packages → IsReportOf files table settings.now r) }
+        ensures err { IfErr result IsMemory }
+    {
+        ReportRef::generate(alloc, kept.database(), lockfile, settings)
+    }
+}
