@@ -160,6 +160,18 @@ impl KeptDatabase {
         &self.database
     }
 
+    /// Returns the advisories that were kept, and frees the IDs.
+    pub fn into_database(self) -> Database
+        ensures { result ≡ self.advisories }
+    {
+        let KeptDatabase {
+            database,
+            ids: _,
+            last_date: _,
+        } = self;
+        database
+    }
+
     /// Returns whether an advisory under the root has an ID, also one that was not kept.
     pub fn has_id(&self, id: &Id) -> bool
         ensures { result ≡ list_any (id_eq id.now) self.now.ids }

@@ -85,13 +85,17 @@ pub(crate) fn has_source(asked: Option<&SourceId>, advisory: &Advisory) -> bool
     }
 }
 
-/// Returns whether the severity is at least the asked one. An advisory without a severity passes.
+/// Returns whether the severity is at least the asked one. An advisory without a severity passes. The severity is only
+/// calculated if one is asked.
 pub(crate) fn is_severe(asked: Option<Severity>, advisory: &Advisory) -> bool
     ensures { result ≡ is_severe (record unset { severity = asked }) advisory.now }
 {
-    match (asked, advisory.severity()) {
-        (Some(least), Some(severity)) => severity >= least,
-        _ => true,
+    let Some(least) = asked else {
+        return true;
+    };
+    match advisory.severity() {
+        Some(severity) => severity >= least,
+        None => true,
     }
 }
 

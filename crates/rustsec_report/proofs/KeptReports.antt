@@ -13,7 +13,7 @@ use Rattle.rustsec_query.specs.Pairs.{Pair, as_vulnerability, finds, is_audited,
 use Rattle.rustsec_query.specs.Query.{Asked, of_package}
 use Rattle.rustsec_query.specs.Selects.{as_informational, as_withdrawn, has_name, has_source, has_version, in_collection, is_severe, of_year, on_arch, on_os, selects}
 use Rattle.rustsec_database.proofs.Places.{narrow}
-use Rattle.rustsec_database.specs.Kept.{IsKept, KeptValue, touches, touches_any}
+use Rattle.rustsec_database.specs.Kept.{touches, touches_any}
 use Rattle.rustsec_database.specs.Loaded.{AreLoaded}
 use Rattle.rustsec_report.proofs.EndToEnd.{report-chain}
 use Rattle.rustsec_report.specs.EndToEnd.{IsReportOf}
@@ -80,13 +80,13 @@ report-kept advisories packages s =
       warnings = warnings_by_kind s (without s.ignore (map as_vulnerability (two i)));
     }
 
-pub kept-report : (r : Report) (all : List Advisory) (packages : List PackageValue) (s : Settings) (k : KeptValue)
-    → r ≡ report_of k.advisories packages s → IsKept (touches_any packages) all k → r ≡ report_of all packages s
-kept-report r all packages s k is kept =
-    is ∙ (ap (λ (advisories : List Advisory). report_of advisories packages s) kept.advisories ∙ report-kept all packages s)
+pub kept-report : (r : Report) (all kept : List Advisory) (packages : List PackageValue) (s : Settings)
+    → r ≡ report_of kept packages s → kept ≡ filter (touches_any packages) all → r ≡ report_of all packages s
+kept-report r all kept packages s is same =
+    is ∙ (ap (λ (advisories : List Advisory). report_of advisories packages s) same ∙ report-kept all packages s)
 
-pub kept-chain : (r : Report) (all : List Advisory) (packages : List PackageValue) (s : Settings) (k : KeptValue)
-    → r ≡ report_of k.advisories packages s → (files : List SourceFile) (table : Members) → IsKept (touches_any packages) all k → AreLoaded files all
+pub kept-chain : (r : Report) (all kept : List Advisory) (packages : List PackageValue) (s : Settings)
+    → r ≡ report_of kept packages s → (files : List SourceFile) (table : Members) → kept ≡ filter (touches_any packages) all → AreLoaded files all
     → packages_of table ≡ Some packages → IsReportOf files table s r
-kept-chain r all packages s k is files table kept loaded locked =
-    report-chain r all packages s (kept-report r all packages s k is kept) files table loaded locked
+kept-chain r all kept packages s is files table same loaded locked =
+    report-chain r all packages s (kept-report r all kept packages s is same) files table loaded locked

@@ -1,5 +1,6 @@
 -- The outputs of the commands over a database and a lockfile.
 use Rattle.std.specs.Prelude.{◌≡◌, ◌≢◌, ◌⊎◌, ℕ, List, [], ◌∷◌, Some, None, if◌then◌else◌}
+use Rattle.std.specs.List.{filter}
 use Rattle.rustsec_values.specs.Reading.{read_all}
 use Rattle.rustsec_error.specs.Failure.{Failure}
 use Rattle.rustsec_error.specs.declared.error.ErrorKind.TheVariants as kind
@@ -12,7 +13,7 @@ use Rattle.rustsec_advisory.specs.declared.advisory.Advisory.{Advisory}
 use Rattle.rustsec_folders.specs.Allowed.{Allowed}
 use Rattle.rustsec_folders.specs.Listed.{Listed}
 use Rattle.rustsec_folders.specs.declared.source_file.SourceFile.{SourceFile}
-use Rattle.rustsec_database.specs.Kept.{AreOpenedFor, IsKept, KeptValue, touches_any}
+use Rattle.rustsec_database.specs.Kept.{touches_any}
 use Rattle.rustsec_database.specs.Loaded.{AreLoaded}
 use Rattle.rustsec_database.specs.Opened.{AreOpened, IsOpenRefusal}
 use Rattle.rustsec_report.specs.EndToEnd.{IsReportOf, IsReportOfText}
@@ -42,15 +43,25 @@ abbrev pub IsReportOfPaths : Allowed → List ℕ → List ℕ → Settings → 
 IsReportOfPaths allowed root lock s r =
     (files : List SourceFile) × (Listed allowed root (Some files) × ((text : List ℕ) × (allowed.reads lock (Some text) × IsReportOfText files text s r)))
 
--- what was kept of the database under a root for the lockfile at a path, and the packages of that lockfile
-abbrev pub AreReadFrom : Allowed → List ℕ → List ℕ → KeptValue → List PackageValue → Type 0
-AreReadFrom allowed root lock k packages = AreOpenedFor allowed root (touches_any packages) k × IsLockfileAt allowed lock packages
+-- the packages of a lockfile, and some advisories
+pub record InputsValue : Type 0 where
+  pub advisories : List Advisory
+  pub packages : List PackageValue
 
--- the report of all files and tables that give what was kept and these packages
-abbrev pub IsReportByKept : KeptValue → List PackageValue → Settings → Report → Type 0
-IsReportByKept k packages s r =
-    (all : List Advisory) (files : List SourceFile) (table : Members) → IsKept (touches_any packages) all k → AreLoaded files all
-    → packages_of table ≡ Some packages → IsReportOf files table s r
+-- the advisories are those of all that affect one of the packages
+abbrev pub AreAffecting : List Advisory → InputsValue → Type 0
+AreAffecting all i = i.advisories ≡ filter (touches_any i.packages) all
+
+-- the packages of the lockfile at a path, and the advisories under a root that affect one of them
+abbrev pub AreReadFrom : Allowed → List ℕ → List ℕ → InputsValue → Type 0
+AreReadFrom allowed root lock i =
+    ((all : List Advisory) × (AreOpened allowed root all × AreAffecting all i)) × IsLockfileAt allowed lock i.packages
+
+-- the report of all files and tables that give these advisories and packages
+abbrev pub IsReportByKept : InputsValue → Settings → Report → Type 0
+IsReportByKept i s r =
+    (all : List Advisory) (files : List SourceFile) (table : Members) → AreAffecting all i → AreLoaded files all
+    → packages_of table ≡ Some i.packages → IsReportOf files table s r
 
 -- why there is no report: the database under the root is refused; or it opens, and the lockfile at its path is refused
 abbrev pub IsReportRefusal : Allowed → List ℕ → List ℕ → Failure → Type 0

@@ -8,12 +8,13 @@ ghost use Rattle.rustsec_commands.specs.command.Reports.{IsAuditOutput, IsOutput
 use crate::args::options;
 use crate::command::audit::advice::advice;
 use crate::command::audit::text::audit_output;
-use crate::command::report::inputs::{NotedReport, read_inputs};
+use crate::command::report::inputs::read_inputs;
 use crate::command::report::overview::Paths;
 use crate::command::report::settings_with;
 use crate::error_output::{misuse, refusal_output};
 use crate::output::{Output, usage_output};
 use rustsec_folders::Folders;
+use rustsec_report::ReportRef;
 use rustsec_texts::Id;
 use rustsec_values::Items;
 use std::alloc::{AllocError, Global};
@@ -22,10 +23,14 @@ pub(crate) mod advice;
 pub(crate) mod text;
 
 /// Returns what helps against what a report found, and after it what the report looked at.
-fn advice_and_note(alloc: Global, noted: &NotedReport<'_>) -> rustsec_error::Result<String> {
-    let mut note = advice(alloc, &noted.report)?;
-    if let Some(looked) = &noted.note {
-        note.push_str(looked)?;
+fn advice_and_note(
+    alloc: Global,
+    report: &ReportRef<'_>,
+    looked: Option<String>,
+) -> rustsec_error::Result<String> {
+    let mut note = advice(alloc, report)?;
+    if let Some(looked) = looked {
+        note.push_str(&looked)?;
     }
     Ok(note)
 }
@@ -34,12 +39,13 @@ fn advice_and_note(alloc: Global, noted: &NotedReport<'_>) -> rustsec_error::Res
 fn advised_output(
     alloc: Global,
     deny_warnings: bool,
-    noted: &NotedReport<'_>,
+    report: &ReportRef<'_>,
+    looked: Option<String>,
 ) -> Result<Output, AllocError>
-    ensures { IfOk result (λ o. o ≡ audit_output deny_warnings noted.now) }
+    ensures { IfOk result (λ o. o ≡ audit_output deny_warnings report.now) }
 {
-    let output = audit_output(alloc, deny_warnings, &noted.report)?;
-    Ok(output.with_note(advice_and_note(alloc, noted).ok()))
+    let output = audit_output(alloc, deny_warnings, report)?;
+    Ok(output.with_note(advice_and_note(alloc, report, looked).ok()))
 }
 
 /// The parsed options of `audit`: the IDs that are ignored, and whether a warning is as bad as a
@@ -67,10 +73,10 @@ fn audit_with<F: Folders>(
     } = wanted;
     let settings = settings_with(alloc, ignored)?;
     let paths = Paths { root, lock };
-    match read_inputs(alloc, folders, paths) {
-        Ok(inputs) => {
-            let noted = inputs.report(alloc, folders, paths, &settings)?;
-            advised_output(alloc, deny_warnings, &noted)
+    match read_inputs(alloc, folders, paths, settings.ignore.as_slice()) {
+        Ok((inputs, looked)) => {
+            let report = inputs.report(alloc, &settings)?;
+            advised_output(alloc, deny_warnings, &report, looked)
         }
         Err(error) => refusal_output(alloc, &error),
     }

@@ -6,7 +6,7 @@ ghost use Rattle.rustsec_report.specs.Trees.{report_tree};
 ghost use Rattle.rustsec_commands.specs.command.Reports.{IsReportOutput, report_output, settings_with};
 ghost use Rattle.rustsec_commands.specs.Output.{tree_line};
 
-use crate::command::report::inputs::{NotedReport, read_inputs};
+use crate::command::report::inputs::read_inputs;
 use crate::command::report::overview::Paths;
 use crate::error_output::refusal_output;
 use crate::output::Output;
@@ -55,12 +55,16 @@ pub fn settings_with(alloc: Global, ignored: Items<Id>) -> Result<Settings, Allo
     Ok(settings)
 }
 
-/// Makes the output of `report` for a report, with the note on what it looked at.
-fn noted_output(alloc: Global, noted: NotedReport<'_>) -> Result<Output, AllocError>
-    ensures { IfOk result (λ o. o ≡ report_output noted.entry) }
+/// Makes the output of `report` for a report, with a note.
+fn noted_output(
+    alloc: Global,
+    report: &ReportRef<'_>,
+    note: Option<String>,
+) -> Result<Output, AllocError>
+    ensures { IfOk result (λ o. o ≡ report_output report.now) }
 {
-    let output = report_output(alloc, &noted.report)?;
-    Ok(output.with_note(noted.note))
+    let output = report_output(alloc, report)?;
+    Ok(output.with_note(note))
 }
 
 /// Makes the output of `report` for a root and the path of a lockfile.
@@ -75,10 +79,10 @@ pub fn report<F: Folders>(
 {
     let settings = settings_with(alloc, Items::new(alloc))?;
     let paths = Paths { root, lock };
-    match read_inputs(alloc, folders, paths) {
-        Ok(inputs) => {
-            let noted = inputs.report(alloc, folders, paths, &settings)?;
-            noted_output(alloc, noted)
+    match read_inputs(alloc, folders, paths, &[]) {
+        Ok((inputs, note)) => {
+            let report = inputs.report(alloc, &settings)?;
+            noted_output(alloc, &report, note)
         }
         Err(error) => refusal_output(alloc, &error),
     }

@@ -1,5 +1,6 @@
 -- The output of `audit` for an ID that is refused; the report on a lockfile that is read before the database is opened.
-use Rattle.std.proofs.Common.{◌≡◌, ◌≢◌, ◌∙◌, ℕ, Bool, List, None, Some, ap, inl, inr, subst}
+use Rattle.std.proofs.Common.{◌≡◌, ◌≢◌, ◌∙◌, ℕ, Bool, List, None, Some, ap, inl, inr}
+use Rattle.std.specs.List.{filter}
 use Rattle.rustsec_values.specs.Reading.{read_all}
 use Rattle.rustsec_error.specs.Failure.{Failure, IsRefusal}
 use Rattle.rustsec_error.specs.declared.error.ErrorKind.TheVariants as kind
@@ -12,14 +13,14 @@ use Rattle.rustsec_lock.specs.Lockfile.{IsLockfileAt, IsLockfileRefusal}
 use Rattle.rustsec_lock.specs.Package.{PackageValue}
 use Rattle.rustsec_texts.specs.Ids.{id_of}
 use Rattle.rustsec_advisory.specs.declared.advisory.Advisory.{Advisory}
-use Rattle.rustsec_database.specs.Kept.{AreOpenedFor, IsKept, KeptValue, touches_any}
+use Rattle.rustsec_database.specs.Kept.{AreOpenedFor, KeptValue, touches_any}
 use Rattle.rustsec_database.specs.Opened.{IsOpenRefusal}
 use Rattle.rustsec_report.proofs.EndToEnd.{report-of-text}
 use Rattle.rustsec_report.specs.declared.report.Report.{Report}
 use Rattle.rustsec_report.specs.declared.settings.Settings.{Settings}
 use Rattle.rustsec_commands.specs.args.Options.{Options, options_of}
 use Rattle.rustsec_commands.specs.Output.{Output, refused_as}
-use Rattle.rustsec_commands.specs.command.Reports.{AreReadFrom, IsAuditOutput, IsReportByKept, IsReportOfPaths, IsReportRefusal, misread}
+use Rattle.rustsec_commands.specs.command.Reports.{AreReadFrom, InputsValue, IsAuditOutput, IsReportByKept, IsReportOfPaths, IsReportRefusal, misread}
 
 pub misread-by : (allowed : Allowed) (root lock : List ℕ) (words : List (List ℕ)) (o : Output) (p : Options) (e : Failure) → options_of words ≡ Some p
     → IsRefusal kind.Parse (read_all id_of p.ignored ≡ None) e → e.kind ≢ kind.OutOfMemory → o ≡ refused_as e.kind → IsAuditOutput allowed root lock words o
@@ -51,17 +52,18 @@ refused-before a b root e same (inr (files, (listed, fault))) = inr (files, (lis
 -- ---- the report on a lockfile that was read before the database was opened
 
 -- the packages for which advisories were kept are those of the lockfile
-pub read-from : (a b : Allowed) (root lock : List ℕ) (read packages : List PackageValue) (k : KeptValue)
-    → AllowSame a b → AreOpenedFor b root (touches_any read) k → read ≡ packages → IsLockfileAt a lock packages → AreReadFrom a root lock k packages
-read-from a b root lock read packages k same (all, ((files, (listed, load)), kept)) is there = (
-  (all, ((files, (listed-before a b root files same listed, load)), subst (λ (ps : List PackageValue). IsKept (touches_any ps) all k) is kept)),
+pub read-from : (a b : Allowed) (root lock : List ℕ) (read packages : List PackageValue) (k : KeptValue) (advisories : List Advisory)
+    → AllowSame a b → AreOpenedFor b root (touches_any read) k → advisories ≡ k.advisories → read ≡ packages → IsLockfileAt a lock packages
+    → AreReadFrom a root lock (record { advisories = advisories; packages = packages })
+read-from a b root lock read packages k advisories same (all, ((files, (listed, load)), kept)) are is there = (
+  (all, ((files, (listed-before a b root files same listed, load)), are ∙ (kept.advisories ∙ ap (λ (ps : List PackageValue). filter (touches_any ps) all) is))),
   there,
 )
 
-pub report-of-paths : (allowed : Allowed) (root lock : List ℕ) (s : Settings) (packages : List PackageValue) (k : KeptValue) (r : Report)
-    → AreReadFrom allowed root lock k packages → IsReportByKept k packages s r → IsReportOfPaths allowed root lock s r
-report-of-paths allowed root lock s packages k r ((all, ((files, (listed, load)), kept)), (text, (there, locked))) by =
-    (files, (listed, (text, (there, report-of-text files text s all packages r load locked (λ fs table loaded holds. by all fs table kept loaded holds)))))
+pub report-of-paths : (allowed : Allowed) (root lock : List ℕ) (s : Settings) (i : InputsValue) (r : Report)
+    → AreReadFrom allowed root lock i → IsReportByKept i s r → IsReportOfPaths allowed root lock s r
+report-of-paths allowed root lock s i r ((all, ((files, (listed, load)), kept)), (text, (there, locked))) by =
+    (files, (listed, (text, (there, report-of-text files text s all i.packages r load locked (λ fs table loaded holds. by all fs table kept loaded holds)))))
 
 pub lockfile-refused : (a b : Allowed) (root lock : List ℕ) (test : Advisory → Bool) (k : KeptValue) (e : Failure) → AllowSame a b
     → AreOpenedFor b root test k → IsLockfileRefusal a lock e → IsReportRefusal a root lock e

@@ -8,47 +8,37 @@ ghost use Rattle.rustsec_database.specs.Opened.{IsOpenRefusal};
 ghost use Rattle.rustsec_commands.specs.command.Reports.{AreReadFrom, IsReportByKept, IsReportRefusal};
 
 use crate::command::report::overview::{LookedAt, Paths, overview};
-use rustsec_database::{KeptDatabase, Locked};
+use rustsec_database::{Database, KeptDatabase, Locked};
 use rustsec_folders::Folders;
 use rustsec_lock::Lockfile;
 use rustsec_lock::package::Package;
 use rustsec_report::{ReportRef, Settings};
+use rustsec_texts::Id;
 use std::alloc::{AllocError, Global};
 use std::marker::Model;
 
-/// A lockfile, and what was kept of a database for it.
+/// A lockfile, and the advisories of a database that affect one of its packages.
 pub struct Inputs {
-    /// What was kept of the database.
-    pub kept: KeptDatabase,
-    /// The lockfile.
-    pub lockfile: Lockfile,
+    database: Database,
+    lockfile: Lockfile,
+}
+
+impl Model for Inputs {
+    ghost use Rattle.rustsec_commands.specs.command.Reports.{InputsValue};
+
+    ghost Value = { InputsValue };
+
+    ghost view = { λ i. record { advisories = i.database; packages = i.lockfile.packages } };
 }
 
 /// Hand-written: a derived `Drop` is proved again, field by field, at every exit of every owner.
 impl Drop for Inputs {
     fn drop(self) {
         let Inputs {
-            kept: _,
+            database: _,
             lockfile: _,
         } = self;
     }
-}
-
-/// A report, and a note on what it looked at. Contracts see the report alone.
-#[derive(Drop)]
-pub struct NotedReport<'a> {
-    /// The report.
-    pub report: ReportRef<'a>,
-    /// What it looked at, in lines for the error output; `None` if there was no memory for it.
-    pub note: Option<String>,
-}
-
-impl<'a> Model for NotedReport<'a> {
-    ghost use Rattle.rustsec_report.specs.declared.report.Report as given;
-
-    ghost Value = { given.Report };
-
-    ghost view = { λ n. n.report };
 }
 
 /// Returns the packages of a lockfile that was read, or none if it was refused.
@@ -79,7 +69,8 @@ fn kept_for<F: Folders>(
 
 /// Reads the lockfile at a path, and opens the database under a root, both through `folders`. The lockfile is read first,
 /// so that of the advisories only those are kept that affect one of its packages. A refusal of the database is the answer
-/// also if the lockfile was refused.
+/// also if the lockfile was refused. Beside what was read a note is returned, in lines for the error output: what was
+/// looked at, and which of the ignored IDs no advisory has. It is `None` if there was no memory for it.
 ///
 /// # Errors
 ///
@@ -88,45 +79,42 @@ pub fn read_inputs<F: Folders>(
     alloc: Global,
     folders: &mut F,
     paths: Paths<'_>,
-) -> rustsec_error::Result<Inputs>
-    ensures ok { IfOk result (λ i. AreReadFrom (F.allowed folders.old) paths.entry.root.now paths.entry.lock.now i.kept i.lockfile.packages) }
+    ignored: &[Id],
+) -> rustsec_error::Result<(Inputs, Option<String>)>
+    ensures ok { IfOk result (λ r. AreReadFrom (F.allowed folders.old) paths.entry.root.now paths.entry.lock.now r.0) }
     ensures err { IfErr result (IsReportRefusal (F.allowed folders.old) paths.entry.root.now paths.entry.lock.now) }
     ensures same { AllowSame (F.allowed folders.old) (F.allowed folders.new) }
 {
     let read = Lockfile::load_with(alloc, folders, paths.lock);
     let kept = kept_for(alloc, folders, paths.root, &read)?;
     let lockfile = read?;
-    Ok(Inputs { kept, lockfile })
+    let looked_at = LookedAt {
+        paths,
+        kept: &kept,
+        lockfile: &lockfile,
+        ignored,
+    };
+    let note = overview(alloc, folders, looked_at).ok();
+    let database = kept.into_database();
+    Ok((Inputs { database, lockfile }, note))
 }
 
 impl Inputs {
-    /// Generates the report, as references into the inputs, with a note on what it looked at. `paths` are those that the
-    /// inputs were read from. The clause is about a database that was kept for this lockfile.
+    /// Generates the report, as references into the inputs.
     ///
     /// # Errors
     ///
     /// Out of memory.
-    pub fn report<'a, F: Folders>(
+    pub fn report<'a>(
         &'a self,
         alloc: Global,
-        folders: &mut F,
-        paths: Paths<'_>,
         settings: &'a Settings,
-    ) -> Result<NotedReport<'a>, AllocError>
-        ensures ok { IfOk result (IsReportByKept self.now.kept self.now.lockfile.packages settings.now) }
-        ensures same { AllowSame (F.allowed folders.old) (F.allowed folders.new) }
+    ) -> Result<ReportRef<'a>, AllocError>
+        ensures { IfOk result (IsReportByKept self.now settings.now) }
     {
-        let Ok(report) = ReportRef::generate_kept(alloc, &self.kept, &self.lockfile, settings)
-        else {
-            return Err(AllocError);
-        };
-        let looked_at = LookedAt {
-            paths,
-            kept: &self.kept,
-            lockfile: &self.lockfile,
-            ignored: settings.ignore.as_slice(),
-        };
-        let note = overview(alloc, folders, looked_at).ok();
-        Ok(NotedReport { report, note })
+        match ReportRef::generate_kept(alloc, &self.database, &self.lockfile, settings) {
+            Ok(report) => Ok(report),
+            Err(_) => Err(AllocError),
+        }
     }
 }

@@ -5,9 +5,9 @@ use Rattle.rustsec_commands.proofs.command.audit.audit_with.Goals as goal
 
 pub returns-in-Ok-clause-ok : goal.returns-in-Ok-clause-ok
 returns-in-Ok-clause-ok g c =
-    let by = rw c.in_ok-settings.ensures at c.in_ok-noted-in-Ok.ensures.ok in
-    let is = report-of-paths (g.F.Folders.allowed c.args.folders.now) c.args.root.now c.args.lock.now _ _ _ c.in_ok-noted-in-Ok.noted c.in-Ok.ensures.ok by in
-    IfOk-weaker c.advised_output.result _ _ (λ o h. reported c.in_ok-noted-in-Ok.noted is h) c.advised_output.ensures
+    let by = rw c.in_ok-settings.ensures at c.in_ok-report-in-Ok.ensures in
+    let is = report-of-paths (g.F.Folders.allowed c.args.folders.now) c.args.root.now c.args.lock.now _ _ c.in_ok-report-in-Ok.report c.in-Ok.ensures.ok by in
+    IfOk-weaker c.advised_output.result _ _ (λ o h. reported c.in_ok-report-in-Ok.report is h) c.advised_output.ensures
 
 pub returns-clause-ok : goal.returns-clause-ok
 returns-clause-ok g c =

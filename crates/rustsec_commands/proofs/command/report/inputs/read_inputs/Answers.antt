@@ -9,7 +9,8 @@ use Rattle.rustsec_commands.proofs.command.report.inputs.read_inputs.Goals as go
 pub returns-clause-ok : goal.returns-clause-ok
 returns-clause-ok g c =
     let (read, (opened, same)) = c.in_ok-kept.ensures.ok in
-    read-from _ _ c.args.paths.root.now c.args.paths.lock.now read c.in_ok-lockfile.lockfile.packages c.in_ok-kept.kept c.load_with-read.ensures.same opened
+    read-from _ _ c.args.paths.root.now c.args.paths.lock.now read c.in_ok-lockfile.lockfile.packages c.in_ok-kept.kept c.into_database-database.result
+    c.load_with-read.ensures.same opened c.into_database-database.ensures
     (subst (λ r. IfOk r (λ l. read ≡ l.packages)) c.in_ok-lockfile.was same)
     (subst (λ r. IfOk r (λ l. IsLockfileAt (g.F.Folders.allowed c.args.folders.now) c.args.paths.lock.now l.packages)) c.in_ok-lockfile.was
     c.load_with-read.ensures.ok)
