@@ -1,8 +1,8 @@
 -- The report by the advisories that affect a package of the lockfile is the report by all advisories.
-use Rattle.std.proofs.Common.{◌≡◌, ◌∙◌, ◌&&◌, ◌||◌, ◌++◌, Bool, true, false, List, [], ◌∷◌, Some, ℕ, map, nat_eq, refl, sym, ap, subst}
+use Rattle.std.proofs.Common.{◌≡◌, ◌∙◌, ◌&&◌, ◌||◌, ◌++◌, Bool, true, false, List, [], ◌∷◌, Some, map, nat_eq, refl, sym, ap}
 use Rattle.std.specs.Cmp.{first_so, second_so}
 use Rattle.std.specs.Cmp.Lexicographic.{bytes_decides, pointwise}
-use Rattle.std.specs.List.{filter, flat_map, list_any}
+use Rattle.std.specs.List.{filter}
 use Rattle.toml.specs.Data.{Members}
 use Rattle.rustsec_folders.specs.declared.source_file.SourceFile.{SourceFile}
 use Rattle.rustsec_versions.specs.acceptance.Lists.{affected}
@@ -80,7 +80,7 @@ report-kept advisories packages s =
       warnings = warnings_by_kind s (without s.ignore (map as_vulnerability (two i)));
     }
 
-pub kept-report : (r : Report) (all kept : List Advisory) (packages : List PackageValue) (s : Settings)
+kept-report : (r : Report) (all kept : List Advisory) (packages : List PackageValue) (s : Settings)
     → r ≡ report_of kept packages s → kept ≡ filter (touches_any packages) all → r ≡ report_of all packages s
 kept-report r all kept packages s is same =
     is ∙ (ap (λ (advisories : List Advisory). report_of advisories packages s) same ∙ report-kept all packages s)

@@ -1,15 +1,7 @@
 //! Reports as references: what they list is not copied.
 
-ghost use Rattle.std.specs.Prelude.{◌≡◌, IfErr, IfOk, List, Some, map};
-ghost use Rattle.std.specs.List.{filter};
-ghost use Rattle.toml.specs.Data.{Members};
+ghost use Rattle.std.specs.Prelude.{◌≡◌, IfErr, IfOk, map};
 ghost use Rattle.rustsec_error.specs.Failure.{IsMemory};
-ghost use Rattle.rustsec_folders.specs.declared.source_file.SourceFile.{SourceFile};
-ghost use Rattle.rustsec_lock.specs.Lockfile.{packages_of};
-ghost use Rattle.rustsec_advisory.specs.declared.advisory.Advisory as given;
-ghost use Rattle.rustsec_database.specs.Kept.{touches_any};
-ghost use Rattle.rustsec_database.specs.Loaded.{AreLoaded};
-ghost use Rattle.rustsec_report.specs.EndToEnd.{IsReportOf};
 ghost use Rattle.rustsec_query.specs.Pairs.{as_vulnerability};
 ghost use Rattle.rustsec_report.specs.Report.{report_of, vulnerabilities, warnings};
 
@@ -188,29 +180,5 @@ impl<'a> ReportRef<'a> {
             vulnerabilities,
             warnings,
         })
-    }
-
-    /// Returns the report of a lockfile by a database that was kept for it: only the advisories that affect one of its
-    /// packages are there. It is the report by all advisories.
-    ///
-    /// # Errors
-    ///
-    /// `OutOfMemory` alone.
-    pub fn generate_kept(
-        alloc: Global,
-        kept: &'a Database,
-        lockfile: &'a Lockfile,
-        settings: &'a Settings,
-    ) -> Result<ReportRef<'a>>
-        ensures ok { IfOk result (λ r. (all : List given.Advisory) → kept.now ≡ filter (touches_any lockfile.now.packages) all
-            → r ≡ report_of all lockfile.now.packages settings.now) }
-
-        // It is the report of any files that give these advisories and any table that gives these packages.
-        ensures chain { IfOk result (λ r. (all : List given.Advisory) (files : List SourceFile) (table : Members)
-            → kept.now ≡ filter (touches_any lockfile.now.packages) all → AreLoaded files all
-            → packages_of table ≡ Some lockfile.now.packages → IsReportOf files table settings.now r) }
-        ensures err { IfErr result IsMemory }
-    {
-        ReportRef::generate(alloc, kept, lockfile, settings)
     }
 }

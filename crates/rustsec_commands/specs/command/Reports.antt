@@ -4,8 +4,7 @@ use Rattle.std.specs.List.{filter}
 use Rattle.rustsec_values.specs.Reading.{read_all}
 use Rattle.rustsec_error.specs.Failure.{Failure}
 use Rattle.rustsec_error.specs.declared.error.ErrorKind.TheVariants as kind
-use Rattle.toml.specs.Data.{Members}
-use Rattle.rustsec_lock.specs.Lockfile.{IsLockfileAt, IsLockfileRefusal, packages_of}
+use Rattle.rustsec_lock.specs.Lockfile.{IsLockfileAt, IsLockfileRefusal}
 use Rattle.rustsec_lock.specs.Package.{PackageValue}
 use Rattle.rustsec_texts.specs.Ids.{IdValue, id_of}
 use Rattle.rustsec_texts.specs.declared.informational.Informational.TheVariants as informational
@@ -14,9 +13,8 @@ use Rattle.rustsec_folders.specs.Allowed.{Allowed}
 use Rattle.rustsec_folders.specs.Listed.{Listed}
 use Rattle.rustsec_folders.specs.declared.source_file.SourceFile.{SourceFile}
 use Rattle.rustsec_database.specs.Kept.{touches_any}
-use Rattle.rustsec_database.specs.Loaded.{AreLoaded}
 use Rattle.rustsec_database.specs.Opened.{AreOpened, IsOpenRefusal}
-use Rattle.rustsec_report.specs.EndToEnd.{IsReportOf, IsReportOfText}
+use Rattle.rustsec_report.specs.EndToEnd.{IsReportOfText}
 use Rattle.rustsec_report.specs.Trees.{report_tree}
 use Rattle.rustsec_report.specs.declared.report.Report.{Report}
 use Rattle.rustsec_report.specs.declared.settings.Settings.{Settings}
@@ -56,12 +54,6 @@ AreAffecting all i = i.advisories ≡ filter (touches_any i.packages) all
 abbrev pub AreReadFrom : Allowed → List ℕ → List ℕ → InputsValue → Type 0
 AreReadFrom allowed root lock i =
     ((all : List Advisory) × (AreOpened allowed root all × AreAffecting all i)) × IsLockfileAt allowed lock i.packages
-
--- the report of all files and tables that give these advisories and packages
-abbrev pub IsReportByKept : InputsValue → Settings → Report → Type 0
-IsReportByKept i s r =
-    (all : List Advisory) (files : List SourceFile) (table : Members) → AreAffecting all i → AreLoaded files all
-    → packages_of table ≡ Some i.packages → IsReportOf files table s r
 
 -- why there is no report: the database under the root is refused; or it opens, and the lockfile at its path is refused
 abbrev pub IsReportRefusal : Allowed → List ℕ → List ℕ → Failure → Type 0

@@ -26,11 +26,11 @@ pub(crate) mod text;
 fn advice_and_note(
     alloc: Global,
     report: &ReportRef<'_>,
-    looked: Option<String>,
+    overview: Option<String>,
 ) -> rustsec_error::Result<String> {
     let mut note = advice(alloc, report)?;
-    if let Some(looked) = looked {
-        note.push_str(&looked)?;
+    if let Some(overview) = overview {
+        note.push_str(&overview)?;
     }
     Ok(note)
 }
@@ -40,12 +40,12 @@ fn advised_output(
     alloc: Global,
     deny_warnings: bool,
     report: &ReportRef<'_>,
-    looked: Option<String>,
+    overview: Option<String>,
 ) -> Result<Output, AllocError>
     ensures { IfOk result (λ o. o ≡ audit_output deny_warnings report.now) }
 {
     let output = audit_output(alloc, deny_warnings, report)?;
-    Ok(output.with_note(advice_and_note(alloc, report, looked).ok()))
+    Ok(output.with_note(advice_and_note(alloc, report, overview).ok()))
 }
 
 /// The parsed options of `audit`: the IDs that are ignored, and whether a warning is as bad as a
@@ -74,9 +74,9 @@ fn audit_with<F: Folders>(
     let settings = settings_with(alloc, ignored)?;
     let paths = Paths { root, lock };
     match read_inputs(alloc, folders, paths, settings.ignore.as_slice()) {
-        Ok((inputs, looked)) => {
+        Ok((inputs, overview)) => {
             let report = inputs.report(alloc, &settings)?;
-            advised_output(alloc, deny_warnings, &report, looked)
+            advised_output(alloc, deny_warnings, &report, overview)
         }
         Err(error) => refusal_output(alloc, &error),
     }

@@ -55,16 +55,16 @@ pub fn settings_with(alloc: Global, ignored: Items<Id>) -> Result<Settings, Allo
     Ok(settings)
 }
 
-/// Makes the output of `report` for a report, with a note.
+/// Makes the output of `report` for a report, with the note on what it looked at.
 fn noted_output(
     alloc: Global,
     report: &ReportRef<'_>,
-    note: Option<String>,
+    overview: Option<String>,
 ) -> Result<Output, AllocError>
     ensures { IfOk result (λ o. o ≡ report_output report.now) }
 {
     let output = report_output(alloc, report)?;
-    Ok(output.with_note(note))
+    Ok(output.with_note(overview))
 }
 
 /// Makes the output of `report` for a root and the path of a lockfile.
@@ -79,10 +79,10 @@ pub fn report<F: Folders>(
 {
     let settings = settings_with(alloc, Items::new(alloc))?;
     let paths = Paths { root, lock };
-    match read_inputs(alloc, folders, paths, &[]) {
-        Ok((inputs, note)) => {
+    match read_inputs(alloc, folders, paths, settings.ignore.as_slice()) {
+        Ok((inputs, overview)) => {
             let report = inputs.report(alloc, &settings)?;
-            noted_output(alloc, &report, note)
+            noted_output(alloc, &report, overview)
         }
         Err(error) => refusal_output(alloc, &error),
     }

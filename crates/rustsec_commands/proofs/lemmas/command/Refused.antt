@@ -16,11 +16,13 @@ use Rattle.rustsec_advisory.specs.declared.advisory.Advisory.{Advisory}
 use Rattle.rustsec_database.specs.Kept.{AreOpenedFor, KeptValue, touches_any}
 use Rattle.rustsec_database.specs.Opened.{IsOpenRefusal}
 use Rattle.rustsec_report.proofs.EndToEnd.{report-of-text}
+use Rattle.rustsec_report.proofs.KeptReports.{kept-chain}
+use Rattle.rustsec_report.specs.Report.{report_of}
 use Rattle.rustsec_report.specs.declared.report.Report.{Report}
 use Rattle.rustsec_report.specs.declared.settings.Settings.{Settings}
 use Rattle.rustsec_commands.specs.args.Options.{Options, options_of}
 use Rattle.rustsec_commands.specs.Output.{Output, refused_as}
-use Rattle.rustsec_commands.specs.command.Reports.{AreReadFrom, InputsValue, IsAuditOutput, IsReportByKept, IsReportOfPaths, IsReportRefusal, misread}
+use Rattle.rustsec_commands.specs.command.Reports.{AreReadFrom, InputsValue, IsAuditOutput, IsReportOfPaths, IsReportRefusal, misread}
 
 pub misread-by : (allowed : Allowed) (root lock : List ℕ) (words : List (List ℕ)) (o : Output) (p : Options) (e : Failure) → options_of words ≡ Some p
     → IsRefusal kind.Parse (read_all id_of p.ignored ≡ None) e → e.kind ≢ kind.OutOfMemory → o ≡ refused_as e.kind → IsAuditOutput allowed root lock words o
@@ -61,9 +63,21 @@ read-from a b root lock read packages k advisories same (all, ((files, (listed, 
 )
 
 pub report-of-paths : (allowed : Allowed) (root lock : List ℕ) (s : Settings) (i : InputsValue) (r : Report)
-    → AreReadFrom allowed root lock i → IsReportByKept i s r → IsReportOfPaths allowed root lock s r
-report-of-paths allowed root lock s i r ((all, ((files, (listed, load)), kept)), (text, (there, locked))) by =
-    (files, (listed, (text, (there, report-of-text files text s all i.packages r load locked (λ fs table loaded holds. by all fs table kept loaded holds)))))
+    → AreReadFrom allowed root lock i → r ≡ report_of i.advisories i.packages s → IsReportOfPaths allowed root lock s r
+report-of-paths allowed root lock s i r ((all, ((files, (listed, load)), affecting)), (text, (there, locked))) is = (
+  files,
+  (
+    listed,
+    (
+      text,
+      (
+        there,
+        report-of-text files text s all i.packages r load locked
+            (λ fs table loaded holds. kept-chain r all i.advisories i.packages s is fs table affecting loaded holds),
+      ),
+    ),
+  ),
+)
 
 pub lockfile-refused : (a b : Allowed) (root lock : List ℕ) (test : Advisory → Bool) (k : KeptValue) (e : Failure) → AllowSame a b
     → AreOpenedFor b root test k → IsLockfileRefusal a lock e → IsReportRefusal a root lock e

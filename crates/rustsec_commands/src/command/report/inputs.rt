@@ -5,7 +5,8 @@ ghost use Rattle.rustsec_folders.specs.Allowed.{AllowSame};
 ghost use Rattle.rustsec_lock.specs.Package.{PackageValue};
 ghost use Rattle.rustsec_database.specs.Kept.{AreOpenedFor, touches_any};
 ghost use Rattle.rustsec_database.specs.Opened.{IsOpenRefusal};
-ghost use Rattle.rustsec_commands.specs.command.Reports.{AreReadFrom, IsReportByKept, IsReportRefusal};
+ghost use Rattle.rustsec_report.specs.Report.{report_of};
+ghost use Rattle.rustsec_commands.specs.command.Reports.{AreReadFrom, IsReportRefusal};
 
 use crate::command::report::overview::{LookedAt, Paths, overview};
 use rustsec_database::{Database, KeptDatabase, Locked};
@@ -17,7 +18,8 @@ use rustsec_texts::Id;
 use std::alloc::{AllocError, Global};
 use std::marker::Model;
 
-/// A lockfile, and the advisories of a database that affect one of its packages.
+/// A lockfile, and the advisories of a database that affect one of its packages. Contracts see these advisories and the
+/// packages.
 pub struct Inputs {
     database: Database,
     lockfile: Lockfile,
@@ -69,8 +71,8 @@ fn kept_for<F: Folders>(
 
 /// Reads the lockfile at a path, and opens the database under a root, both through `folders`. The lockfile is read first,
 /// so that of the advisories only those are kept that affect one of its packages. A refusal of the database is the answer
-/// also if the lockfile was refused. Beside what was read a note is returned, in lines for the error output: what was
-/// looked at, and which of the ignored IDs no advisory has. It is `None` if there was no memory for it.
+/// also if the lockfile was refused. Returns also a note on what was looked at, in lines for the error output, or `None` if
+/// there was no memory for it. `ignored` are the IDs that the settings of the report ignore. No contract mentions the note.
 ///
 /// # Errors
 ///
@@ -100,7 +102,7 @@ pub fn read_inputs<F: Folders>(
 }
 
 impl Inputs {
-    /// Generates the report, as references into the inputs.
+    /// Generates the report of the lockfile by these advisories, as references into the inputs.
     ///
     /// # Errors
     ///
@@ -110,9 +112,9 @@ impl Inputs {
         alloc: Global,
         settings: &'a Settings,
     ) -> Result<ReportRef<'a>, AllocError>
-        ensures { IfOk result (IsReportByKept self.now settings.now) }
+        ensures { IfOk result (λ r. r ≡ report_of self.now.advisories self.now.packages settings.now) }
     {
-        match ReportRef::generate_kept(alloc, &self.database, &self.lockfile, settings) {
+        match ReportRef::generate(alloc, &self.database, &self.lockfile, settings) {
             Ok(report) => Ok(report),
             Err(_) => Err(AllocError),
         }
