@@ -225,7 +225,7 @@ OF_LINT = [
 ]
 OF_OSV = [
     number_of_an_advisory, starts_of_an_advisory, source_that_is_no_address, message_cut_inside_a_character, empty_name,
-    star_alone, edition_of_toml, nesting, merged_patched_of_an_advisory, key_that_stands_twice,
+    star_alone, edition_of_toml, nesting, merged_patched_of_an_advisory, key_that_stands_twice, starts_before_a_refusal,
 ]
 OF_DATABASES = [
     number_of_an_advisory, starts_in_some_file, source_that_is_no_address, message_cut_inside_a_character, empty_name,
