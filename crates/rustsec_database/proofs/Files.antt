@@ -118,6 +118,12 @@ pub known-fault : (loaded : List Advisory) (path text : List ℕ) (a : Advisory)
 known-fault loaded path text a e filed stored known (inl is) = inl (inr (a, (filed, (stored, (known, is)))))
 known-fault loaded path text a e filed stored known (inr memory) = inr memory
 
+-- likewise if it was refused for that, or for memory
+pub refused-fault : (loaded : List Advisory) (path text : List ℕ) (a : Advisory) (e : Failure) → IsFiled path text a → is_stored a ≡ true
+    → ((is_known loaded a ≡ true) × IsOfKind kind.Parse e) ⊎ IsMemory e → IsAtFault loaded path text e.kind ⊎ IsMemory e
+refused-fault loaded path text a e filed stored (inl is) = known-fault loaded path text a e filed stored is.0 is.1
+refused-fault loaded path text a e filed stored (inr memory) = inr memory
+
 -- an advisory that was stored is added
 pub added : (loaded more : List Advisory) (path text : List ℕ) (a : Advisory) (n : ℕ) → IsFiled path text a → is_stored a ≡ true
     → is_known loaded a ≡ false → n ≡ length loaded → more ≡ loaded ++ a ∷ [] → IsAdded loaded path text (Some n) more

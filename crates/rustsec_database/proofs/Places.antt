@@ -178,7 +178,7 @@ module _ {A : Type 0} where
   any-step true c x o h = refl
   any-step false c x o h = h
 
-  find-any : (test : A → Bool) (xs : List A) → is_some (find test xs) ≡ list_any test xs
+  pub find-any : (test : A → Bool) (xs : List A) → is_some (find test xs) ≡ list_any test xs
   find-any test [] = refl
   find-any test (x ∷ xs) = any-step (test x) (list_any test xs) x (find test xs) (find-any test xs)
 

@@ -1,10 +1,10 @@
 -- The tables of a database after one more advisory is stored.
-use Rattle.std.proofs.Common.{◌≡◌, ◌∙◌, ◌+◌, ◌++◌, ◌&&◌, ℕ, Bool, true, false, cond, List, [], ◌∷◌, Option, Some, length, nat_eq, refl, subst, sym, ap, arith}
+use Rattle.std.proofs.Common.{◌≡◌, ◌∙◌, ◌+◌, ◌++◌, ◌&&◌, ◌||◌, ℕ, Bool, true, false, cond, IsSome, List, [], ◌∷◌, None, Option, Some, is_some, length, nat_eq, refl, subst, sym, ap, arith}
 use Rattle.std.specs.Cmp.{first_so, second_so}
 use Rattle.std.specs.Cmp.Lexicographic.{bytes_decides, pointwise}
 use Rattle.std.specs.HashMap as hash
 use Rattle.std.specs.HashMap.{HashMap, Updates}
-use Rattle.std.specs.List.{filter, list_any, position_from}
+use Rattle.std.specs.List.{filter, find, list_any, position_from}
 use Rattle.std.specs.Option.{option_eq}
 use denote.Enum.Bare.{sameb}
 use Rattle.rustsec_texts.specs.IdOrder.{id_decides, id_eq}
@@ -18,7 +18,7 @@ use Rattle.rustsec_query.specs.Selects.{as_informational, as_withdrawn, has_name
 use Rattle.rustsec_database.specs.Loaded.{has_id, is_known}
 use Rattle.rustsec_database.specs.Places.{IsIndexOf, IsTableOf, at_places, is_under, places_from}
 use Rattle.rustsec_database.specs.Slots.{slots_at, with_slot}
-use Rattle.rustsec_database.proofs.Places.{first-last, first-other, is-false, narrow, places-below, places-in, places-out, taken}
+use Rattle.rustsec_database.proofs.Places.{find-any, first-last, first-other, is-false, narrow, none-at, places-below, places-in, places-out, taken}
 use Rattle.rustsec_database.proofs.Slots.{with_slot-last}
 
 -- ---- the table of IDs
@@ -47,6 +47,28 @@ table-more old a id m n place same at updates new table q =
 
 pub empty-table : {S : Type 0} (m : HashMap IdValue ℕ S) → m.entries ≡ [] → IsTableOf [] m
 empty-table m e q = rw e refl
+
+some-step : (b : Bool) (i : ℕ) (o : Option ℕ) (r : Bool) → IsSome (cond b (Some i) o) → (IsSome o → r ≡ true) → (b || r) ≡ true
+some-step true i o r h more = refl
+some-step false i o r h more = more h
+
+some-any : (test : Advisory → Bool) (i : ℕ) (list : List Advisory) → IsSome (position_from test i list) → list_any test list ≡ true
+some-any test i [] h = absurd (cc h)
+some-any test i (a ∷ list) h = some-step (test a) i _ _ h (some-any test (i + 1) list)
+
+-- an ID that the table has is known
+pub known-in-table : {S : Type 0} (list : List Advisory) (a : Advisory) (id : IdValue) (m : HashMap IdValue ℕ S) → id ≡ a.metadata.id → IsTableOf list m
+    → IsSome (hash.get id_eq m id) → is_known list a ≡ true
+known-in-table list a id m same table there =
+    some-any (has_id a.metadata.id) 0 list (subst IsSome (table id ∙ ap (λ i. position_from (has_id i) 0 list) same) there)
+
+-- another ID is new
+pub new-in-table : {S : Type 0} (list : List Advisory) (a : Advisory) (id : IdValue) (m : HashMap IdValue ℕ S) → id ≡ a.metadata.id → IsTableOf list m
+    → hash.get id_eq m id ≡ None → is_known list a ≡ false
+new-in-table list a id m same table none =
+    let found : None ≡ find (has_id a.metadata.id) list =
+    none-at (has_id a.metadata.id) 0 list (sym none ∙ (table id ∙ ap (λ i. position_from (has_id i) 0 list) same)) in
+    sym (find-any (has_id a.metadata.id) list) ∙ ap is_some (sym found)
 
 -- ---- the index of a collection
 

@@ -145,13 +145,11 @@ fn all_matching<'a, T: Test<Advisory>>(
 ) -> std::result::Result<Vec<&'a Advisory>, AllocError>
     ensures { IfOk result (λ v. map (λ a. a.now) v.items ≡ filter (T.passes test.now) entries.now) }
 {
-    let mut found = Vec::new(alloc);
-    for advisory in entries.as_slice() {
-        if test.passes(advisory) {
-            found.push(advisory)?;
-        }
-    }
-    Ok(found)
+    entries
+        .as_slice()
+        .iter()
+        .filter(|advisory| test.passes(advisory))
+        .collect(alloc)
 }
 
 /// Returns whether a package is audited: whether its source is one of the two default registries.
@@ -209,7 +207,7 @@ impl Database {
             mut crates,
             mut rust,
         } = self;
-        let slot = entries.store(advisory)?;
+        let slot = entries.store(alloc, advisory)?;
         index_both(alloc, &entries, slot, &mut crates, &mut rust)?;
         Ok(Database {
             entries,

@@ -1,6 +1,7 @@
 //! The stored advisories, with a table that finds them by ID.
 
-ghost use Rattle.std.specs.Prelude.{◌≡◌, ◌++◌, ◌∷◌, ◌⊎◌, ◌<◌, ◌^◌, [], false, ℕ, IfErr, IfOk, IfSome, List, OnErr, OnOk, length, slice_get};
+ghost use Rattle.std.specs.Prelude.{◌≡◌, ◌++◌, ◌∷◌, ◌⊎◌, ◌<◌, ◌^◌, [], false, ℕ, IfErr, IfOk, IfSome, IsSome, List, None, OnErr, OnOk, Some, length, slice_get, true};
+ghost use Rattle.std.specs.HashMap as hash;
 ghost use Rattle.std.specs.Iterator.Adapters.{IterYieldsInOrder};
 ghost use Rattle.std.specs.List.{find};
 ghost use Rattle.std.specs.Option.{option_copied};
@@ -8,6 +9,7 @@ ghost use Rattle.std.specs.Slice.Iter.{iter_rest};
 ghost use Rattle.rustsec_files.specs.ReadFailures.{IsReadFailure};
 ghost use Rattle.rustsec_folders.specs.Allowed.{AllowSame, real_folders};
 ghost use Rattle.rustsec_error.specs.Failure.{IsMemory, IsOfKind};
+ghost use Rattle.rustsec_texts.specs.IdOrder.{id_eq};
 ghost use Rattle.rustsec_database.specs.Filing.{IsFiled};
 ghost use Rattle.rustsec_database.specs.Loaded.{IsAdded, IsAtFault, IsFault, IsOnlyWithId, has_id, is_known};
 ghost use Rattle.rustsec_database.specs.Opened.{IsAddedAt, IsFaultAt};
@@ -21,6 +23,7 @@ use rustsec_texts::Id;
 use rustsec_values::exact_copy;
 use std::alloc::{AllocError, Global};
 use std::collections::HashMap;
+use std::collections::hash_map::Entry;
 use std::marker::Model;
 use std::rt::Files;
 use std::{slice, vec};
@@ -55,6 +58,25 @@ pub(crate) fn duplicate(alloc: Global, id: &Id) -> Error
     }
 }
 
+/// Maps an ID to a slot, unless the ID has one. Returns whether it had none. One search finds both.
+fn put_new(
+    slots: &mut HashMap<Id, Slot>,
+    id: Id,
+    slot: Slot,
+) -> std::result::Result<bool, AllocError>
+    ensures new { IfOk result (λ new. new ≡ true → (hash.get id_eq slots.old id ≡ None) × hash.Updates id_eq slots.old slots.new id (Some slot)) }
+    ensures old { IfOk result (λ new. new ≡ false → IsSome (hash.get id_eq slots.old id) × (slots.new.entries ≡ slots.old.entries)) }
+    ensures kept { OnErr result (slots.new.entries ≡ slots.old.entries) }
+{
+    match slots.entry(id)? {
+        Entry::Occupied(_) => Ok(false),
+        Entry::Vacant(place) => {
+            place.insert(slot);
+            Ok(true)
+        }
+    }
+}
+
 impl Entries {
     /// Returns an empty list. It takes no memory.
     pub fn new(alloc: Global) -> Entries
@@ -66,19 +88,24 @@ impl Entries {
         }
     }
 
-    /// Appends an advisory whose ID is not stored yet, and returns its slot. On an error nothing is
-    /// changed: all memory is taken before the first change.
-    pub(crate) fn store(&mut self, advisory: Advisory) -> std::result::Result<Slot, AllocError>
-        requires { is_known self.old advisory ≡ false }
-        ensures ok { OnOk result (self.new ≡ self.old ++ advisory ∷ []) }
+    /// Appends an advisory and returns its slot.
+    ///
+    /// # Errors
+    ///
+    /// `Parse` if the ID is that of a stored advisory; else `OutOfMemory`. On an error nothing is changed.
+    pub(crate) fn store(&mut self, alloc: Global, advisory: Advisory) -> Result<Slot>
+        ensures ok { OnOk result ((is_known self.old advisory ≡ false) × (self.new ≡ self.old ++ advisory ∷ [])) }
         ensures slot { IfOk result (λ slot. slot ≡ length self.old) }
-        ensures err { OnErr result (self.new ≡ self.old) }
+        ensures kept { OnErr result (self.new ≡ self.old) }
+        ensures err { IfErr result (λ e. ((is_known self.old advisory ≡ true) × IsOfKind ErrorKind.Parse e) ⊎ IsMemory e) }
     {
         let id = exact_copy(&advisory.metadata.id)?;
         let slot = Slot::new(self.advisories.as_slice().len());
         self.advisories.reserve(1)?;
-        self.slots.insert(id, slot)?;
-        self.advisories.push(advisory)?;
+        if !put_new(&mut self.slots, id, slot)? {
+            return Err(duplicate(alloc, &advisory.metadata.id));
+        }
+        self.advisories.push(advisory).map_err(|_| AllocError)?;
         Ok(slot)
     }
 
@@ -93,10 +120,7 @@ impl Entries {
         if advisory.metadata.id.is_placeholder() {
             return Ok(None);
         }
-        if self.find_by_id(&advisory.metadata.id).is_some() {
-            return Err(duplicate(alloc, &advisory.metadata.id));
-        }
-        let slot = self.store(advisory)?;
+        let slot = self.store(alloc, advisory)?;
         Ok(Some(slot))
     }
 
