@@ -4,6 +4,7 @@ pub mod EndToEnd
 pub mod FurtherFiles
 pub mod Held
 pub mod KeptReports
+pub mod KindTexts
 pub mod Members
 pub mod NoFloats
 pub mod PlainTrees

@@ -1,5 +1,5 @@
 -- The elements of a list that was filtered, mapped or joined.
-use Rattle.std.proofs.Common.{◌≡◌, ◌∙◌, ◌⊎◌, ◌+◌, ◌<◌, ◌++◌, ℕ, zero, suc, Bool, true, false, cond, Contains, List, [], ◌∷◌, get_or, inl, inr, length, map, refl, sym, ap, subst, arith, ⊎_elim}
+use Rattle.std.proofs.Common.{◌≡◌, ◌∙◌, ◌⊎◌, ◌<◌, ◌++◌, ℕ, zero, suc, Bool, true, false, cond, Contains, List, [], ◌∷◌, get_or, inl, inr, length, map, refl, sym, ap, subst, arith, ⊎_elim}
 use Rattle.std.specs.List.{AllZip, filter, flat_map}
 
 -- to be one of the elements, by recursion

@@ -1,14 +1,12 @@
 -- The trees of a report and of its parts have no float, so that their texts are known.
-use Rattle.std.proofs.Common.{List, ◌++◌, refl}
-use Rattle.rustsec_json.specs.Trees.{list_tree}
-use Rattle.rustsec_texts.specs.declared.warning_kind.WarningKind.{WarningKind}
+use Rattle.std.proofs.Common.{◌++◌, refl}
 use Rattle.rustsec_advisory.specs.Affected.{Function}
 use Rattle.rustsec_advisory.specs.declared.affected.Affected.{Affected}
 use Rattle.rustsec_advisory.specs.declared.metadata.Metadata.{Metadata}
 use Rattle.rustsec_versions.specs.acceptance.Lists.{Lists}
 use Rattle.rustsec_lock.specs.Package.{PackageValue}
 use Rattle.rustsec_query.specs.declared.vulnerability.Vulnerability.{Vulnerability}
-use Rattle.rustsec_report.specs.Trees.{affected_entries, affected_tree, functions, kinds, kinds_of_warnings, lockfile_tree, metadata_entries, metadata_tree, object_of, origin, package_entries, package_tree, requirements_tree, settings_entries, settings_tree, subject, terms, versions_entries, versions_tree, vulnerability_entries, vulnerability_tree, warning_entries, warning_tree}
+use Rattle.rustsec_report.specs.Trees.{affected_entries, affected_tree, functions, kinds, lockfile_tree, metadata_entries, metadata_tree, origin, package_entries, package_tree, requirements_tree, settings_entries, settings_tree, subject, terms, versions_entries, versions_tree, vulnerability_entries, vulnerability_tree, warning_entries, warning_tree}
 use Rattle.rustsec_report.specs.declared.info.LockfileInfo.{LockfileInfo}
 use Rattle.rustsec_report.specs.declared.settings.Settings.{Settings}
 use Rattle.rustsec_report.specs.declared.warning.Warning.{Warning}
@@ -63,7 +61,7 @@ unfolding vulnerability_tree
 vulnerability-plain v = object-plain (vulnerability_entries v)
     (metadata-plain v.advisory, (optional-plain _ affected-plain v.affected, (package-plain v.«package», (versions-plain v.versions, tt))))
 
-warning-plain : (w : Warning) → Plain (warning_tree w)
+pub warning-plain : (w : Warning) → Plain (warning_tree w)
 unfolding warning_tree
 warning-plain w = object-plain (warning_entries w)
     (optional-plain _ metadata-plain w.advisory, (optional-plain _ affected-plain w.affected, (refl, (package-plain w.«package», (optional-plain _ versions-plain w.versions, tt)))))
@@ -80,11 +78,5 @@ settings-plain s = object-plain (settings_entries s) (
   ),
 )
 
-kind-plain : (e : WarningKind × List Warning) → Plain (list_tree warning_tree e.1)
-kind-plain e = list-plain warning_tree warning-plain e.1
-
 pub lockfile-plain : (l : LockfileInfo) → Plain (lockfile_tree l)
 lockfile-plain l = object-plain _ (refl, tt)
-
-pub warnings-plain : (ws : List (WarningKind × List Warning)) → Plain (object_of (kinds_of_warnings ws))
-warnings-plain ws = object-plain (kinds_of_warnings ws) (map-plain _ kind-plain ws)

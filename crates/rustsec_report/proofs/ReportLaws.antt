@@ -1,6 +1,6 @@
 -- One more ignored ID, further advisories, and packages of other sources.
-use Rattle.std.proofs.Common.{◌≡◌, ◌∙◌, ◌++◌, ◌&&◌, ◌||◌, ℕ, Bool, true, false, cond, not, List, [], ◌∷◌, map, Option, Some, refl, sym, ap, subst}
-use Rattle.std.specs.List.{filter, flat_map, list_any}
+use Rattle.std.proofs.Common.{◌≡◌, ◌∙◌, ◌++◌, ◌&&◌, ◌||◌, Bool, true, false, cond, not, List, [], ◌∷◌, map, refl, sym, ap, subst}
+use Rattle.std.specs.List.{filter, flat_map}
 use Rattle.std.proofs.lemmas.List.{append-nil, map-append}
 use Rattle.std.proofs.lemmas.List.Concat.{flat_map-cons}
 use Rattle.std.proofs.lemmas.List.Elements.{filter-append}
@@ -11,10 +11,10 @@ use Rattle.rustsec_texts.specs.Ids.{IdValue}
 use Rattle.rustsec_texts.specs.WarningKinds.{warning_kinds}
 use Rattle.rustsec_texts.specs.declared.warning_kind.WarningKind.{WarningKind}
 use Rattle.rustsec_advisory.specs.declared.advisory.Advisory.{Advisory}
-use Rattle.rustsec_query.specs.Pairs.{Pair, as_vulnerability, finds, is_audited, pairs, pairs_of}
+use Rattle.rustsec_query.specs.Pairs.{as_vulnerability, finds, is_audited, pairs, pairs_of}
 use Rattle.rustsec_query.specs.Query.{Asked}
 use Rattle.rustsec_query.specs.declared.vulnerability.Vulnerability.{Vulnerability}
-use Rattle.rustsec_report.specs.Report.{as_warning, found, gives, has_some, info_of, informational_query, is_among, present, query_of, report_of, vulnerabilities, warnings, warnings_by_kind, warnings_of_kind, without}
+use Rattle.rustsec_report.specs.Report.{as_warning, found, gives, has_some, info_of, informational_query, is_among, present, query_of, report_of, warnings_by_kind, warnings_of_kind, without}
 use Rattle.rustsec_report.specs.ReportLaws.{AddTheirOwn, FindTheSame, LacksOnly, counted, ignoring, is_of_another, warns_of_another, with_others}
 use Rattle.rustsec_report.specs.declared.report.Report.{Report}
 use Rattle.rustsec_report.specs.declared.settings.Settings.{Settings}

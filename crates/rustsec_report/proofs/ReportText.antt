@@ -1,34 +1,21 @@
 -- The JSON text of a report, part by part, is the text of its tree.
-use Rattle.std.proofs.Common.{◌≡◌, ◌∙◌, ◌++◌, ℕ, List, [], ◌∷◌, append_assoc, map, refl, sym, true}
+use Rattle.std.proofs.Common.{◌≡◌, ◌∙◌, ◌++◌, ℕ, List, append_assoc, sym}
 use Rattle.std.specs.Prelude.{codes}
 use Rattle.serde_json.specs.Data.{boolean, number, unsigned}
-use Rattle.serde_json.specs.View.{items_of}
-use Rattle.serde_json.specs.Written.{compact_text, items_text}
+use Rattle.serde_json.specs.Written.{compact_text}
 use Rattle.serde_json.proofs.OnLiterals.{serde_json_on_literals}
-use Rattle.rustsec_json.specs.Trees.{list_tree}
-use Rattle.rustsec_query.specs.declared.vulnerability.Vulnerability.{Vulnerability}
-use Rattle.rustsec_report.specs.ReportText.{beginning_text, ending_text, key_text, later_texts, list_text, vulnerabilities_text}
+use Rattle.rustsec_report.specs.ReportText.{beginning_text, ending_text, key_text, vulnerabilities_text}
 use Rattle.rustsec_report.specs.Trees.{kinds_of_warnings, lockfile_tree, object_of, report_tree, settings_tree, vulnerabilities_tree, vulnerability_tree, with_members}
 use Rattle.rustsec_report.specs.declared.info.VulnerabilityInfo.{VulnerabilityInfo}
 use Rattle.rustsec_report.specs.declared.report.Report.{Report}
 use Rattle.rustsec_report.specs.declared.report_json.Key.TheVariants as key
-
-later-is : (vs : List Vulnerability) → items_text true (items_of (map vulnerability_tree vs)) ≡ later_texts vs ++ codes "]"
-later-is [] = refl
-later-is (v ∷ vs) =
-    let one : items_text true (items_of (map vulnerability_tree (v ∷ vs))) ≡ (codes "," ++ compact_text (vulnerability_tree v)) ++ (later_texts vs ++ codes "]") =
-    λ i. codes "," ++ (compact_text (vulnerability_tree v) ++ later-is vs i) in
-    one ∙ sym (append_assoc (codes "," ++ compact_text (vulnerability_tree v)) (later_texts vs) (codes "]"))
-
-list-is : (vs : List Vulnerability) → compact_text (list_tree vulnerability_tree vs) ≡ list_text vs
-list-is [] = refl
-list-is (v ∷ vs) = λ i. codes "[" ++ (compact_text (vulnerability_tree v) ++ later-is vs i)
+use Rattle.rustsec_report.proofs.KindTexts.{list-is}
 
 vulnerabilities-are : (info : VulnerabilityInfo) → compact_text (vulnerabilities_tree info) ≡ vulnerabilities_text info
 unfolding vulnerabilities_text with_members serde_json_on_literals
 vulnerabilities-are info = λ i.
     codes "{\"count\":" ++ (compact_text (number (unsigned info.count))
-    ++ (codes ",\"found\":" ++ (compact_text (boolean info.found) ++ (codes ",\"list\":" ++ (list-is info.list i ++ codes "}")))))
+    ++ (codes ",\"found\":" ++ (compact_text (boolean info.found) ++ (codes ",\"list\":" ++ (list-is vulnerability_tree info.list i ++ codes "}")))))
 
 joined : (k a l b rest : List ℕ) → (k ++ (a ++ (l ++ b))) ++ rest ≡ k ++ (a ++ (l ++ (b ++ rest)))
 joined k a l b rest = simp append_assoc

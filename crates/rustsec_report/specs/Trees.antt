@@ -1,5 +1,5 @@
 -- The JSON tree of a report. Each object is a map, so its keys are in the order of their bytes.
-use Rattle.std.specs.Prelude.{ℕ, List, [], ◌∷◌, ◌++◌, map, codes}
+use Rattle.std.specs.Prelude.{List, [], ◌∷◌, ◌++◌, map, codes}
 use Rattle.semver.specs.Identifiers.{parts_text}
 use Rattle.semver.specs.Parse.{Held}
 use Rattle.serde_json.specs.Data.{Data, Members, boolean, no_members, number, object, string, unsigned}

@@ -10,6 +10,7 @@ mod filter;
 mod generate;
 mod info;
 mod object;
+mod part;
 mod report;
 mod report_json;
 mod report_ref;

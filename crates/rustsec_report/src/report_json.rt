@@ -1,19 +1,19 @@
-//! Writes reports as JSON text, one vulnerability after another, so that no tree of the whole report is made.
+//! Writes reports as JSON text, one vulnerability or warning after another, so that no tree of the whole report is made.
 
-ghost use Rattle.std.specs.Prelude.{◌≡◌, ◌++◌, IfErr, IfOk, OnOk, codes, false, string_bytes};
+ghost use Rattle.std.specs.Prelude.{◌≡◌, ◌++◌, ◌∷◌, IfErr, IfOk, List, None, OnOk, codes, false, option_map, string_bytes};
 ghost use Rattle.serde_json.specs.View.{view};
-ghost use Rattle.serde_json.specs.Written.{compact_text, has_float};
+ghost use Rattle.serde_json.specs.Written.{comma_if, compact_text, has_float};
 ghost use Rattle.rustsec_error.specs.Failure.{IsMemory};
-ghost use Rattle.rustsec_report.specs.ReportText.{beginning_text, ending_text, key_text, later_texts, list_text, vulnerabilities_text};
-ghost use Rattle.rustsec_report.specs.Trees.{kinds_of_warnings, lockfile_tree, object_of, report_tree, settings_tree, vulnerability_tree};
+ghost use Rattle.rustsec_texts.specs.declared.warning_kind.WarningKind.{WarningKind};
+ghost use Rattle.rustsec_report.specs.ReportText.{beginning_text, ending_text, key_text, kind_key, kinds_text, last_list, later_texts, list_text, vulnerabilities_text};
+ghost use Rattle.rustsec_report.specs.Trees.{kinds_of_warnings, object_of, report_tree};
 
-use crate::info::LockfileInfo;
+use crate::part::Part;
 use crate::report_ref::ReportRef;
-use crate::report_tree::{lockfile_tree, settings_tree, vulnerability_tree, warnings_tree};
-use crate::settings::Settings;
-use crate::warning_ref::WarningsOfKind;
+use crate::warning_ref::{WarningRef, WarningsOfKind};
 use rustsec_error::Result;
-use rustsec_query::VulnerabilityRef;
+use rustsec_texts::WarningKind;
+use rustsec_values::Named;
 use serde_json::Value;
 use std::alloc::{AllocError, Global};
 
@@ -61,48 +61,48 @@ fn push_tree(alloc: Global, json: &mut String, tree: &Value) -> std::result::Res
     Ok(())
 }
 
-/// Appends the text of a vulnerability.
-fn push_vulnerability(
+/// Appends the text of a part.
+fn push_part<T: Part>(
     alloc: Global,
     json: &mut String,
-    vulnerability: &VulnerabilityRef<'_>,
+    part: &T,
 ) -> std::result::Result<(), AllocError>
-    ensures { OnOk result (string_bytes json.new ≡ string_bytes json.old ++ compact_text (vulnerability_tree vulnerability.now)) }
+    ensures { OnOk result (string_bytes json.new ≡ string_bytes json.old ++ compact_text (T.tree part.now)) }
 {
-    let tree = vulnerability_tree(alloc, vulnerability)?;
+    let tree = part.build_tree(alloc)?;
     push_tree(alloc, json, &tree)?;
     Ok(())
 }
 
-/// Appends the texts of vulnerabilities, each after a comma.
-fn push_later(
+/// Appends the texts of parts, each after a comma.
+fn push_later<T: Part>(
     alloc: Global,
     json: &mut String,
-    list: &[VulnerabilityRef<'_>],
+    parts: &[T],
 ) -> std::result::Result<(), AllocError>
-    ensures { OnOk result (string_bytes json.new ≡ string_bytes json.old ++ later_texts list.now) }
+    ensures { OnOk result (string_bytes json.new ≡ string_bytes json.old ++ later_texts T.tree parts.now) }
 {
-    for vulnerability in list {
+    for part in parts {
         json.push_str(",")?;
-        push_vulnerability(alloc, json, vulnerability)?;
+        push_part(alloc, json, part)?;
     }
     Ok(())
 }
 
-/// Appends the text of a list of vulnerabilities.
-fn push_list(
+/// Appends the text of a list of parts.
+fn push_list<T: Part>(
     alloc: Global,
     json: &mut String,
-    list: &[VulnerabilityRef<'_>],
+    parts: &[T],
 ) -> std::result::Result<(), AllocError>
-    ensures { OnOk result (string_bytes json.new ≡ string_bytes json.old ++ list_text list.now) }
+    ensures { OnOk result (string_bytes json.new ≡ string_bytes json.old ++ list_text T.tree parts.now) }
 {
-    let Some((first, later)) = list.split_first() else {
+    let Some((first, later)) = parts.split_first() else {
         json.push_str("[]")?;
         return Ok(());
     };
     json.push_str("[")?;
-    push_vulnerability(alloc, json, first)?;
+    push_part(alloc, json, first)?;
     push_later(alloc, json, later)?;
     json.push_str("]")?;
     Ok(())
@@ -127,33 +127,66 @@ fn push_vulnerabilities(
     Ok(())
 }
 
-/// Appends the text of what a report contains about its lockfile.
-fn push_lockfile(
-    alloc: Global,
-    json: &mut String,
-    info: LockfileInfo,
-) -> std::result::Result<(), AllocError>
-    ensures { OnOk result (string_bytes json.new ≡ string_bytes json.old ++ compact_text (lockfile_tree info)) }
+/// Returns the key of a kind of warnings, with the colon.
+#[tactic(auto, unfolding(crate::specs::ReportText::kind_key))]
+fn kind_key(kind: WarningKind) -> &'static str
+    ensures { result.now ≡ kind_key kind }
 {
-    let tree = lockfile_tree(alloc, info)?;
-    push_tree(alloc, json, &tree)?;
+    match kind {
+        WarningKind::Notice => "\"notice\":",
+        WarningKind::Unmaintained => "\"unmaintained\":",
+        WarningKind::Unsound => "\"unsound\":",
+        WarningKind::Yanked => "\"yanked\":",
+    }
+}
+
+/// Returns the last list of a kind, if any: an object has one value for a key.
+fn last_list<'a, 'b>(
+    warnings: &'a [WarningsOfKind<'b>],
+    kind: WarningKind,
+) -> Option<&'a [WarningRef<'b>]>
+    ensures { option_map (λ list. list.now) result ≡ last_list kind None warnings.now }
+{
+    let mut last = None;
+    for of_kind in warnings {
+        if of_kind.kind == kind {
+            last = Some(of_kind.list.as_slice());
+        }
+    }
+    last
+}
+
+/// Appends a comma if there is something before it.
+fn push_comma(json: &mut String, later: bool) -> std::result::Result<(), AllocError>
+    ensures { OnOk result (string_bytes json.new ≡ string_bytes json.old ++ comma_if later) }
+{
+    if later {
+        json.push_str(",")?;
+    }
     Ok(())
 }
 
-/// Appends the text of settings.
-fn push_settings(
+/// Appends the key and the list of a kind, if it has any. Returns whether there is something before the next kind.
+fn push_kind(
     alloc: Global,
     json: &mut String,
-    settings: &Settings,
-) -> std::result::Result<(), AllocError>
-    ensures { OnOk result (string_bytes json.new ≡ string_bytes json.old ++ compact_text (settings_tree settings.now)) }
+    warnings: &[WarningsOfKind<'_>],
+    kind: WarningKind,
+    later: bool,
+) -> std::result::Result<bool, AllocError>
+    ensures { IfOk result (λ next. (kinds : List WarningKind) → string_bytes json.new ++ kinds_text next warnings.now kinds
+        ≡ string_bytes json.old ++ kinds_text later warnings.now (kind ∷ kinds)) }
 {
-    let tree = settings_tree(alloc, settings)?;
-    push_tree(alloc, json, &tree)?;
-    Ok(())
+    let Some(list) = last_list(warnings, kind) else {
+        return Ok(later);
+    };
+    push_comma(json, later)?;
+    json.push_str(kind_key(kind))?;
+    push_list(alloc, json, list)?;
+    Ok(true)
 }
 
-/// Appends the text of warnings.
+/// Appends the text of warnings: an object from each kind to its list.
 fn push_warnings(
     alloc: Global,
     json: &mut String,
@@ -161,8 +194,12 @@ fn push_warnings(
 ) -> std::result::Result<(), AllocError>
     ensures { OnOk result (string_bytes json.new ≡ string_bytes json.old ++ compact_text (object_of (kinds_of_warnings warnings.now))) }
 {
-    let tree = warnings_tree(alloc, warnings)?;
-    push_tree(alloc, json, &tree)?;
+    json.push_str("{")?;
+    let mut later = false;
+    for kind in WarningKind::all() {
+        later = push_kind(alloc, json, warnings, *kind, later)?;
+    }
+    json.push_str("}")?;
     Ok(())
 }
 
@@ -176,9 +213,9 @@ fn push_beginning(
     ensures { OnOk result (string_bytes json.new ≡ string_bytes json.old ++ beginning_text report.now) }
 {
     push_key(json, Key::Lockfile)?;
-    push_lockfile(alloc, json, report.lockfile)?;
+    push_part(alloc, json, &report.lockfile)?;
     push_key(json, Key::Settings)?;
-    push_settings(alloc, json, report.settings)?;
+    push_part(alloc, json, report.settings)?;
     Ok(())
 }
 

@@ -57,11 +57,11 @@ fn vulnerability_refs<'a>(
 ) -> std::result::Result<Items<VulnerabilityRef<'a>>, AllocError>
     ensures { IfOk result (λ vs. vs ≡ list.now) }
 {
-    let mut refs = Items::new(alloc);
-    for vulnerability in list {
-        refs.push(VulnerabilityRef::new(vulnerability))?;
-    }
-    Ok(refs)
+    let refs: Vec<VulnerabilityRef<'a>> = list
+        .iter()
+        .map(|vulnerability| VulnerabilityRef::new(vulnerability))
+        .collect(alloc)?;
+    Ok(Items::from(refs))
 }
 
 /// Returns warnings as references.
@@ -71,11 +71,11 @@ fn warning_refs<'a>(
 ) -> std::result::Result<Items<WarningRef<'a>>, AllocError>
     ensures { IfOk result (λ ws. ws ≡ list.now) }
 {
-    let mut refs = Items::new(alloc);
-    for warning in list {
-        refs.push(WarningRef::new(warning))?;
-    }
-    Ok(refs)
+    let refs: Vec<WarningRef<'a>> = list
+        .iter()
+        .map(|warning| WarningRef::new(warning))
+        .collect(alloc)?;
+    Ok(Items::from(refs))
 }
 
 /// Returns warnings by their kinds as references.

@@ -1,14 +1,14 @@
 //! The settings of a report.
 
-ghost use Rattle.std.specs.Prelude.{◌≡◌, [], IfErr, IfOk, None};
+ghost use Rattle.std.specs.Prelude.{◌≡◌, [], IfErr, IfOk, None, option_and_then};
 ghost use Rattle.rustsec_error.specs.Failure.{IsMemory};
-ghost use Rattle.rustsec_report.specs.Report.{query_of};
+ghost use Rattle.rustsec_report.specs.Report.{is_wanted, query_of, wanted_kind};
 
 use rustsec_error::Result;
 use rustsec_lock::Severity;
 use rustsec_lock::platforms::{Arch, OS};
 use rustsec_query::Query;
-use rustsec_texts::{Id, Informational};
+use rustsec_texts::{Id, Informational, WarningKind};
 use rustsec_values::{ExactClone, Items};
 use std::alloc::Global;
 
@@ -79,6 +79,23 @@ impl Settings {
         match self.severity {
             Some(severity) => Ok(query.severity(severity)),
             None => Ok(query),
+        }
+    }
+
+    /// Returns whether the settings ask for warnings of an informational kind.
+    pub fn wants(&self, kind: &Informational) -> bool
+        ensures { result ≡ is_wanted self.now kind.now }
+    {
+        self.informational_warnings.as_slice().contains(kind)
+    }
+
+    /// Returns the kind of the warnings that an informational kind gives, if it gives any and the settings ask for them.
+    pub fn wanted_kind(&self, kind: &Option<Informational>) -> Option<WarningKind>
+        ensures { result ≡ option_and_then (wanted_kind self.now) kind.now }
+    {
+        match kind {
+            Some(kind) if self.wants(kind) => kind.warning_kind(),
+            _ => None,
         }
     }
 

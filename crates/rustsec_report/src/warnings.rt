@@ -1,9 +1,9 @@
 //! The warnings of informational advisories.
 
-ghost use Rattle.std.specs.Prelude.{◌≡◌, ◌++◌, ◌∷◌, [], IfErr, IfOk, OnOk, map, option_and_then};
+ghost use Rattle.std.specs.Prelude.{◌≡◌, ◌++◌, ◌∷◌, [], IfErr, IfOk, OnOk, map};
 ghost use Rattle.rustsec_error.specs.Failure.{IsMemory};
 ghost use Rattle.rustsec_query.specs.Pairs.{as_vulnerability};
-ghost use Rattle.rustsec_report.specs.Report.{is_wanted, present, wanted_kind, warnings_by_kind, warnings_of_kind};
+ghost use Rattle.rustsec_report.specs.Report.{gives, present, warnings_by_kind, warnings_of_kind};
 ghost use Rattle.rustsec_report.specs.Kinds.{with_kind};
 
 use crate::settings::Settings;
@@ -11,28 +11,18 @@ use crate::warning::Warning;
 use crate::warning_ref::{WarningRef, WarningsOfKind};
 use rustsec_database::Pair;
 use rustsec_error::Result;
-use rustsec_texts::{Informational, WarningKind};
+use rustsec_texts::WarningKind;
 use rustsec_values::{Items, Named, SortedMap};
 use std::alloc::{AllocError, Global};
 
 /// Warnings by their kinds. A kind without warnings may be missing.
 pub type WarningInfo = SortedMap<WarningKind, Items<Warning>>;
 
-/// Returns whether settings ask for warnings of an informational kind.
-fn is_wanted(settings: &Settings, kind: &Informational) -> bool
-    ensures { result ≡ is_wanted settings.now kind.now }
+/// Returns whether a pair gives a warning of a kind that settings ask for.
+fn gives(settings: &Settings, kind: WarningKind, pair: &Pair<'_>) -> bool
+    ensures { result ≡ gives settings.now kind (as_vulnerability pair.now) }
 {
-    settings.informational_warnings.as_slice().contains(kind)
-}
-
-/// Returns the kind of the warning that an advisory gives, if the settings ask for it.
-fn wanted_kind(settings: &Settings, kind: &Option<Informational>) -> Option<WarningKind>
-    ensures { result ≡ option_and_then (wanted_kind settings.now) kind.now }
-{
-    match kind {
-        Some(kind) if is_wanted(settings, kind) => kind.warning_kind(),
-        _ => None,
-    }
+    settings.wanted_kind(&pair.advisory.metadata.informational) == Some(kind)
 }
 
 /// Returns the warnings of a kind that settings ask for, in order.
@@ -46,7 +36,7 @@ fn warnings_of_kind<'a>(
 {
     let mut warnings = Items::new(alloc);
     for pair in pairs {
-        if wanted_kind(settings, &pair.advisory.metadata.informational) == Some(kind) {
+        if gives(settings, kind, pair) {
             warnings.push(WarningRef::of_pair(kind, pair))?;
         }
     }
