@@ -59,13 +59,9 @@ fn unused_of<'a>(
 ) -> std::result::Result<Vec<&'a Id>, AllocError>
     ensures { IfOk result (λ v. map (λ i. i.now) v.items ≡ filter (is_unused database.now ignored.now) ids.now) }
 {
-    let mut unused = Vec::new(alloc);
-    for id in ids {
-        if is_unused(database, ignored, id) {
-            unused.push(id)?;
-        }
-    }
-    Ok(unused)
+    ids.iter()
+        .filter(|id| is_unused(database, ignored, id))
+        .collect(alloc)
 }
 
 /// Returns the IDs that no advisory has, in order.
@@ -76,13 +72,9 @@ fn unknown_of<'a>(
 ) -> std::result::Result<Vec<&'a Id>, AllocError>
     ensures { IfOk result (λ v. map (λ i. i.now) v.items ≡ filter (λ id. not (is_known database.now id)) ids.now) }
 {
-    let mut unknown = Vec::new(alloc);
-    for id in ids {
-        if !is_known(database, id) {
-            unknown.push(id)?;
-        }
-    }
-    Ok(unknown)
+    ids.iter()
+        .filter(|id| !is_known(database, id))
+        .collect(alloc)
 }
 
 /// Returns the same settings for advisories of any severity.

@@ -1,10 +1,9 @@
 //! The pairs of a package and an advisory that a check finds.
 
-ghost use Rattle.std.specs.Prelude.{◌≡◌, ◌++◌, IfErr, IfOk, OnOk, filter_map, length, map, option_and_then};
+ghost use Rattle.std.specs.Prelude.{◌≡◌, ◌++◌, IfErr, IfOk, OnOk, filter_map, length, map};
 ghost use Rattle.std.specs.List.{filter};
 ghost use Rattle.rustsec_error.specs.Failure.{IsMemory};
 ghost use Rattle.rustsec_query.specs.Pairs.{finds, is_audited};
-ghost use Rattle.rustsec_report.specs.Report.{is_wanted, wanted_kind};
 ghost use Rattle.rustsec_check.specs.Pairs.{as_unwarned, as_wanted, counted, found, is_ignored, query_of_both};
 
 use rustsec_advisory::Advisory;
@@ -14,7 +13,7 @@ use rustsec_lock::Lockfile;
 use rustsec_lock::package::Package;
 use rustsec_query::Query;
 use rustsec_report::Settings;
-use rustsec_texts::{Collection, Id, Informational, WarningKind};
+use rustsec_texts::{Collection, Id, WarningKind};
 use std::alloc::{AllocError, Global};
 use std::marker::Model;
 
@@ -117,28 +116,11 @@ fn push_vulnerable<'a>(
     Ok(())
 }
 
-/// Returns whether settings ask for warnings of an informational kind.
-fn is_wanted(settings: &Settings, kind: &Informational) -> bool
-    ensures { result ≡ is_wanted settings.now kind.now }
-{
-    settings.informational_warnings.as_slice().contains(kind)
-}
-
-/// Returns the kind of the warning that an advisory gives, if the settings ask for it.
-fn wanted_kind(settings: &Settings, kind: &Option<Informational>) -> Option<WarningKind>
-    ensures { result ≡ option_and_then (wanted_kind settings.now) kind.now }
-{
-    match kind {
-        Some(kind) if is_wanted(settings, kind) => kind.warning_kind(),
-        _ => None,
-    }
-}
-
 /// Returns the warning about a package that an advisory gives, if the settings ask for it.
 fn wanted<'a>(settings: &Settings, placed: &Placed<'a>, advisory: &'a Advisory) -> Option<Found<'a>>
     ensures { result ≡ as_wanted settings.now placed.now advisory.now }
 {
-    match wanted_kind(settings, &advisory.metadata.informational) {
+    match settings.wanted_kind(&advisory.metadata.informational) {
         Some(kind) => Some(placed.found(Some(kind), advisory)),
         None => None,
     }

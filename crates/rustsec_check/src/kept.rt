@@ -33,13 +33,9 @@ fn unused_of<'a>(
 ) -> std::result::Result<Vec<&'a Id>, AllocError>
     ensures { IfOk result (λ v. map (λ i. i.now) v.items ≡ filter (is_unused_of kept.now.ids ignored.now) ids.now) }
 {
-    let mut unused = Vec::new(alloc);
-    for id in ids {
-        if is_unused(kept, ignored, id) {
-            unused.push(id)?;
-        }
-    }
-    Ok(unused)
+    ids.iter()
+        .filter(|id| is_unused(kept, ignored, id))
+        .collect(alloc)
 }
 
 /// Returns the IDs that no advisory under the root has, in order.
@@ -50,13 +46,7 @@ fn unknown_of<'a>(
 ) -> std::result::Result<Vec<&'a Id>, AllocError>
     ensures { IfOk result (λ v. map (λ i. i.now) v.items ≡ filter (λ id. not (list_any (id_eq id) kept.now.ids)) ids.now) }
 {
-    let mut unknown = Vec::new(alloc);
-    for id in ids {
-        if !kept.has_id(id) {
-            unknown.push(id)?;
-        }
-    }
-    Ok(unknown)
+    ids.iter().filter(|id| !kept.has_id(id)).collect(alloc)
 }
 
 impl<'a> Check<'a> {

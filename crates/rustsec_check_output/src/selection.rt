@@ -64,13 +64,11 @@ pub(crate) fn selected<'a, T: Test<Ranked<'a>>>(
 ) -> Result<Vec<Ranked<'a>>, AllocError>
     ensures { IfOk result (λ v. v.items ≡ filter (T.passes test.now) findings.now) }
 {
-    let mut found = Vec::new(alloc);
-    for finding in findings {
-        if test.passes(finding) {
-            found.push(finding.copy())?;
-        }
-    }
-    Ok(found)
+    findings
+        .iter()
+        .filter(|finding| test.passes(finding))
+        .map(|finding| finding.copy())
+        .collect(alloc)
 }
 
 /// Returns whether a finding is about the package at a place.

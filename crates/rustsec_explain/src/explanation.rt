@@ -44,13 +44,10 @@ fn about<'a>(
 ) -> std::result::Result<Vec<&'a Advisory>, AllocError>
     ensures { IfOk result (λ v. map (λ a. a.now) v.items ≡ filter (is_about name.now) advisories.now) }
 {
-    let mut found = Vec::new(alloc);
-    for advisory in advisories {
-        if advisory.metadata.package.as_str() == name {
-            found.push(advisory)?;
-        }
-    }
-    Ok(found)
+    advisories
+        .iter()
+        .filter(|advisory| advisory.metadata.package.as_str() == name)
+        .collect(alloc)
 }
 
 /// Returns the packages with a name, in order.
@@ -61,13 +58,10 @@ fn named<'a>(
 ) -> std::result::Result<Vec<&'a Package>, AllocError>
     ensures { IfOk result (λ v. map (λ p. p.now) v.items ≡ filter (is_named name.now) packages.now) }
 {
-    let mut found = Vec::new(alloc);
-    for package in packages {
-        if package.name.as_str() == name {
-            found.push(package)?;
-        }
-    }
-    Ok(found)
+    packages
+        .iter()
+        .filter(|package| package.name.as_str() == name)
+        .collect(alloc)
 }
 
 /// Appends the pairs of a package with each advisory.
@@ -160,13 +154,10 @@ fn with_alias<'a>(
 ) -> std::result::Result<Vec<&'a Advisory>, AllocError>
     ensures { IfOk result (λ v. map (λ a. a.now) v.items ≡ filter (has_alias id.now) advisories.now) }
 {
-    let mut found = Vec::new(alloc);
-    for advisory in advisories {
-        if has_alias(advisory, id) {
-            found.push(advisory)?;
-        }
-    }
-    Ok(found)
+    advisories
+        .iter()
+        .filter(|advisory| has_alias(advisory, id))
+        .collect(alloc)
 }
 
 /// Returns a list of one advisory.

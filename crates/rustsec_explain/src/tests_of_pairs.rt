@@ -91,7 +91,7 @@ pub(crate) fn is_unwanted(settings: &Settings, advisory: &Advisory) -> bool
     ensures { result ≡ fails (is_wanted settings.now) advisory.now.metadata.informational }
 {
     match &advisory.metadata.informational {
-        Some(kind) => !settings.informational_warnings.as_slice().contains(kind),
+        Some(kind) => !settings.wants(kind),
         None => false,
     }
 }

@@ -1,8 +1,0 @@
-use Rattle.std.proofs.Common.{◌≡◌, map, take}
-use Rattle.std.specs.List.{filter}
-use Rattle.rustsec_check.specs.Checks.{is_unused}
-use Rattle.rustsec_check.proofs.checking.unused_of.Given as goal
-
--- those of the IDs so far
-abbrev pub invariant-loop-id : goal.invariant-loop-id
-invariant-loop-id l = map (λ i. i.now) l.unused.items ≡ filter (is_unused l.database l.ignored) (take l.id-index l.ids)
