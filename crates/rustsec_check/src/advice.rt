@@ -132,11 +132,13 @@ fn in_force<'a>(
 ) -> std::result::Result<Vec<&'a Advisory>, AllocError>
     ensures { IfOk result (λ v. map (λ a. a.now) v.items ≡ in_force ids.now (map (λ a. a.now) advisories.now)) }
 {
-    advisories
-        .iter()
-        .copied()
-        .filter(|advisory| !is_among(ids, advisory))
-        .collect(alloc)
+    let mut kept = Vec::new(alloc);
+    for advisory in advisories {
+        if !is_among(ids, advisory) {
+            kept.push(*advisory)?;
+        }
+    }
+    Ok(kept)
 }
 
 /// Returns whether an advisory leaves a version affected; `false` without a version.
@@ -158,11 +160,13 @@ fn movers<'a>(
 ) -> std::result::Result<Vec<&'a Id>, AllocError>
     ensures { IfOk result (λ v. map (λ i. i.now) v.items ≡ movers ids.now (option_map parts_of rest.now) (map (λ a. a.now) advisories.now)) }
 {
-    advisories
-        .iter()
-        .filter(|advisory| is_among(ids, advisory) && affects(rest, advisory))
-        .map(|advisory| &advisory.metadata.id)
-        .collect(alloc)
+    let mut moving = Vec::new(alloc);
+    for advisory in advisories {
+        if is_among(ids, advisory) && affects(rest, advisory) {
+            moving.push(&advisory.metadata.id)?;
+        }
+    }
+    Ok(moving)
 }
 
 /// Returns the requirements of advisories.
@@ -172,10 +176,11 @@ fn lists_of<'a>(
 ) -> std::result::Result<Vec<&'a Versions>, AllocError>
     ensures { IfOk result (λ v. map (λ l. l.now) v.items ≡ lists_of (map (λ a. a.now) advisories.now)) }
 {
-    advisories
-        .iter()
-        .map(|advisory| &advisory.versions)
-        .collect(alloc)
+    let mut lists = Vec::new(alloc);
+    for advisory in advisories {
+        lists.push(&advisory.versions)?;
+    }
+    Ok(lists)
 }
 
 /// Returns the least free version of an advisory and of others.
