@@ -164,8 +164,9 @@ pub(crate) fn with_ranks<'a>(
 ) -> Result<Vec<Ranked<'a>>, AllocError>
     ensures { IfOk result (λ v. v.items ≡ findings.now) }
 {
-    findings
-        .iter()
-        .map(|finding| Ranked::new(finding))
-        .collect(alloc)
+    let mut ranked = Vec::new(alloc);
+    for finding in findings {
+        ranked.push(Ranked::new(finding))?;
+    }
+    Ok(ranked)
 }

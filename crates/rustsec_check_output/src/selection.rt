@@ -64,11 +64,13 @@ pub(crate) fn selected<'a, T: Test<Ranked<'a>>>(
 ) -> Result<Vec<Ranked<'a>>, AllocError>
     ensures { IfOk result (λ v. v.items ≡ filter (T.passes test.now) findings.now) }
 {
-    findings
-        .iter()
-        .filter(|finding| test.passes(finding))
-        .map(|finding| finding.copy())
-        .collect(alloc)
+    let mut found = Vec::new(alloc);
+    for finding in findings {
+        if test.passes(finding) {
+            found.push(finding.copy())?;
+        }
+    }
+    Ok(found)
 }
 
 /// Returns whether a finding is about the package at a place.
