@@ -41,7 +41,7 @@ kind_key kind.Unmaintained = codes "\"unmaintained\":"
 kind_key kind.Unsound = codes "\"unsound\":"
 kind_key kind.Yanked = codes "\"yanked\":"
 
--- the keys and the lists of these kinds, as far as they have one, up to the closing brace
+-- the keys and the lists of these kinds, without those that have none, up to the closing brace
 abbrev pub rows_text : Bool → List (WarningKind × Option (List Warning)) → List ℕ
 rows_text later [] = codes "}"
 rows_text later ((k, None) ∷ rs) = rows_text later rs

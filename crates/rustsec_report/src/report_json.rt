@@ -166,7 +166,7 @@ fn push_comma(json: &mut String, later: bool) -> std::result::Result<(), AllocEr
     Ok(())
 }
 
-/// Appends the key and the list of a kind, if it has any. Returns whether there is something before the next kind.
+/// Appends the key and the list of a kind, unless it has none. Returns whether there is something before the next kind.
 fn push_kind(
     alloc: Global,
     json: &mut String,
