@@ -1,12 +1,16 @@
 """The tables of bench/run --checks.
 
-The first has `check` beside `audit` over the same database and lockfile. The second has `check-many` beside the sum of
-one load and as many readings of lockfiles as its list has paths. Both parts of the sum are measured with rustsec_bench:
-the load as a process that opens the database once, the readings as calls that read the texts of the list's lockfiles,
-each with the graph of its dependencies, as the reader of the Rust crate also resolves them. For these a process is
-started for each lockfile; its time without a call is subtracted, so that the start, and opening and reading the file, are
-not part of the sum. Each table stands twice: for a database whose advisories are about 500 packages, so that there are
-many findings, and for one with a package for each advisory.
+The first has `check` beside `audit` over the same database and lockfile. The second has `check-many` beside one load and
+as many readings of lockfiles as its list has paths, measured with rustsec_bench in two ways.
+
+- One process opens the database, and then reads each lockfile of the list from its file, with the graph of its
+  dependencies, as the reader of the Rust crate also resolves them. So it does what `check-many` does but for the checks.
+- The sum of a process that opens the database once, and of calls that read the texts of the list's lockfiles, which are
+  in memory. For these a process is started for each lockfile; its time without a call is subtracted, so that the start, and
+  opening and reading the file, are not part of the sum. It reads the same text again and again, so it asks for more.
+
+Each table is there twice: for a database whose advisories are about 500 packages, so that there are many findings, and for
+one with a package for each advisory.
 """
 import json
 import os
@@ -62,7 +66,7 @@ def single(options, root, lock, policy):
 
 
 def many(options, root, locks):
-    """`check-many` beside one load and the readings of the list's lockfiles."""
+    """`check-many` beside one load and the readings of the list's lockfiles, in one process, and beside their sum."""
     lines, _ = common.answer_of(options.ours, ["check-many", root], "\n".join(locks).encode())
     findings = [len(json.loads(line)["check"]["findings"]) for line in lines.splitlines()]
     head(f"{options.advisories} advisories, lockfiles of {options.packages} packages, "
@@ -72,17 +76,20 @@ def many(options, root, locks):
     with open(path, "w") as f:
         f.writelines(lock + "\n" for lock in listed)
     calls = [(options.ours, [(["check-many", root], path)]),
+             (options.checks, [(["readings", root, path], os.devnull)]),
              (options.checks, [(["load", "1", root, locks[0]], os.devnull)]),
              (options.checks, [(["dependencies", str(listed.count(lock)), lock], os.devnull) for lock in locks]),
              (options.checks, [(["dependencies", "0", lock], os.devnull) for lock in locks])]
-    ours, load, reading, start = [best_and_median(times) for times in timing.timed(calls, options.runs)]
+    ours, both, load, reading, start = [best_and_median(times) for times in timing.timed(calls, options.runs)]
     readings = [a - b for a, b in zip(reading, start)]
     total = [a + b for a, b in zip(load, readings)]
     memory = [f"{timing.peak(*call) / 1024:.1f}" for call in calls]
-    row("one load; advisories", options.advisories, *load, memory[1])
-    row("readings, with dependencies; lockfiles", options.lockfiles, *readings, memory[2])
+    row("one load and the readings, in one process; lockfiles", options.lockfiles, *both, memory[1])
+    row("`check-many`, beside it; lockfiles", options.lockfiles, *ours, memory[0], both)
+    row("one load; advisories", options.advisories, *load, memory[2])
+    row("readings of texts in memory; lockfiles", options.lockfiles, *readings, memory[3])
     row("the sum of both", "", *total, "")
-    row("`check-many`; lockfiles", options.lockfiles, *ours, memory[0], total)
+    row("`check-many`, beside the sum; lockfiles", options.lockfiles, *ours, memory[0], total)
 
 
 def measure(options):

@@ -9,7 +9,7 @@ pub const VERSION: &str = "0.33.0";
 pub mod advisory {
     /// The platforms and functions that an advisory affects.
     pub mod affected {
-        pub use rustsec_advisory::Affected;
+        pub use rustsec_advisory::{Affected, Functions};
         pub use rustsec_texts::{FunctionPath, Identifier};
     }
 

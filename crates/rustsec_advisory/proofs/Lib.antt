@@ -1,6 +1,6 @@
 pub mod Documents
 pub mod FileRefusals
-pub mod Functions
+pub mod FunctionMaps
 pub mod Insertion
 pub mod KeyOrder
 pub mod KnownKeys

@@ -3,11 +3,10 @@
 ghost use Rattle.std.specs.Prelude.{◌≡◌, [], IfErr, IfOk};
 ghost use Rattle.rustsec_error.specs.Failure.{IsMemory};
 
+use crate::functions::Functions;
 use rustsec_error::Result;
 use rustsec_lock::platforms::{Arch, OS};
-use rustsec_texts::FunctionPath;
-use rustsec_values::{ExactClone, ExactEq, Items, SortedMap};
-use rustsec_versions::Requirements;
+use rustsec_values::{ExactClone, ExactEq, Items};
 use std::alloc::Global;
 
 /// The affected platforms and functions.
@@ -18,7 +17,7 @@ pub struct Affected {
     /// The systems; an empty list means all.
     pub os: Items<OS>,
     /// The functions, each with requirements for the versions in which it is affected.
-    pub functions: SortedMap<FunctionPath, Requirements>,
+    pub functions: Functions,
 }
 
 /// Hand-written: a derived `Drop` is proved again, field by field, at every exit of every owner.
@@ -40,18 +39,12 @@ impl Affected {
         Affected {
             arch: Items::new(alloc),
             os: Items::new(alloc),
-            functions: SortedMap::new(alloc),
+            functions: Functions::new(alloc),
         }
     }
 
     /// Takes the value apart: architectures, systems and functions. This takes no memory.
-    pub fn into_parts(
-        self,
-    ) -> (
-        Items<Arch>,
-        Items<OS>,
-        SortedMap<FunctionPath, Requirements>,
-    )
+    pub fn into_parts(self) -> (Items<Arch>, Items<OS>, Functions)
         ensures { result ≡ (self.arch, self.os, self.functions) }
     {
         let Affected {

@@ -18,6 +18,7 @@ ghost use Rattle.rustsec_error.specs.Failure.{IsMemory, IsOfKind, IsRefusal, out
 ghost use Rattle.rustsec_versions.specs.acceptance.Lists.{Lists};
 
 use crate::affected::Affected;
+use crate::functions::Functions;
 use crate::metadata::{Kinds, Metadata, Origin, Subject, Terms};
 use crate::requirements::{optional_requirements_at, requirements, requirements_at};
 use rustsec_error::{Error, ErrorKind, Result};
@@ -225,8 +226,8 @@ fn function_path(alloc: Global, section: Section<'_>, key: &str) -> Result<Funct
     section.read(alloc, key, key)
 }
 
-/// Reads the functions of a table, by their paths. `section` is for messages.
-fn functions(
+/// Reads the functions of a table into a map. `section` is for messages.
+fn function_map(
     alloc: Global,
     section: Section<'_>,
     table: &Table,
@@ -244,18 +245,24 @@ fn functions(
     Ok(functions)
 }
 
+/// Reads the functions of a table, in the order of their paths. `section` is for messages.
+fn functions(alloc: Global, section: Section<'_>, table: &Table) -> Result<Functions>
+    ensures ok { IfOk result (AreFunctions (table_view table.now)) }
+    ensures err { IfErr result (IsRefusal ErrorKind.Parse ((fs : List Function) → ¬ AreFunctions (table_view table.now) fs)) }
+{
+    let map = function_map(alloc, section, table)?;
+    let functions = Functions::from_map(alloc, map)?;
+    Ok(functions)
+}
+
 /// Reads the functions at a key; none if the key is missing.
-fn functions_at(
-    alloc: Global,
-    section: Section<'_>,
-    key: &str,
-) -> Result<SortedMap<FunctionPath, Requirements>>
+fn functions_at(alloc: Global, section: Section<'_>, key: &str) -> Result<Functions>
     ensures ok { IfOk result (AreFunctionsAt (get_member key.now (table_view section.entry.table.now))) }
     ensures err { IfErr result (IsRefusal ErrorKind.Parse
         ((fs : List Function) → ¬ AreFunctionsAt (get_member key.now (table_view section.entry.table.now)) fs)) }
 {
     let Some(value) = section.get(key) else {
-        return Ok(SortedMap::new(alloc));
+        return Ok(Functions::new(alloc));
     };
     match value.as_table() {
         Some(inner) => functions(alloc, functions_section(section, inner), inner),

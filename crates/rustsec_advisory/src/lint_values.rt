@@ -10,13 +10,13 @@ ghost use Rattle.rustsec_texts.specs.Dates.{day_of};
 ghost use Rattle.rustsec_error.specs.Failure.{IsMemory};
 
 use crate::advisory::Advisory;
+use crate::functions::Functions;
 use crate::lint_rows::BadValue;
 use crate::linter::Error;
 use crate::metadata::Metadata;
 use rustsec_error::Result;
 use rustsec_texts::{Category, FunctionPath, Informational, License};
-use rustsec_values::{Items, SortedMap};
-use rustsec_versions::Requirements;
+use rustsec_values::Items;
 use std::alloc::{AllocError, Global};
 use std::fmt;
 use std::fmt::Formatter;
@@ -313,12 +313,12 @@ fn lint_paths(
     alloc: Global,
     errors: &mut Items<Error>,
     name: &[u8],
-    functions: &SortedMap<FunctionPath, Requirements>,
+    functions: &Functions,
 ) -> Result<()>
     ensures ok { OnOk result (errors.new ≡ errors.old ++ flat_map (function_row name.now) (keys_of functions.now)) }
     ensures err { IfErr result IsMemory }
 {
-    for (path, _) in functions.as_map() {
+    for (path, _) in functions.as_slice() {
         lint_function(alloc, errors, name, path)?;
     }
     Ok(())

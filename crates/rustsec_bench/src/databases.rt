@@ -1,8 +1,9 @@
 //! Calls over a database, which is read and loaded before the calls are made.
 
+use crate::dependencies;
 use rustsec_database::{Database, SourceFile};
 use rustsec_error::{Error, ErrorKind, Result};
-use rustsec_folders::{RealFolders, source_files};
+use rustsec_folders::{Folders, RealFolders, source_files};
 use rustsec_lock::Lockfile;
 use rustsec_lock::package::Name;
 use rustsec_query::Query;
@@ -106,6 +107,21 @@ fn report(alloc: Global, times: u32, database: &Database, lockfile: &Lockfile) -
     for _ in 0..times {
         Report::generate(alloc, database, lockfile, &settings)?;
     }
+    Ok(())
+}
+
+/// Opens the database under a root, and then reads the lockfile at each path of a list with the graph of its packages. The
+/// list is a file with a path in each line.
+pub(crate) fn read_list(rt: &HostRuntime, root: &str, list: &str) -> Result<()> {
+    let alloc = rt.alloc();
+    let mut folders = RealFolders::new(rt);
+    let paths = folders.read(alloc, list)?;
+    let database = Database::open_with(alloc, &mut folders, root)?;
+    for path in paths.as_str().lines() {
+        let text = folders.read(alloc, path)?;
+        dependencies(alloc, text.as_str())?;
+    }
+    drop(database);
     Ok(())
 }
 

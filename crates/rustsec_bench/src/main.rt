@@ -1,10 +1,11 @@
-//! The program `rustsec_bench`: makes one call of the library many times over the text of a file, so
+//! The program `rustsec_bench`: makes a call of the library, most of them many times over the text of a file, so
 //! that the call can be timed from outside.
 //!
 //!     rustsec_bench document|lockfile|dependencies|parts|advisory|lint N FILE
 //!     rustsec_bench copy|from_rustsec|to_value|from_value N FILE
 //!     rustsec_bench read FILE
 //!     rustsec_bench load|query|look_up|vulnerabilities|report N ROOT NAME|LOCKFILE
+//!     rustsec_bench readings ROOT LIST
 //!
 //! `document` only parses the text as a TOML document, `dependencies` reads a lockfile with the graph of its packages,
 //! and `parts` splits an advisory and parses its front matter. The calls over a database take its root, and the name of
@@ -15,6 +16,9 @@
 //! `copy` and `from_rustsec` copy an advisory, and `from_rustsec` exports the copy; `to_value` builds the tree of
 //! its document and prints the tree; `from_value` reads a JSON tree as a document. If one of these fails, the kind of
 //! its error is written.
+//!
+//! `readings` opens the database under a root, and then reads the lockfile at each path of a list, a file with a path in
+//! each line, with the graph of its packages. It writes nothing.
 //!
 //! `read` gives each input in a file to the reader that the input names, and writes a line for each.
 #![tactic(auto)]
@@ -133,6 +137,14 @@ fn asked_of_database(words: &[String]) -> Option<(databases::Call, u32, &str, &s
     }
 }
 
+/// Returns the root and the list of the call `readings`.
+fn asked_of_list(words: &[String]) -> Option<(&str, &str)> {
+    match words {
+        [call, root, list] if call.as_str() == "readings" => Some((root.as_str(), list.as_str())),
+        _ => None,
+    }
+}
+
 /// Returns the exit status for the answer of a call.
 fn status(answer: Result<()>) -> ExitCode {
     match answer {
@@ -147,6 +159,9 @@ fn main(rt: HostRuntime) -> ExitCode {
     };
     if let Some(path) = readers::asked(&words) {
         return readers::read_file(&rt, path);
+    }
+    if let Some((root, list)) = asked_of_list(&words) {
+        return status(databases::read_list(&rt, root, list));
     }
     if let Some((call, times, root, of)) = asked_of_database(&words) {
         return status(databases::repeat(&rt, call, times, root, of));

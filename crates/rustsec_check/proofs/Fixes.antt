@@ -98,9 +98,6 @@ joined : (rs ss : List Range) → HaveValidFixes rs → HaveValidFixes ss → Ha
 joined [] ss h k = k
 joined (r ∷ rs) ss h k = (h.0, joined rs ss h.1 k)
 
-pub none-yet : AreRangesOfAll [] []
-none-yet = record { valid = tt; agree = λ v w. refl }
-
 pub one-more : (before : List Lists) (ls : Lists) (old ranges new : List Range) → AreRangesOfAll before old → AreMergedRanges ls ranges
     → ((v : Parts) → IsVersion v → in_ranges ranges v ≡ affected ls v) → new ≡ old ++ ranges → AreRangesOfAll (before ++ ls ∷ []) new
 one-more before ls old ranges new h are agree is = rw is (record {

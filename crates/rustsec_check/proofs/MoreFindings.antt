@@ -2,14 +2,11 @@
 use Rattle.std.proofs.Common.{◌≡◌, ◌∙◌, ◌++◌, true, false, List, [], ◌∷◌, ap, refl, sym}
 use Rattle.std.specs.Prelude.{not}
 use Rattle.std.proofs.lemmas.List.{append-nil, map-append}
-use Rattle.std.proofs.lemmas.List.Elements.{All-nil, All-push, filter-append}
+use Rattle.std.proofs.lemmas.List.Elements.{All-push, filter-append}
 use Rattle.rustsec_texts.specs.Ids.{IdValue}
 use Rattle.rustsec_check.specs.Findings.{AreFindingsOf, IsFinding, pair_of}
 use Rattle.rustsec_check.specs.Pairs.{counted, is_ignored}
 use Rattle.rustsec_check.specs.Values.{FindingValue, Found, SubjectValue}
-
-pub no-findings : (s : SubjectValue) → AreFindingsOf s [] []
-no-findings s = record { pairs = refl; each = All-nil (IsFinding s) }
 
 -- a pair whose advisory is not ignored is counted, and another one is not
 counted-more : (ids : List IdValue) (fs : List Found) (f : Found) → is_ignored ids f ≡ false → counted ids (fs ++ f ∷ []) ≡ counted ids fs ++ f ∷ []

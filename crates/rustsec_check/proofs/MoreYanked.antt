@@ -2,7 +2,7 @@
 use Rattle.std.proofs.Common.{◌≡◌, ◌∙◌, ◌+◌, ◌<◌, ◌++◌, ℕ, true, false, List, [], ◌∷◌, ap, arith, get_or, length, map, refl, subst, sym, take}
 use Rattle.std.specs.List.{All, enumerate_from, filter}
 use Rattle.std.proofs.lemmas.List.{append-nil, length-take-le, map-append, take_more}
-use Rattle.std.proofs.lemmas.List.Elements.{All-head, All-nil, All-push, All-tail, filter-append}
+use Rattle.std.proofs.lemmas.List.Elements.{All-head, All-push, All-tail, filter-append}
 use Rattle.rustsec_lock.specs.Package.{PackageValue}
 use Rattle.rustsec_graph.specs.Edges.{dependents}
 use Rattle.rustsec_graph.specs.Paths.{IsAnswer}
@@ -11,9 +11,6 @@ use Rattle.rustsec_check.specs.Values.{SubjectValue, YankedValue}
 use Rattle.rustsec_check.specs.Yanked.{AreYanked, AreYankedOf, IsYanked, is_yanked, placed_of, yanked_in}
 use Rattle.rustsec_check.proofs.OneCheck.{one-path}
 use Rattle.rustsec_check.proofs.Packages.{enumerate-more}
-
-pub no-yanked : (s : SubjectValue) (yanked : List PackageValue) → AreYankedOf s yanked [] []
-no-yanked s yanked = record { places = refl; each = All-nil (IsYanked s) }
 
 -- the places of one more package
 places-more : (packages : List PackageValue) (i : ℕ) (p : PackageValue) → i < length packages → p ≡ get_or packages i p

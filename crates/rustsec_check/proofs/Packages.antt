@@ -1,5 +1,5 @@
 -- The pairs of one more advisory and of one more package.
-use Rattle.std.proofs.Common.{◌≡◌, ◌∙◌, ◌+◌, ◌<◌, ◌++◌, ℕ, true, false, List, [], ◌∷◌, Option, Some, None, ap, append_assoc, arith, get_or, length, map, refl, sym, take}
+use Rattle.std.proofs.Common.{◌≡◌, ◌∙◌, ◌+◌, ◌<◌, ◌++◌, ℕ, false, List, [], ◌∷◌, Option, Some, None, ap, append_assoc, arith, get_or, length, map, refl, sym, take}
 use Rattle.std.specs.Borrow.{Bor}
 use Rattle.std.specs.List.{enumerate_from, filter, filter_map, flat_map}
 use Rattle.std.proofs.lemmas.Grind.{flat_map-append}
@@ -8,8 +8,7 @@ use Rattle.std.proofs.lemmas.List.Elements.{filter_agree, filter_map-append}
 use Rattle.rustsec_lock.specs.Package.{PackageValue}
 use Rattle.rustsec_advisory.specs.declared.advisory.Advisory.{Advisory}
 use Rattle.rustsec_query.specs.Pairs.{finds, is_audited}
-use Rattle.rustsec_query.specs.Query.{Asked, of_package}
-use Rattle.rustsec_query.specs.Selects.{selects}
+use Rattle.rustsec_query.specs.Query.{Asked}
 use Rattle.rustsec_report.specs.declared.settings.Settings.{Settings}
 use Rattle.rustsec_check.specs.Pairs.{found, found_at}
 
@@ -20,11 +19,6 @@ filter-none (x ∷ xs) = filter-none xs
 -- a query finds nothing for a package that is not audited
 pub finds-none : (advisories : List Advisory) (q : Asked) (p : PackageValue) → is_audited p ≡ false → filter (finds q p) advisories ≡ []
 finds-none advisories q p h = filter_agree (finds q p) (λ a. false) (λ a. rw h refl) advisories ∙ filter-none advisories
-
--- for one that is, it finds what it selects
-pub finds-selected : (advisories : List Advisory) (q : Asked) (p : PackageValue) → is_audited p ≡ true
-    → filter (selects (of_package q p)) advisories ≡ filter (finds q p) advisories
-finds-selected advisories q p h = filter_agree (selects (of_package q p)) (finds q p) (λ a. rw h refl) advisories
 
 -- ---- one more advisory
 

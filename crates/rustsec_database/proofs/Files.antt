@@ -81,26 +81,6 @@ first-fault files i f loaded e l is h (inl fault) =
 pub at-file : (P : List ℕ → List ℕ → Type 0) (p q t u : List ℕ) → p ≡ q → t ≡ u → P p t → P q u
 at-file P p q t u path text h = rw (← path, ← text) h
 
--- ---- the advisory that was added
-
-some-step : (b : Bool) (n m : ℕ) (l k more : List Advisory) → Some n ≡ cond b (Some m) None → more ≡ cond b l k → (n ≡ m) × (more ≡ l)
-some-step true n m l k more is are = (cc is, are)
-some-step false n m l k more is are = absurd (cc is)
-
-none-step : (b : Bool) (m : ℕ) (l k more : List Advisory) → None ≡ cond b (Some m) None → more ≡ cond b l k → more ≡ k
-none-step true m l k more is are = absurd (cc is)
-none-step false m l k more is are = are
-
-pub added-some : {path text : List ℕ} (loaded more : List Advisory) (o : Option ℕ) (n : ℕ) → IsAdded loaded path text o more → o ≡ Some n
-    → (a : Advisory) × (n ≡ length loaded) × (more ≡ loaded ++ a ∷ [])
-added-some loaded more o n h is =
-    let s = some-step (is_stored h.one) n (length loaded) (loaded ++ h.one ∷ []) loaded more (sym is ∙ h.place_is) h.more_are in
-    (h.one, s.0, s.1)
-
-pub added-none : {path text : List ℕ} (loaded more : List Advisory) (o : Option ℕ) → IsAdded loaded path text o more → o ≡ None → more ≡ loaded
-added-none loaded more o h is =
-    none-step (is_stored h.one) (length loaded) (loaded ++ h.one ∷ []) loaded more (sym is ∙ h.place_is) h.more_are
-
 -- the refusal of a file's text becomes the refusal of the file
 pub fault-of-file : (loaded : List Advisory) (path text : List ℕ) (e r : Failure) → IsAtFault loaded path text e.kind ⊎ IsMemory e
     → (IsMemory e → IsMemory r) → (r ≡ of_file path e) ⊎ IsMemory r → IsFault loaded path text r

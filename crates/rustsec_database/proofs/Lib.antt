@@ -1,7 +1,7 @@
 pub mod Files
 pub mod FurtherFile
-pub mod Indexes
-pub mod Keeping
+pub mod NameSlots
+pub mod KeptFiles
 pub mod Latest
 pub mod Once
 pub mod OnlyWithId

@@ -1,7 +1,7 @@
 -- Places in lists, and the elements at given places.
 use Rattle.std.proofs.Common.{◌≡◌, ◌∙◌, ◌+◌, ◌<◌, ◌++◌, ◌||◌, ℕ, suc, Bool, true, false, cond, List, [], ◌∷◌, Option, Some, None, get_or, length, map, take, refl, sym, ap, append_assoc, arith, length-append}
 use Rattle.std.specs.Borrow.{Bor}
-use Rattle.std.specs.Option.{is_some, option_copied}
+use Rattle.std.specs.Option.{is_some}
 use Rattle.std.specs.List.{All, cons_option, filter, filter_map, find, list_any, position_from, slice_get}
 use Rattle.std.proofs.lemmas.List.Elements.{All-cons, filter-append, filter_map-append}
 use Rattle.std.proofs.lemmas.List.{append-nil, map-append, take_more}
@@ -44,12 +44,6 @@ module _ {A : Type 0} where
   pub first-other : (test : A → Bool) (i : ℕ) (xs : List A) (x : A) → test x ≡ false → position_from test i (xs ++ x ∷ []) ≡ position_from test i xs
   first-other test i [] x fails = rw fails refl
   first-other test i (y ∷ ys) x fails = same-first (test y) i _ _ (first-other test (i + 1) ys x fails)
-
-  pub nowhere : (test : A → Bool) (i : ℕ) (xs : List A) → list_any test xs ≡ false → position_from test i xs ≡ None
-  nowhere test i [] none = refl
-  nowhere test i (y ∷ ys) none =
-      let parts = neither (test y) (list_any test ys) none in
-      rw parts.0 (nowhere test (i + 1) ys parts.1)
 
   found-step : (b : Bool) (i n : ℕ) (x : A) (xs : List A) (o : Option ℕ) (r : Option A) → Some n ≡ cond b (Some i) o
       → (Some n ≡ o → (k : ℕ) × (n ≡ i + 1 + k) × (slice_get xs k ≡ r))
@@ -181,11 +175,3 @@ module _ {A : Type 0} where
   pub find-any : (test : A → Bool) (xs : List A) → is_some (find test xs) ≡ list_any test xs
   find-any test [] = refl
   find-any test (x ∷ xs) = any-step (test x) (list_any test xs) x (find test xs) (find-any test xs)
-
-  seen-some : (o : Option (Bor A)) → is_some (option_copied o) ≡ is_some o
-  seen-some None = refl
-  seen-some (Some x) = refl
-
-  -- an element was found exactly if the test holds for an element
-  pub known-by : (test : A → Bool) (xs : List A) (o : Option (Bor A)) (b : Bool) → option_copied o ≡ find test xs → is_some o ≡ b → list_any test xs ≡ b
-  known-by test xs o b at is = sym (find-any test xs) ∙ (ap is_some (sym at) ∙ (seen-some o ∙ is))

@@ -1,5 +1,6 @@
 -- The tables of a database after one more advisory is stored.
-use Rattle.std.proofs.Common.{◌≡◌, ◌∙◌, ◌+◌, ◌++◌, ◌&&◌, ◌||◌, ℕ, Bool, true, false, cond, IsSome, List, [], ◌∷◌, None, Option, Some, is_some, length, nat_eq, refl, subst, sym, ap, arith}
+use Rattle.std.proofs.Common.{◌≡◌, ◌∙◌, ◌+◌, ◌<◌, ◌++◌, ◌&&◌, ◌||◌, ℕ, Bool, true, false, cond, IsSome, List, [], ◌∷◌, None, Option, Some, get_or, is_some, length, nat_eq, take, refl, subst, sym, ap, arith}
+use Rattle.std.proofs.lemmas.List.{length-take-le, take_more}
 use Rattle.std.specs.Cmp.{first_so, second_so}
 use Rattle.std.specs.Cmp.Lexicographic.{bytes_decides, pointwise}
 use Rattle.std.specs.HashMap as hash
@@ -44,9 +45,6 @@ pub table-more : {S : Type 0} (old : List Advisory) (a : Advisory) (id : IdValue
 table-more old a id m n place same at updates new table q =
     updates.0 q ∙ ((λ i. cond (id_eq (same i) q) (Some (at i)) (hash.get id_eq m q))
     ∙ table-step old a q (hash.get id_eq m q) (id_eq a.metadata.id q) refl (table q) new)
-
-pub empty-table : {S : Type 0} (m : HashMap IdValue ℕ S) → m.entries ≡ [] → IsTableOf [] m
-empty-table m e q = rw e refl
 
 some-step : (b : Bool) (i : ℕ) (o : Option ℕ) (r : Bool) → IsSome (cond b (Some i) o) → (IsSome o → r ≡ true) → (b || r) ≡ true
 some-step true i o r h more = refl
@@ -113,8 +111,13 @@ pub indexed-out : (c : Collection) (before : List Advisory) (a : Advisory) (old 
 indexed-out c before a old under index name =
     index name ∙ sym (places-out (is_under c name) 0 before a (first-fails _ _ under))
 
-pub empty-index : (c : Collection) (index : List (List ℕ × List ℕ)) → index ≡ [] → IsIndexOf c [] index
-empty-index c index e name = rw e refl
+-- the index of the first advisories, with one more
+pub index-more : (c : Collection) (all : List Advisory) (i : ℕ) (a : Advisory) (slot : ℕ) (old new : List (List ℕ × List ℕ)) → i < length all → a ≡ get_or all i a
+    → slot ≡ i → ((before : List Advisory) → slot ≡ length before → IsIndexOf c before old → IsIndexOf c (before ++ a ∷ []) new)
+    → IsIndexOf c (take i all) old → IsIndexOf c (take (i + 1) all) new
+index-more c all i a slot old new l is at put index =
+    let below : slot ≡ length (take i all) = at ∙ sym (length-take-le i all (omega (arith, l))) in
+    subst (λ (b : List Advisory). IsIndexOf c b new) (ap (λ x. take i all ++ x ∷ []) is ∙ sym (take_more all i a l)) (put (take i all) below index)
 
 -- ---- queries
 

@@ -41,9 +41,6 @@ named-more packages i p slot key old new l is at named put index name =
     ∙ (named-step (take i packages) p slot old name (pointwise nat_eq p.name name) refl below index
     ∙ ap (places_from (is_named name) 0) (ap (λ x. take i packages ++ x ∷ []) is ∙ sym (take_more packages i p l)))
 
-pub named-none : (index : List (List ℕ × List ℕ)) → index ≡ [] → IsIndexByName [] index
-named-none index is name = rw is refl
-
 -- ---- the test
 
 module _ {A : Type 0} where

@@ -12,6 +12,7 @@ use Rattle.rustsec_texts.specs.IdOrder.{id_eq}
 use Rattle.rustsec_texts.specs.Ids.{IdValue}
 use Rattle.rustsec_texts.specs.contracts.collection.Collection.{the_type as collection}
 use Rattle.rustsec_texts.specs.declared.collection.Collection.{Collection}
+use Rattle.rustsec_texts.specs.declared.collection.Collection.TheVariants as kind
 use Rattle.rustsec_advisory.specs.declared.advisory.Advisory.{Advisory}
 use Rattle.rustsec_database.specs.Loaded.{has_id}
 use Rattle.rustsec_database.specs.Slots.{slots_at}
@@ -32,6 +33,10 @@ is_under c name a = option_eq (sameb collection) (Some c) a.metadata.collection 
 -- the index of a collection: it maps each name to the places of its advisories
 abbrev pub IsIndexOf : Collection → List Advisory → List (List ℕ × List ℕ) → Type 0
 IsIndexOf c advisories index = (name : List ℕ) → slots_at name index ≡ places_from (is_under c name) 0 advisories
+
+-- the indexes of both collections
+abbrev pub AreIndexesOf : List Advisory → List (List ℕ × List ℕ) → List (List ℕ × List ℕ) → Type 0
+AreIndexesOf advisories crates rust = IsIndexOf kind.Crates advisories crates × IsIndexOf kind.Rust advisories rust
 
 -- the table of IDs: it maps each ID to the place of its advisory
 abbrev pub IsTableOf : {S : Type 0} → List Advisory → HashMap IdValue ℕ S → Type 0

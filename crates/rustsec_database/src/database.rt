@@ -1,6 +1,6 @@
 //! The database: advisories loaded from files, with indexes by ID and by package.
 
-ghost use Rattle.std.specs.Prelude.{◌≡◌, ◌++◌, ◌∷◌, ◌⊎◌, ◌<◌, ◌^◌, [], false, ℕ, Bool, IfErr, IfOk, IfSome, List, OnErr, OnOk, Option, Some, length, map, true};
+ghost use Rattle.std.specs.Prelude.{◌≡◌, ◌++◌, ◌⊎◌, ◌<◌, ◌^◌, ℕ, IfErr, IfOk, IfSome, List, OnOk, length, map, true};
 ghost use Rattle.std.specs.Iterator.Adapters.{IterYieldsInOrder};
 ghost use Rattle.std.specs.List.{filter, find};
 ghost use Rattle.std.specs.Option.{option_copied};
@@ -10,11 +10,11 @@ ghost use Rattle.rustsec_advisory.specs.declared.advisory.Advisory as given;
 ghost use Rattle.rustsec_query.specs.Pairs.{as_vulnerability, is_audited, pairs, pairs_of};
 ghost use Rattle.rustsec_query.specs.Query.{crate_scope, of_package};
 ghost use Rattle.rustsec_query.specs.Selects.{selects};
-ghost use Rattle.rustsec_database.specs.Loaded.{AreLoaded, IsAdded, IsFault, IsFirstFault, IsOnlyWithId, has_id, is_known};
-ghost use Rattle.rustsec_database.specs.Places.{IsIndexOf, at_places, is_under, places_from};
+ghost use Rattle.rustsec_database.specs.Loaded.{AreLoaded, IsFirstFault, IsOnlyWithId, has_id};
+ghost use Rattle.rustsec_database.specs.Places.{AreIndexesOf, at_places, is_under, places_from};
 
 use crate::entries::Entries;
-use crate::index::Index;
+use crate::indexes::Indexes;
 use crate::matches::{Matches, MatchesPackage};
 use crate::pair::{Pair, push_pairs, vulnerabilities_of};
 use crate::slot::Slot;
@@ -37,84 +37,19 @@ pub type Iter<'a> = slice::Iter<'a, Advisory>;
 #[derive(Debug, Drop)]
 pub struct Database {
     entries: Entries,
-    crates: Index,
-    rust: Index,
+    indexes: Indexes,
 }
 
 impl Model for Database {
     ghost use Rattle.std.specs.Prelude.{List};
     ghost use Rattle.rustsec_advisory.specs.declared.advisory.Advisory as given;
-    ghost use Rattle.rustsec_texts.specs.declared.collection.Collection.TheVariants as collection;
-    ghost use Rattle.rustsec_database.specs.Places.{IsIndexOf};
+    ghost use Rattle.rustsec_database.specs.Places.{AreIndexesOf};
 
     ghost Value = { List given.Advisory };
 
     ghost view = { λ d. d.entries };
 
-    ghost invariant = { λ d. IsIndexOf collection.Crates d.entries d.crates × IsIndexOf collection.Rust d.entries d.rust };
-}
-
-/// Adds the slot of an advisory to the index of a collection, if the advisory is in the collection.
-fn index_in(
-    alloc: Global,
-    index: &mut Index,
-    collection: Collection,
-    advisory: &Advisory,
-    slot: Slot,
-) -> Result<()>
-    ensures ok { OnOk result ((before : List given.Advisory) → slot ≡ length before → IsIndexOf collection before index.old
-        → IsIndexOf collection (before ++ advisory.now ∷ []) index.new) }
-    ensures err { IfErr result IsMemory }
-{
-    if Some(collection) == advisory.metadata.collection {
-        let _fresh = index.insert(alloc, &advisory.metadata.package, slot)?;
-    }
-    Ok(())
-}
-
-/// Adds a slot to the index of the collection that its advisory is in.
-fn index_both(
-    alloc: Global,
-    entries: &Entries,
-    slot: Slot,
-    crates: &mut Index,
-    rust: &mut Index,
-) -> Result<()>
-    ensures ok { OnOk result ((before : List given.Advisory) (a : given.Advisory) → slot ≡ length before → entries.now ≡ before ++ a ∷ []
-        → (IsIndexOf Collection.Crates before crates.old → IsIndexOf Collection.Crates entries.now crates.new)
-        × (IsIndexOf Collection.Rust before rust.old → IsIndexOf Collection.Rust entries.now rust.new)) }
-    ensures err { IfErr result IsMemory }
-{
-    if let Some(advisory) = entries.get(slot) {
-        index_in(alloc, crates, Collection::Crates, advisory, slot)?;
-        index_in(alloc, rust, Collection::Rust, advisory, slot)?;
-    }
-    Ok(())
-}
-
-/// Loads the advisory of the file with this path and this text, and indexes it if it is stored.
-fn load_one(
-    alloc: Global,
-    path: &str,
-    text: &str,
-    entries: &mut Entries,
-    crates: &mut Index,
-    rust: &mut Index,
-) -> Result<()>
-    ensures added { OnOk result ((place : Option ℕ) × IsAdded entries.old path.now text.now place entries.new) }
-    ensures indexed { OnOk result (
-        (IsIndexOf Collection.Crates entries.old crates.old → IsIndexOf Collection.Crates entries.new crates.new)
-        × (IsIndexOf Collection.Rust entries.old rust.old → IsIndexOf Collection.Rust entries.new rust.new)) }
-    ensures err { IfErr result (IsFault entries.old path.now text.now) }
-{
-    let added = entries.load_text(alloc, path, text)?;
-    match added {
-        Some(slot) => {
-            index_both(alloc, entries, slot, crates, rust)?;
-            Ok(())
-        }
-        None => Ok(()),
-    }
+    ghost invariant = { λ d. AreIndexesOf d.entries d.indexes.crates d.indexes.rust };
 }
 
 /// Returns the advisories in some slots that pass a test, in the order of the slots.
@@ -163,57 +98,17 @@ fn is_audited(package: &Package) -> bool
 }
 
 impl Database {
-    /// Returns a database without advisories.
-    pub(crate) fn empty(alloc: Global) -> Database
-        ensures { result ≡ [] }
-    {
-        Database {
-            entries: Entries::new(alloc),
-            crates: Index::new(alloc),
-            rust: Index::new(alloc),
-        }
-    }
-
-    /// Loads one more file, with this path and this text, and returns the database.
+    /// Returns the database of some entries. All are indexed here, so that the names in an index are side by side in memory.
     ///
     /// # Errors
     ///
-    /// As `Entries::load_text`.
-    pub(crate) fn with_file(self, alloc: Global, path: &str, text: &str) -> Result<Database>
-        ensures ok { IfOk result (λ d. (place : Option ℕ) × IsAdded self path.now text.now place d) }
-        ensures err { IfErr result (IsFault self path.now text.now) }
-    {
-        let Database {
-            mut entries,
-            mut crates,
-            mut rust,
-        } = self;
-        load_one(alloc, path, text, &mut entries, &mut crates, &mut rust)?;
-        Ok(Database {
-            entries,
-            crates,
-            rust,
-        })
-    }
-
-    /// Stores one more advisory, whose ID no other one has, and returns the database.
-    pub(crate) fn with_advisory(self, alloc: Global, advisory: Advisory) -> Result<Database>
-        requires { is_known self advisory ≡ false }
-        ensures ok { IfOk result (λ d. d ≡ self ++ advisory ∷ []) }
+    /// `OutOfMemory` alone.
+    pub(crate) fn of(alloc: Global, entries: Entries) -> Result<Database>
+        ensures ok { IfOk result (λ d. d ≡ entries) }
         ensures err { IfErr result IsMemory }
     {
-        let Database {
-            mut entries,
-            mut crates,
-            mut rust,
-        } = self;
-        let slot = entries.store(alloc, advisory)?;
-        index_both(alloc, &entries, slot, &mut crates, &mut rust)?;
-        Ok(Database {
-            entries,
-            crates,
-            rust,
-        })
+        let indexes = Indexes::of(alloc, entries.as_slice())?;
+        Ok(Database { entries, indexes })
     }
 
     /// Loads the database of some files. Advisories whose ID is the placeholder are left out.
@@ -230,10 +125,11 @@ impl Database {
         ensures err { IfErr result (λ e. IsFirstFault files.now e ⊎ IsMemory e) }
         ensures none { IfErr result (λ e. ((other : List given.Advisory) → ¬ AreLoaded files.now other) ⊎ IsMemory e) }
     {
-        let mut database = Database::empty(alloc);
+        let mut entries = Entries::new(alloc);
         for file in files {
-            database = database.with_file(alloc, file.path.as_str(), file.text.as_str())?;
+            entries = entries.with_file(alloc, file.path.as_str(), file.text.as_str())?;
         }
+        let database = Database::of(alloc, entries)?;
         Ok(database)
     }
 
@@ -258,11 +154,7 @@ impl Database {
     fn slots(&self, collection: Collection, name: &Name) -> &[Slot]
         ensures { result.now ≡ places_from (is_under collection name.now) 0 self.now }
     {
-        let slots = match collection {
-            Collection::Crates => self.crates.get(name),
-            Collection::Rust => self.rust.get(name),
-        };
-        match slots {
+        match self.indexes.get(collection, name) {
             Some(slots) => slots,
             None => &[],
         }
@@ -418,8 +310,7 @@ impl IntoIterator for Database {
     fn into_iter(self) -> vec::IntoIter<Advisory> {
         let Database {
             entries,
-            crates: _,
-            rust: _,
+            indexes: _,
         } = self;
         entries.into_iter()
     }

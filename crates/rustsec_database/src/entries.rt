@@ -1,6 +1,6 @@
 //! The stored advisories, with a table that finds them by ID.
 
-ghost use Rattle.std.specs.Prelude.{◌≡◌, ◌++◌, ◌∷◌, ◌⊎◌, ◌<◌, ◌^◌, [], false, ℕ, IfErr, IfOk, IfSome, IsSome, List, None, OnErr, OnOk, Some, length, slice_get, true};
+ghost use Rattle.std.specs.Prelude.{◌≡◌, ◌++◌, ◌∷◌, ◌⊎◌, ◌<◌, ◌^◌, [], false, ℕ, IfErr, IfOk, IfSome, IsSome, List, None, Option, OnErr, OnOk, Some, length, slice_get, true};
 ghost use Rattle.std.specs.HashMap as hash;
 ghost use Rattle.std.specs.Iterator.Adapters.{IterYieldsInOrder};
 ghost use Rattle.std.specs.List.{find};
@@ -10,7 +10,6 @@ ghost use Rattle.rustsec_files.specs.ReadFailures.{IsReadFailure};
 ghost use Rattle.rustsec_folders.specs.Allowed.{AllowSame, real_folders};
 ghost use Rattle.rustsec_error.specs.Failure.{IsMemory, IsOfKind};
 ghost use Rattle.rustsec_texts.specs.IdOrder.{id_eq};
-ghost use Rattle.rustsec_database.specs.Filing.{IsFiled};
 ghost use Rattle.rustsec_database.specs.Loaded.{IsAdded, IsAtFault, IsFault, IsOnlyWithId, has_id, is_known};
 ghost use Rattle.rustsec_database.specs.Opened.{IsAddedAt, IsFaultAt};
 
@@ -58,14 +57,14 @@ pub(crate) fn duplicate(alloc: Global, id: &Id) -> Error
     }
 }
 
-/// Maps an ID to a slot, unless the ID has one. Returns whether it had none. One search finds both.
+/// Maps an ID to a slot, unless the ID has one. Returns whether it had none. One search finds the ID or its place.
 fn put_new(
     slots: &mut HashMap<Id, Slot>,
     id: Id,
     slot: Slot,
 ) -> std::result::Result<bool, AllocError>
-    ensures new { IfOk result (λ new. new ≡ true → (hash.get id_eq slots.old id ≡ None) × hash.Updates id_eq slots.old slots.new id (Some slot)) }
-    ensures old { IfOk result (λ new. new ≡ false → IsSome (hash.get id_eq slots.old id) × (slots.new.entries ≡ slots.old.entries)) }
+    ensures fresh { IfOk result (λ fresh. fresh ≡ true → (hash.get id_eq slots.old id ≡ None) × hash.Updates id_eq slots.old slots.new id (Some slot)) }
+    ensures known { IfOk result (λ fresh. fresh ≡ false → IsSome (hash.get id_eq slots.old id) × (slots.new.entries ≡ slots.old.entries)) }
     ensures kept { OnErr result (slots.new.entries ≡ slots.old.entries) }
 {
     match slots.entry(id)? {
@@ -92,7 +91,8 @@ impl Entries {
     ///
     /// # Errors
     ///
-    /// `Parse` if the ID is that of a stored advisory; else `OutOfMemory`. On an error nothing is changed.
+    /// `OutOfMemory`, whether the ID is known or not; `Parse` only if it is that of a stored advisory. On an error nothing
+    /// is changed.
     pub(crate) fn store(&mut self, alloc: Global, advisory: Advisory) -> Result<Slot>
         ensures ok { OnOk result ((is_known self.old advisory ≡ false) × (self.new ≡ self.old ++ advisory ∷ [])) }
         ensures slot { IfOk result (λ slot. slot ≡ length self.old) }
@@ -105,6 +105,7 @@ impl Entries {
         if !put_new(&mut self.slots, id, slot)? {
             return Err(duplicate(alloc, &advisory.metadata.id));
         }
+        // There is room, so this is not refused.
         self.advisories.push(advisory).map_err(|_| AllocError)?;
         Ok(slot)
     }
@@ -148,6 +149,29 @@ impl Entries {
             Ok(slot) => Ok(slot),
             Err(e) => Err(refused_file(alloc, path, &e)),
         }
+    }
+
+    /// Loads one more file, with this path and this text, and returns the entries.
+    ///
+    /// # Errors
+    ///
+    /// As `load_text`.
+    pub(crate) fn with_file(mut self, alloc: Global, path: &str, text: &str) -> Result<Entries>
+        ensures ok { IfOk result (λ more. (place : Option ℕ) × IsAdded self path.now text.now place more) }
+        ensures err { IfErr result (IsFault self path.now text.now) }
+    {
+        self.load_text(alloc, path, text)?;
+        Ok(self)
+    }
+
+    /// Stores one more advisory, whose ID no other one has, and returns the entries.
+    pub(crate) fn with_advisory(mut self, alloc: Global, advisory: Advisory) -> Result<Entries>
+        requires { is_known self advisory ≡ false }
+        ensures ok { IfOk result (λ more. more ≡ self ++ advisory ∷ []) }
+        ensures err { IfErr result IsMemory }
+    {
+        self.store(alloc, advisory)?;
+        Ok(self)
     }
 
     /// Reads the file at a path through `folders`, and loads its advisory as `load_text` does.

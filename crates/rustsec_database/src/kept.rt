@@ -1,27 +1,21 @@
 //! The advisories under a root that pass a test, beside the IDs and the latest date of all advisories there.
 
-ghost use Rattle.std.specs.Prelude.{◌≡◌, ◌++◌, ◌∷◌, ◌+◌, ◌||◌, ◌⊎◌, [], false, if◌then◌else◌, not, IfErr, IfOk, List, None, OnOk, length, option_map};
+ghost use Rattle.std.specs.Prelude.{◌≡◌, IfErr, IfOk, length, option_map};
 ghost use Rattle.std.specs.List.{list_any};
 ghost use Rattle.rustsec_error.specs.Failure.{IsMemory};
 ghost use Rattle.rustsec_folders.specs.Allowed.{AllowSame};
-ghost use Rattle.rustsec_folders.specs.declared.source_file.SourceFile.{SourceFile};
 ghost use Rattle.rustsec_texts.specs.IdOrder.{id_eq};
-ghost use Rattle.rustsec_texts.specs.Ids.{IdValue};
-ghost use Rattle.rustsec_advisory.specs.declared.advisory.Advisory as given;
-ghost use Rattle.rustsec_database.specs.Kept.{AreOpenedFor, IsKept, IsKeptLoadOf, IsKeptWith};
-ghost use Rattle.rustsec_database.specs.Latest.{later};
-ghost use Rattle.rustsec_database.specs.Loaded.{IsAtFault, IsFault, is_known};
-ghost use Rattle.rustsec_database.specs.Opened.{AreRead, IsOpenRefusal, IsReadRefusal};
+ghost use Rattle.rustsec_database.specs.Kept.{AreOpenedFor};
+ghost use Rattle.rustsec_database.specs.Opened.{IsOpenRefusal};
 
 use crate::database::Database;
-use crate::entries::duplicate;
-use crate::filing::filed;
+use crate::keeping::{Keeping, keep_paths};
 use rustsec_advisory::Advisory;
-use rustsec_error::{Result, refused_file};
+use rustsec_error::Result;
 use rustsec_folders::{Folders, source_paths};
 use rustsec_texts::{Date, Id};
-use rustsec_values::{Items, Test, Text, exact_copy};
-use std::alloc::{AllocError, Global};
+use rustsec_values::Test;
+use std::alloc::Global;
 use std::collections::HashSet;
 use std::marker::Model;
 
@@ -44,113 +38,23 @@ impl Model for KeptDatabase {
     ghost invariant = { λ k. HaveIdsAmong k.ids.keys k.database };
 }
 
-/// Puts an ID among some. Returns whether it is new.
-fn add_id(ids: &mut HashSet<Id>, id: &Id) -> std::result::Result<bool, AllocError>
-    ensures fresh { IfOk result (λ fresh. fresh ≡ not (list_any (id_eq id.now) ids.old.keys)) }
-    ensures among { OnOk result ((q : IdValue) → list_any (id_eq q) ids.new.keys ≡ (list_any (id_eq q) ids.old.keys || id_eq q id.now)) }
-    ensures number { IfOk result (λ fresh. length ids.new.keys ≡ length ids.old.keys + (if fresh then 1 else 0)) }
-{
-    let id = exact_copy(id)?;
-    let fresh = ids.insert(id)?;
-    Ok(fresh)
-}
-
-/// Returns the later of a date, if any, and another one.
-fn later(latest: Option<Date>, date: &Date) -> std::result::Result<Option<Date>, AllocError>
-    ensures { IfOk result (λ d. d ≡ later latest date.now) }
-{
-    match latest {
-        Some(other) if *date <= other => Ok(Some(other)),
-        _ => {
-            let date = exact_copy(date)?;
-            Ok(Some(date))
-        }
-    }
-}
-
-/// Stores an advisory if it passes a test. No stored one has its ID.
-fn store_if<T: Test<Advisory>>(
-    alloc: Global,
-    database: Database,
-    advisory: Advisory,
-    test: &T,
-) -> Result<Database>
-    requires { is_known database advisory ≡ false }
-    ensures ok { IfOk result (λ d. d ≡ (if T.passes test.now advisory then database ++ advisory ∷ [] else database)) }
-    ensures err { IfErr result IsMemory }
-{
-    if test.passes(&advisory) {
-        database.with_advisory(alloc, advisory)
-    } else {
-        Ok(database)
-    }
-}
-
 impl KeptDatabase {
-    /// Returns a database without advisories, IDs and a date.
-    fn empty(alloc: Global) -> KeptDatabase
-        ensures { result ≡ record { advisories = []; ids = []; last_date = None } }
+    /// Returns the database of what is kept.
+    fn of(alloc: Global, keeping: Keeping) -> Result<KeptDatabase>
+        ensures ok { IfOk result (λ k. k ≡ keeping) }
+        ensures err { IfErr result IsMemory }
     {
-        KeptDatabase {
-            database: Database::empty(alloc),
-            ids: HashSet::new(alloc),
-            last_date: None,
-        }
-    }
-
-    /// Adds the advisory of a file, unless its ID is the placeholder: its ID, its date if it is the latest,
-    /// and the advisory itself if it passes a test.
-    fn added<T: Test<Advisory>>(
-        self,
-        alloc: Global,
-        path: &str,
-        text: &str,
-        test: &T,
-    ) -> Result<KeptDatabase>
-        ensures ok { IfOk result (λ k. (all : List given.Advisory) → IsKept (T.passes test.now) all self
-            → IsKeptWith (T.passes test.now) all path.now text.now k) }
-        ensures err { IfErr result (λ e. (all : List given.Advisory) → IsKept (T.passes test.now) all self
-            → IsAtFault all path.now text.now e.kind ⊎ IsMemory e) }
-    {
-        let advisory = filed(alloc, path, text)?;
-        if advisory.metadata.id.is_placeholder() {
-            return Ok(self);
-        }
-        let KeptDatabase {
-            database,
-            mut ids,
+        let Keeping {
+            entries,
+            ids,
             last_date,
-        } = self;
-        let fresh = add_id(&mut ids, &advisory.metadata.id)?;
-        if !fresh {
-            return Err(duplicate(alloc, &advisory.metadata.id));
-        }
-        let last_date = later(last_date, &advisory.metadata.date)?;
-        let database = store_if(alloc, database, advisory, test)?;
+        } = keeping;
+        let database = Database::of(alloc, entries)?;
         Ok(KeptDatabase {
             database,
             ids,
             last_date,
         })
-    }
-
-    /// Loads one more file, with this path and this text, and returns the database.
-    fn with_file<T: Test<Advisory>>(
-        self,
-        alloc: Global,
-        path: &str,
-        text: &str,
-        test: &T,
-    ) -> Result<KeptDatabase>
-        ensures ok { IfOk result (λ k. (all : List given.Advisory) → IsKept (T.passes test.now) all self
-            → IsKeptWith (T.passes test.now) all path.now text.now k) }
-        ensures err { IfErr result (λ e. (all : List given.Advisory) → IsKept (T.passes test.now) all self
-            → IsFault all path.now text.now e) }
-    {
-        match self.added(alloc, path, text, test) {
-            Ok(kept) => Ok(kept),
-            Err(e) => Err(refused_file(alloc, path, &e)),
-        }
     }
 
     /// Returns the advisories that were kept.
@@ -210,42 +114,8 @@ impl KeptDatabase {
         ensures same { AllowSame (F.allowed folders.old) (F.allowed folders.new) }
     {
         let paths = source_paths(alloc, folders, root)?;
-        keep_paths(alloc, folders, paths, test)
+        let keeping = keep_paths(alloc, folders, paths, test)?;
+        let kept = KeptDatabase::of(alloc, keeping)?;
+        Ok(kept)
     }
-}
-
-/// Loads one more file into the database of the files before it. If `before` is an error, that error is returned and
-/// the file is not loaded.
-fn keep_next<T: Test<Advisory>>(
-    alloc: Global,
-    before: Result<KeptDatabase>,
-    path: &str,
-    text: &str,
-    test: &T,
-) -> Result<KeptDatabase>
-    ensures { (files : List SourceFile) → IsKeptLoadOf (T.passes test.now) files before
-        → IsKeptLoadOf (T.passes test.now) (files ++ record { path = path.now; text = text.now } ∷ []) result }
-{
-    let kept = before?;
-    kept.with_file(alloc, path, text, test)
-}
-
-/// Loads the files at some paths. Files after one at fault are read too. One text is held at a time, and a path until its
-/// file is loaded.
-fn keep_paths<F: Folders, T: Test<Advisory>>(
-    alloc: Global,
-    folders: &mut F,
-    paths: Items<Text>,
-    test: &T,
-) -> Result<KeptDatabase>
-    ensures ok { IfOk result (λ k. (all : List given.Advisory) × (AreRead (F.allowed folders.old) paths all × IsKept (T.passes test.now) all k)) }
-    ensures err { IfErr result (IsReadRefusal (F.allowed folders.old) paths) }
-    ensures same { AllowSame (F.allowed folders.old) (F.allowed folders.new) }
-{
-    let mut loaded = Ok(KeptDatabase::empty(alloc));
-    for path in Vec::from(paths) {
-        let text = folders.read(alloc, path.as_str())?;
-        loaded = keep_next(alloc, loaded, path.as_str(), text.as_str(), test);
-    }
-    loaded
 }

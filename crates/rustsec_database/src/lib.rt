@@ -5,6 +5,8 @@ mod database;
 mod entries;
 pub mod filing;
 mod index;
+mod indexes;
+mod keeping;
 mod kept;
 mod locked;
 mod matches;

@@ -6,30 +6,31 @@ ghost use Rattle.rustsec_folders.specs.declared.source_file.SourceFile.{SourceFi
 ghost use Rattle.rustsec_database.specs.Opened.{AreOpened, AreRead, IsLoadOf, IsOpenRefusal, IsReadRefusal};
 
 use crate::database::Database;
+use crate::entries::Entries;
 use rustsec_error::Result;
 use rustsec_folders::{Folders, RealFolders, source_paths};
 use rustsec_values::{Items, Text};
 use std::alloc::Global;
 use std::rt::Files;
 
-/// Loads one more file into the database of the files before it. If `before` is an error, that error is
-/// returned and the file is not loaded.
-fn load_next(alloc: Global, before: Result<Database>, path: &str, text: &str) -> Result<Database>
+/// Loads one more file after the files before it. If `before` is an error, that error is returned and the file is not
+/// loaded.
+fn load_next(alloc: Global, before: Result<Entries>, path: &str, text: &str) -> Result<Entries>
     ensures { (files : List SourceFile) → IsLoadOf files before
         → IsLoadOf (files ++ record { path = path.now; text = text.now } ∷ []) result }
 {
-    let database = before?;
-    database.with_file(alloc, path, text)
+    let entries = before?;
+    entries.with_file(alloc, path, text)
 }
 
-/// Loads the database of the files at some paths. Files after one at fault are read too. One text is held
-/// at a time, and a path until its file is loaded.
-fn load_paths<F: Folders>(alloc: Global, folders: &mut F, paths: Items<Text>) -> Result<Database>
+/// Loads the files at some paths. Files after one at fault are read too. One text is held at a time, and a path until its
+/// file is loaded.
+fn load_paths<F: Folders>(alloc: Global, folders: &mut F, paths: Items<Text>) -> Result<Entries>
     ensures ok { IfOk result (AreRead (F.allowed folders.old) paths) }
     ensures err { IfErr result (IsReadRefusal (F.allowed folders.old) paths) }
     ensures same { AllowSame (F.allowed folders.old) (F.allowed folders.new) }
 {
-    let mut loaded = Ok(Database::empty(alloc));
+    let mut loaded = Ok(Entries::new(alloc));
     for path in Vec::from(paths) {
         let text = folders.read(alloc, path.as_str())?;
         loaded = load_next(alloc, loaded, path.as_str(), text.as_str());
@@ -40,7 +41,7 @@ fn load_paths<F: Folders>(alloc: Global, folders: &mut F, paths: Items<Text>) ->
 impl Database {
     /// Opens the database of the files under a root, read through `folders`: the files of `crates` and
     /// after them those of `rust`, in the order of their folders' names and then of their own. All folders
-    /// are listed first. Then each file is read and loaded, and its text is dropped.
+    /// are listed first. Then each file is read and loaded, and its text is dropped. The advisories are indexed last.
     ///
     /// # Errors
     ///
@@ -52,7 +53,9 @@ impl Database {
         ensures same { AllowSame (F.allowed folders.old) (F.allowed folders.new) }
     {
         let paths = source_paths(alloc, folders, root)?;
-        load_paths(alloc, folders, paths)
+        let entries = load_paths(alloc, folders, paths)?;
+        let database = Database::of(alloc, entries)?;
+        Ok(database)
     }
 
     /// Opens the database of the files under a root of the disk. A pipe, a device or a socket where a file

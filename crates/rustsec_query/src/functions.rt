@@ -10,9 +10,8 @@ ghost use Rattle.rustsec_query.specs.Functions.{functions_of, matching, matches_
 
 use crate::vulnerability::Vulnerability;
 use crate::vulnerability_ref::VulnerabilityRef;
+use rustsec_advisory::Functions;
 use rustsec_texts::FunctionPath;
-use rustsec_values::SortedMap;
-use rustsec_versions::Requirements;
 use semver::{Version, VersionReq};
 use std::alloc::{AllocError, Global};
 
@@ -38,14 +37,14 @@ fn matches_some(reqs: &[VersionReq], version: &Version) -> bool
 /// Returns the paths of the functions with a requirement that a version matches, in their order.
 fn matching(
     alloc: Global,
-    functions: &SortedMap<FunctionPath, Requirements>,
+    functions: &Functions,
     version: &Version,
 ) -> Result<Vec<FunctionPath>, AllocError>
     ensures ok { IfOk result (λ v. v.items ≡ matching (parts_of version.now) functions.now) }
     ensures none { OnErr result (0 < length (matching (parts_of version.now) functions.now)) }
 {
     let mut paths = Vec::new(alloc);
-    for (path, reqs) in functions.as_map() {
+    for (path, reqs) in functions.as_slice() {
         if matches_some(reqs.as_slice(), version) {
             paths.push(Clone::clone(path)?)?;
         }

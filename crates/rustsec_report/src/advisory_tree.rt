@@ -6,24 +6,18 @@ ghost use Rattle.rustsec_json.specs.Trees.{optional_tree};
 ghost use Rattle.rustsec_report.specs.Trees.{affected_entries, affected_tree, functions, kinds, metadata_entries, metadata_tree, object_of, origin, package_entries, package_tree, subject, terms, versions_entries, versions_tree, with_members};
 
 use crate::object::{Members, put_tree, put_value, requirements_tree};
-use rustsec_advisory::{Affected, Metadata};
+use rustsec_advisory::{Affected, Functions, Metadata};
 use rustsec_lock::package::Package;
-use rustsec_texts::FunctionPath;
-use rustsec_values::SortedMap;
-use rustsec_versions::{Requirements, Versions};
+use rustsec_versions::Versions;
 use serde_json::Value;
 use std::alloc::{AllocError, Global};
 
 /// Sets the key of each function, its path, to its requirements.
 #[tactic(auto, unfolding(crate::specs::Trees::with_members))]
-fn put_functions(
-    alloc: Global,
-    members: &mut Members,
-    list: &SortedMap<FunctionPath, Requirements>,
-) -> Result<(), AllocError>
+fn put_functions(alloc: Global, members: &mut Members, list: &Functions) -> Result<(), AllocError>
     ensures { OnOk result (members_view members.new.entries ≡ with_members (members_view members.old.entries) (functions list.now)) }
 {
-    for (path, reqs) in list.as_map() {
+    for (path, reqs) in list.as_slice() {
         let key = path.to_string(alloc)?;
         let tree = requirements_tree(alloc, reqs.as_slice())?;
         put_tree(alloc, members, &key, tree)?;
@@ -32,10 +26,7 @@ fn put_functions(
 }
 
 /// Builds the tree of functions.
-fn functions_tree(
-    alloc: Global,
-    list: &SortedMap<FunctionPath, Requirements>,
-) -> Result<Value, AllocError>
+fn functions_tree(alloc: Global, list: &Functions) -> Result<Value, AllocError>
     ensures { IfOk result (λ v. view v ≡ object_of (functions list.now)) }
 {
     let mut members = Members::new(alloc);

@@ -39,6 +39,8 @@ mod paths;
 #[cfg(test)]
 mod readers_and_writers;
 #[cfg(test)]
+mod report_of_each_kind;
+#[cfg(test)]
 mod reports;
 #[cfg(test)]
 mod roots;

@@ -11,6 +11,8 @@ mod databases;
 #[cfg(test)]
 mod folders;
 #[cfg(test)]
+mod functions_by_path;
+#[cfg(test)]
 mod hostile_input;
 #[cfg(test)]
 mod listings;

@@ -10,15 +10,13 @@ use crate::affected::{
 };
 use crate::ranges::OsvJsonRange;
 use crate::severity::OsvSeverity;
-use rustsec_advisory::Affected;
 use rustsec_advisory::metadata::Kinds;
+use rustsec_advisory::{Affected, Functions};
 use rustsec_lock::Cvss;
 use rustsec_lock::package::Name;
 use rustsec_texts::{Date, FunctionPath};
 use rustsec_values::{Items, Text, exact_copy};
-use rustsec_versions::Requirements;
 use std::alloc::{AllocError, Global};
-use std::collections::BTreeMap;
 
 /// The ecosystem of the packages of crates.io.
 pub(crate) const ECOSYSTEM: &str = "crates.io";
@@ -58,13 +56,13 @@ pub(crate) fn package_of(alloc: Global, name: &Name) -> Result<OsvPackage, Alloc
 }
 
 /// Returns the paths of functions, in order.
-fn paths_of(
-    alloc: Global,
-    functions: BTreeMap<FunctionPath, Requirements>,
-) -> Result<Vec<FunctionPath>, AllocError>
-    ensures { IfOk result (λ v. v.items ≡ keys_of functions.entries) }
+fn paths_of(alloc: Global, functions: Functions) -> Result<Vec<FunctionPath>, AllocError>
+    ensures { IfOk result (λ v. v.items ≡ keys_of functions) }
 {
-    functions.into_keys().collect(alloc)
+    Vec::from(functions)
+        .into_iter()
+        .map(|(path, _)| path)
+        .collect(alloc)
 }
 
 /// Returns the affected platforms and functions, none if the advisory names none.
@@ -79,7 +77,7 @@ fn affects_of(
         None => Affected::default(alloc),
     };
     let (arch, os, functions) = affected.into_parts();
-    let paths = paths_of(alloc, BTreeMap::from(functions))?;
+    let paths = paths_of(alloc, functions)?;
     Ok(OsvEcosystemSpecificAffected {
         arch,
         os,

@@ -12,7 +12,7 @@ use Rattle.rustsec_database.proofs.open.load_paths.Goals as goal
 pub loop-path-init : goal.loop-path-init
 loop-path-init g c = record {
   same = same-refl _;
-  load = load-none (g.F.Folders.allowed c.args.folders.now) c.empty.result c.empty.ensures loaded-none;
+  load = load-none (g.F.Folders.allowed c.args.folders.now) c.new.result c.new.ensures loaded-none;
 }
 
 pub loop-path-preserved : goal.loop-path-preserved

@@ -4,4 +4,4 @@ use Rattle.rustsec_database.proofs.database.Database.load.Given as goal
 
 -- the files so far are loaded
 abbrev pub invariant-loop-file : goal.invariant-loop-file
-invariant-loop-file l = AreLoaded (take l.file-index l.files) l.database
+invariant-loop-file l = AreLoaded (take l.file-index l.files) l.entries

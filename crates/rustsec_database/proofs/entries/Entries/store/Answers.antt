@@ -10,14 +10,14 @@ pub returns-then-not-branch-clause-err : goal.returns-then-not-branch-clause-err
 returns-then-not-branch-clause-err c =
     let old : c.in_ok-put_new.field-0 ≡ false = search rules in
     let known = known-in-table c.self.inside.advisories.items c.args.advisory c.in_ok-id.id c.self.inside.slots c.in_ok-id.ensures c.self.invariant.0
-    (c.in_ok-put_new.ensures.old old).0 in
+    (c.in_ok-put_new.ensures.known old).0 in
     inl (subst (λ (l : List Advisory). is_known l c.args.advisory ≡ true) c.self.view_is known, c.duplicate.ensures)
 
 pub invariant_of-self-2 : goal.invariant_of-self-2
 invariant_of-self-2 c =
     let stored = c.self.inside.advisories.items in
     let new : c.in_ok-put_new.field-0 ≡ true = search rules in
-    let put = c.in_ok-put_new.ensures.new new in
+    let put = c.in_ok-put_new.ensures.fresh new in
     let fresh = new-in-table stored c.args.advisory c.in_ok-id.id c.self.inside.slots c.in_ok-id.ensures c.self.invariant.0 put.0 in
     let pushed : c.push.new.self.items ≡ c.reserve.new.self.items ++ c.args.advisory ∷ [] = search rules in
     let are = pushed ∙ ap (λ l. l ++ c.args.advisory ∷ []) c.in_ok-reserve.ensures.items in
@@ -32,5 +32,5 @@ pub returns-clause-ok : goal.returns-clause-ok
 returns-clause-ok c =
     let new : c.in_ok-put_new.field-0 ≡ true = search rules in
     let fresh = new-in-table c.self.inside.advisories.items c.args.advisory c.in_ok-id.id c.self.inside.slots c.in_ok-id.ensures c.self.invariant.0
-    (c.in_ok-put_new.ensures.new new).0 in
+    (c.in_ok-put_new.ensures.fresh new).0 in
     (subst (λ (l : List Advisory). is_known l c.args.advisory ≡ false) c.self.view_is fresh, search rules)

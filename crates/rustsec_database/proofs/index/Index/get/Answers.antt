@@ -1,6 +1,6 @@
 use Rattle.std.proofs.Common.{◌∙◌, Some, ap, subst, sym}
 use Rattle.rustsec_database.specs.Slots.{Rises, where_any}
-use Rattle.rustsec_database.proofs.Indexes.{found-slots, no-slots, rise-found}
+use Rattle.rustsec_database.proofs.NameSlots.{found-slots, no-slots, rise-found}
 use Rattle.rustsec_database.proofs.Slots.{where-some}
 use Rattle.rustsec_database.proofs.index.Index.get.Goals as goal
 

@@ -3,7 +3,7 @@ use Rattle.std.specs.Cmp.Lexicographic.{pointwise}
 use Rattle.std.specs.List.{list_any}
 use Rattle.rustsec_database.specs.Indexes.{shown}
 use Rattle.rustsec_database.specs.Slots.{Rises, slots_at, with_slot}
-use Rattle.rustsec_database.proofs.Indexes.{found-slots, is-there, no-slots, on-err, put-seen, rise-found, rise-updated, slots_of, written}
+use Rattle.rustsec_database.proofs.NameSlots.{found-slots, is-there, no-slots, on-err, put-seen, rise-found, rise-updated, slots_of, written}
 use Rattle.rustsec_database.proofs.Slots.{rises-with, with_slot-some}
 use Rattle.rustsec_database.proofs.index.Index.insert.Goals as goal
 

@@ -1,6 +1,6 @@
 use Rattle.std.proofs.Common.{◌∷◌, [], arith, subst, sym}
 use Rattle.rustsec_database.specs.Slots.{Rises}
-use Rattle.rustsec_database.proofs.Indexes.{put-seen, rise-updated}
+use Rattle.rustsec_database.proofs.NameSlots.{put-seen, rise-updated}
 use Rattle.rustsec_database.proofs.Slots.{rises-one}
 use Rattle.rustsec_database.proofs.index.Index.insert_first.Goals as goal
 

@@ -1,17 +1,16 @@
 use Rattle.std.proofs.Common.{refl}
-use Rattle.std.proofs.lemmas.Result.{IfErr-weaker, IfOk-weaker}
-use Rattle.rustsec_database.proofs.Keeping.{kept-opened}
+use Rattle.std.proofs.lemmas.Result.{err_from_is_err_and}
+use Rattle.rustsec_database.proofs.KeptFiles.{kept-opened}
 use Rattle.rustsec_database.proofs.Opening.{open-refused}
 use Rattle.rustsec_database.proofs.kept.KeptDatabase.open_with.Goals as goal
 
+pub returns-in_err-keeping-clause-err : goal.returns-in_err-keeping-clause-err
+returns-in_err-keeping-clause-err g c =
+    let p = err_from_is_err_and c.from_residual-in_err-keeping.result c.from_residual-in_err-keeping.ensures.1 in
+    rw (p.1, p.2) (open-refused _ _ c.args.root.now c.in_ok-paths.paths c.in_ok-paths.paths c.in_err-keeping.field-0.0 c.source_paths.ensures.same
+    c.in_ok-paths.ensures.ok refl c.in_err-keeping.ensures.err)
+
 pub returns-clause-ok : goal.returns-clause-ok
 returns-clause-ok g c =
-    IfOk-weaker c.keep_paths.result _ _
-    (λ k h. kept-opened (g.T.Test.passes c.args.test.now) _ _ c.args.root.now c.in_ok-paths.paths c.in_ok-paths.paths k c.source_paths.ensures.same
-    c.in_ok-paths.ensures.ok refl h) c.keep_paths.ensures.ok
-
-pub returns-clause-err : goal.returns-clause-err
-returns-clause-err g c =
-    IfErr-weaker c.keep_paths.result _ _
-    (λ e h. open-refused _ _ c.args.root.now c.in_ok-paths.paths c.in_ok-paths.paths e c.source_paths.ensures.same c.in_ok-paths.ensures.ok
-    refl h) c.keep_paths.ensures.err
+    rw c.in_ok-kept.ensures.ok (kept-opened (g.T.Test.passes c.args.test.now) _ _ c.args.root.now c.in_ok-paths.paths c.in_ok-paths.paths c.in_ok-keeping.keeping
+    c.source_paths.ensures.same c.in_ok-paths.ensures.ok refl c.in_ok-keeping.ensures.ok)

@@ -2,8 +2,8 @@ use Rattle.std.proofs.Common.{◌≡◌, ◌∙◌, ◌+◌, Bool, true, cond, i
 use Rattle.std.proofs.lemmas.Result.{err_from_is_err_and}
 use Rattle.rustsec_database.specs.Kept.{IsKept, KeptValue}
 use Rattle.rustsec_database.proofs.Files.{known-fault, not-false}
-use Rattle.rustsec_database.proofs.Keeping.{among-more, is-known, is-new, kept-with, known-kept, misfiled-fault}
-use Rattle.rustsec_database.proofs.kept.KeptDatabase.added.Goals as goal
+use Rattle.rustsec_database.proofs.KeptFiles.{among-more, is-known, is-new, kept-with, known-kept, misfiled-fault}
+use Rattle.rustsec_database.proofs.keeping.Keeping.added.Goals as goal
 
 pub returns-in_err-advisory-clause-err : goal.returns-in_err-advisory-clause-err
 returns-in_err-advisory-clause-err g c =
@@ -14,7 +14,7 @@ pub returns-then-not-fresh-clause-err : goal.returns-then-not-fresh-clause-err
 returns-then-not-fresh-clause-err g c = λ all h.
     let test = g.T.Test.passes c.args.test.now in
     let a = c.in_ok-advisory.advisory in
-    let k : KeptValue = record { advisories = c.self.inside.database; ids = c.self.inside.ids.keys; last_date = c.self.inside.last_date } in
+    let k : KeptValue = record { advisories = c.self.inside.entries; ids = c.self.inside.ids.keys; last_date = c.self.inside.last_date } in
     let there = is-known c.in_ok-fresh.fresh _ c.in_ok-fresh.ensures.fresh c.if-not-fresh.true in
     let known = known-kept test all a k true (subst (IsKept test all) (sym c.self.view_is) h) there in
     known-fault all c.args.path.now c.args.text.now a c.duplicate.result c.in_ok-advisory.ensures.ok
@@ -32,17 +32,17 @@ store_if-requires g c =
 pub invariant_of-result : goal.invariant_of-result
 invariant_of-result g c =
     let a = c.in_ok-advisory.advisory in
-    among-more (g.T.Test.passes c.args.test.now a) a c.self.inside.ids.keys c.add_id.new.ids.keys c.self.inside.database c.in_ok-database.database
-    c.self.invariant c.in_ok-database.ensures.ok c.in_ok-fresh.ensures.among
+    among-more (g.T.Test.passes c.args.test.now a) a c.self.inside.ids.keys c.add_id.new.ids.keys c.self.inside.entries c.in_ok-entries.entries
+    c.self.invariant c.in_ok-entries.ensures.ok c.in_ok-fresh.ensures.among
 
 pub returns-clause-ok : goal.returns-clause-ok
 returns-clause-ok g c = λ all h.
     let test = g.T.Test.passes c.args.test.now in
     let a = c.in_ok-advisory.advisory in
-    let k : KeptValue = record { advisories = c.self.inside.database; ids = c.self.inside.ids.keys; last_date = c.self.inside.last_date } in
-    let n : KeptValue = record { advisories = c.in_ok-database.database; ids = c.add_id.new.ids.keys; last_date = c.in_ok-last_date.last_date } in
+    let k : KeptValue = record { advisories = c.self.inside.entries; ids = c.self.inside.ids.keys; last_date = c.self.inside.last_date } in
+    let n : KeptValue = record { advisories = c.in_ok-entries.entries; ids = c.add_id.new.ids.keys; last_date = c.in_ok-last_date.last_date } in
     let new = is-new c.in_ok-fresh.fresh _ c.in_ok-fresh.ensures.fresh c.if-not-fresh.false in
     let number = subst (λ (b : Bool). length n.ids ≡ length k.ids + cond b 1 0) c.if-not-fresh.false c.in_ok-fresh.ensures.number in
     kept-with test all c.args.path.now c.args.text.now a k n c.in_ok-advisory.ensures.ok
     (not-false _ (sym c.is_placeholder.ensures ∙ c.if-is_placeholder.false)) new (subst (IsKept test all) (sym c.self.view_is) h)
-    c.in_ok-database.ensures.ok c.in_ok-fresh.ensures.among number c.in_ok-last_date.ensures
+    c.in_ok-entries.ensures.ok c.in_ok-fresh.ensures.among number c.in_ok-last_date.ensures

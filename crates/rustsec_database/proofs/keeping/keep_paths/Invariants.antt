@@ -3,7 +3,7 @@ use Rattle.rustsec_folders.specs.Allowed.{AllowSame}
 use Rattle.rustsec_folders.specs.Listed.{IsFile, Pairwise}
 use Rattle.rustsec_folders.specs.declared.source_file.SourceFile.{SourceFile}
 use Rattle.rustsec_database.specs.Kept.{IsKeptLoadOf}
-use Rattle.rustsec_database.proofs.kept.keep_paths.Given as goal
+use Rattle.rustsec_database.proofs.keeping.keep_paths.Given as goal
 
 -- the files at the paths so far were read, and `loaded` is the result of loading them
 abbrev pub invariant-loop-path : goal.invariant-loop-path

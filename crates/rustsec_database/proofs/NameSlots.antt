@@ -37,9 +37,6 @@ module _ {Z : Type 0} where
   rise-cond true v o r l h = (r, l)
   rise-cond false v o r l h = h
 
-  same-value : (v u : Vec ℕ Z) → Some v ≡ Some u → v.items ≡ u.items
-  same-value v u h = ap (λ o. slots_of o) h
-
   same-items : (n : List ℕ) (v w : Vec ℕ Z) (es : List (List ℕ × List ℕ)) → w.items ≡ v.items → ((n, w.items) ∷ es) ≡ ((n, v.items) ∷ es)
   same-items n v w es e = ap (λ (xs : List ℕ). (n, xs) ∷ es) e
 

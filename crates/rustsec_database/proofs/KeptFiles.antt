@@ -93,26 +93,7 @@ among-more b a old new xs ys h are among q none =
     let both = neither (list_any (id_eq q) old) (id_eq q a.metadata.id) (sym (among q) ∙ none) in
     ap (list_any (has_id q)) are ∙ among-step b (has_id q) xs a (h q both.0) both.1
 
-pub among-none : (ids : List IdValue) (xs : List Advisory) → xs ≡ [] → HaveIdsAmong ids xs
-among-none ids xs is q none = ap (list_any (has_id q)) is
-
 -- ---- one file more
-
--- its advisory is the placeholder's
-pub kept-draft : (test : Advisory → Bool) (all : List Advisory) (path text : List ℕ) (a : Advisory) (k : KeptValue) → IsFiled path text a
-    → is_stored a ≡ false → IsKept test all k → IsKeptWith test all path text k
-kept-draft test all path text a k filed draft h = record {
-  place = None;
-  more = all;
-  is_added = record {
-    one = a;
-    is_filed = filed;
-    is_new = λ t. absurd (cc (sym draft ∙ t));
-    place_is = rw draft refl;
-    more_are = rw draft refl;
-  };
-  is_kept = h;
-}
 
 pub kept-with : (test : Advisory → Bool) (all : List Advisory) (path text : List ℕ) (a : Advisory) (k n : KeptValue) → IsFiled path text a
     → is_stored a ≡ true → list_any (id_eq a.metadata.id) k.ids ≡ false → IsKept test all k

@@ -1,8 +1,8 @@
 use Rattle.std.proofs.Common.{◌≡◌, [], ◌∷◌, rules, sym}
 use Rattle.std.proofs.lemmas.Result.{err_from_is_err_and}
 use Rattle.rustsec_error.proofs.Refusals.{refused_by}
-use Rattle.rustsec_advisory.proofs.Functions.{no-path, no-requirements, walked-end, walked-more, walked-start, walked-stop}
-use Rattle.rustsec_advisory.proofs.front_matter.functions.Goals as goal
+use Rattle.rustsec_advisory.proofs.FunctionMaps.{no-path, no-requirements, walked-end, walked-more, walked-start, walked-stop}
+use Rattle.rustsec_advisory.proofs.front_matter.function_map.Goals as goal
 
 pub loop-key-init : goal.loop-key-init
 loop-key-init c =

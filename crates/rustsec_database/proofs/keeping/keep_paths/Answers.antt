@@ -5,9 +5,9 @@ use Rattle.std.proofs.lemmas.Result.{err_from_is_err_and}
 use Rattle.rustsec_folders.proofs.Same.{same-refl, same-trans}
 use Rattle.rustsec_error.proofs.Refusals.{refused_by}
 use Rattle.rustsec_database.specs.Kept.{IsKeptLoadOf}
-use Rattle.rustsec_database.proofs.Keeping.{keep-none, kept-paths, kept-refused}
+use Rattle.rustsec_database.proofs.KeptFiles.{keep-none, kept-paths, kept-refused}
 use Rattle.rustsec_database.proofs.Opening.{file-fails, load-step}
-use Rattle.rustsec_database.proofs.kept.keep_paths.Goals as goal
+use Rattle.rustsec_database.proofs.keeping.keep_paths.Goals as goal
 
 pub loop-path-init : goal.loop-path-init
 loop-path-init g c = record {

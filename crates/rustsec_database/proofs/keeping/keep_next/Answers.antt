@@ -4,8 +4,8 @@ use Rattle.std.specs.Prelude.{IfOk}
 use Rattle.rustsec_advisory.specs.declared.advisory.Advisory.{Advisory}
 use Rattle.rustsec_database.specs.Kept.{IsKept}
 use Rattle.rustsec_database.specs.Loaded.{AreLoaded}
-use Rattle.rustsec_database.proofs.Keeping.{keep-next, keep-refused}
-use Rattle.rustsec_database.proofs.kept.keep_next.Goals as goal
+use Rattle.rustsec_database.proofs.KeptFiles.{keep-next, keep-refused}
+use Rattle.rustsec_database.proofs.keeping.keep_next.Goals as goal
 
 pub returns-in_err-kept : goal.returns-in_err-kept
 returns-in_err-kept g c = λ files h.

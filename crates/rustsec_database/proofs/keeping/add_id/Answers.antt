@@ -3,8 +3,8 @@ use Rattle.std.specs.HashSet.{Updates}
 use Rattle.std.specs.List.{list_any}
 use Rattle.rustsec_texts.specs.IdOrder.{id_eq}
 use Rattle.rustsec_texts.specs.Ids.{IdValue}
-use Rattle.rustsec_database.proofs.Keeping.{more-among}
-use Rattle.rustsec_database.proofs.kept.add_id.Goals as goal
+use Rattle.rustsec_database.proofs.KeptFiles.{more-among}
+use Rattle.rustsec_database.proofs.keeping.add_id.Goals as goal
 
 pub returns-clause-fresh : goal.returns-clause-fresh
 returns-clause-fresh c =

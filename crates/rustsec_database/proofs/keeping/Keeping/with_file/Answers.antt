@@ -1,5 +1,5 @@
 use Rattle.rustsec_database.proofs.Files.{fault-of-file}
-use Rattle.rustsec_database.proofs.kept.KeptDatabase.with_file.Goals as goal
+use Rattle.rustsec_database.proofs.keeping.Keeping.with_file.Goals as goal
 
 pub returns-in-Err-clause-err : goal.returns-in-Err-clause-err
 returns-in-Err-clause-err g c = λ all h.

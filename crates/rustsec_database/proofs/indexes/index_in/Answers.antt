@@ -1,8 +1,8 @@
 use Rattle.std.proofs.Common.{◌∙◌, ◌++◌, ◌∷◌, [], subst, sym}
 use Rattle.rustsec_database.specs.Places.{IsIndexOf}
 use Rattle.rustsec_database.proofs.Tables.{indexed-in, indexed-out}
-use Rattle.rustsec_database.proofs.database.index_in.Goals as goal
-use Rattle.rustsec_database.proofs.database.index_in.Goals.{then-eq+in_ok-_fresh, else-eq}
+use Rattle.rustsec_database.proofs.indexes.index_in.Goals as goal
+use Rattle.rustsec_database.proofs.indexes.index_in.Goals.{then-eq+in_ok-_fresh, else-eq}
 
 pub returns-clause-ok : goal.returns-clause-ok
 returns-clause-ok c = λ before at index.
