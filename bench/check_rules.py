@@ -15,6 +15,15 @@ UNKNOWN = "`{}` at `informational_warnings` is not a kind that gives warnings"
 ELSEWHERE = "some packages are not from the default registry, and are not audited"
 SPARSE_NOTE = ("some packages are from the sparse index of the default registry, which advisories without a source do not "
                "match")
+NO_DATABASE = "the database is read from its folder as it is"
+NO_REGISTRY = "no registry is asked which versions are yanked"
+NETWORK = {
+    (True, False): f"[database] asks for the network, which is not used: {NO_DATABASE}",
+    (False, True): f"[yanked] asks for the network, which is not used: {NO_REGISTRY}",
+    (True, True): f"[database] and [yanked] ask for the network, which is not used: {NO_DATABASE}, and {NO_REGISTRY}",
+}
+SOURCE = '`source = "{}"` in [packages] is not followed: only packages of the default registry are checked'
+IDLE = "keys without effect here: "
 YANKED_WORD = "`--deny yanked` denies nothing without an index: no package is looked up"
 YANKED = "`yanked` at `deny` in [output] denies nothing without an index: no package is looked up"
 
@@ -168,10 +177,22 @@ def ignored_tree(case, package, kind, advisory):
     return {"kind": kind, "advisory": advisory.id, "package": package.tree(), "reason": reason, "until": until}
 
 
+def notes_of_policy(asked):
+    """What the policy asks of the network, and of sources and yanked packages in vain, and its keys without effect."""
+    database, yanked = asked.database, asked.yanked
+    network = (database.get("fetch", "url" in database), yanked.get("enabled", yanked.get("update_index", False)))
+    idle = [f"`{key}` in [output]" for key in asked.shown]
+    idle += [f"`{key}` in [database]" for key in database if key in ("path", "stale")]
+    notes = [NETWORK[network]] if any(network) else []
+    notes += [SOURCE.format(asked.source)] if asked.source in ("all", "local") else []
+    notes += [YANKED] if "yanked" in asked.denied else []
+    return notes + ([IDLE + ", ".join(idle)] if idle else [])
+
+
 def notes_of(case, packages, edges):
-    """What the policy asks for in vain, what is empty, whether no advisory without a source can match some packages, and
-    which packages have entries that name none or several."""
-    notes = [YANKED] if "yanked" in case.asked.denied else []
+    """The notes on the policy; what is empty, whether no advisory without a source can match some packages, and which
+    packages have entries that name none or several."""
+    notes = notes_of_policy(case.asked)
     notes += [YANKED_WORD] if "yanked" in case.asked.words_denied else []
     notes += [UNKNOWN.format(kind) for kind in case.asked.warnings or [] if kind not in KINDS]
     notes += [] if case.advisories else ["the database has no advisory"]

@@ -155,6 +155,11 @@ BROKEN = Lockfile([], refused="parse error", data=b"package = 1\n")
 LATIN = Lockfile([], refused="I/O operation failed", data=b"# \xe9\n")
 
 
+def table(keys):
+    """The lines of a TOML table's keys."""
+    return [f"{key} = {json.dumps(value)}" for key, value in keys.items()]
+
+
 class Asked:
     """A policy file and words, and what they come to."""
 
@@ -175,6 +180,12 @@ class Asked:
         self.words_systems = r.sample(SYSTEMS, 1) if r.random() < 0.1 else []
         self.allows_empty = r.random() < 0.7
         self.format = r.choice(["json", "terminal"]) if r.random() < 0.2 else None
+        self.shown = {key: r.random() < 0.5 for key in ("quiet", "show_tree") if r.random() < 0.1}
+        self.source = r.choice(["all", "public", "local"]) if r.random() < 0.15 else None
+        self.database = {key: value for key, value in (
+            ("path", "~/.cargo/advisory-db"), ("url", "https://github.com/RustSec/advisory-db.git"),
+            ("fetch", r.random() < 0.5), ("stale", r.random() < 0.5)) if r.random() < 0.1}
+        self.yanked = {key: r.random() < 0.5 for key in ("enabled", "update_index") if r.random() < 0.1}
         self.says_format = self.format != "json" or r.random() < 0.5
 
     @staticmethod
@@ -195,7 +206,11 @@ class Asked:
         lines += [f'severity_threshold = "{self.threshold}"'] if self.threshold else []
         lines += ["[output]", f"deny = {json.dumps(self.denied)}"]
         lines += [f'format = "{self.format}"'] if self.format else []
+        lines += table(self.shown)
         lines += ["[target]", f"arch = {json.dumps(self.arch)}", f"os = {json.dumps(self.systems)}"]
+        lines += ["[packages]", f'source = "{self.source}"'] if self.source else []
+        lines += ["[database]", *table(self.database)] if self.database else []
+        lines += ["[yanked]", *table(self.yanked)] if self.yanked else []
         return "\n".join(lines) + "\n"
 
     def words(self):

@@ -4,10 +4,14 @@ The first has `check` beside `audit` over the same database and lockfile. The se
 as many readings of lockfiles as its list has paths, measured with rustsec_bench in two ways.
 
 - One process opens the database, and then reads each lockfile of the list from its file, with the graph of its
-  dependencies, as the reader of the Rust crate also resolves them. So it does what `check-many` does but for the checks.
+  dependencies, as the reader of the Rust crate also resolves them. So it does what `check-many` does except the checks and their lines.
 - The sum of a process that opens the database once, and of calls that read the texts of the list's lockfiles, which are
   in memory. For these a process is started for each lockfile; its time without a call is subtracted, so that the start, and
-  opening and reading the file, are not part of the sum. It reads the same text again and again, so it asks for more.
+  opening and reading the file, are not part of the sum. These readings are of a text that was read just before, so they take
+  less time, and the sum is a harder measure.
+
+With --counts, the instructions of `check-many` and of that one process instead of times. They repeat from run to run, but
+say nothing about how long memory is waited for.
 
 Each table is there twice: for a database whose advisories are about 500 packages, so that there are many findings, and for
 one with a package for each advisory.
@@ -23,6 +27,7 @@ import databases
 import timing
 
 DISTINCT = 50
+FEW = 21  # lockfiles of a list whose instructions are counted
 HEAD = ["operation", "size", "best, ms", "median", "most MB", "ratio of best", "of median"]
 
 
@@ -65,6 +70,30 @@ def single(options, root, lock, policy):
         row(f"{name}; advisories", options.advisories, *found[at], memory, found[0] if at else None)
 
 
+def list_of(root, locks, number):
+    """A file with so many paths of lockfiles, these in turn."""
+    path = os.path.join(os.path.dirname(root), f"list-{number}")
+    with open(path, "w") as f:
+        f.writelines(locks[at % len(locks)] + "\n" for at in range(number))
+    return path
+
+
+def counted_many(options, root, locks):
+    """The instructions of `check-many` and of one load and the readings, in one process. They are counted for one lockfile and
+    for a few, and from these follow those of the whole list."""
+    calls = [("one load and the readings, in one process", options.checks, lambda path: [(["readings", root, path], os.devnull)]),
+             ("`check-many`", options.ours, lambda path: [(["check-many", root], path)])]
+    print(f"\n{options.advisories} advisories, lockfiles of {options.packages} packages:\n\n"
+          "| operation | instructions for one lockfile | for each more | for the list | ratio |\n" + "|---" * 5 + "|", flush=True)
+    first = None
+    for name, program, call in calls:
+        one, few = [timing.instructions(program, call(list_of(root, locks, number))) for number in (1, FEW)]
+        each = (few - one) // (FEW - 1)
+        whole = one + (options.lockfiles - 1) * each
+        first = first or whole
+        print(f"| {name}; lockfiles {options.lockfiles} | {one:,} | {each:,} | {whole:,} | {whole / first:.2f} |", flush=True)
+
+
 def many(options, root, locks):
     """`check-many` beside one load and the readings of the list's lockfiles, in one process, and beside their sum."""
     lines, _ = common.answer_of(options.ours, ["check-many", root], "\n".join(locks).encode())
@@ -72,9 +101,7 @@ def many(options, root, locks):
     head(f"{options.advisories} advisories, lockfiles of {options.packages} packages, "
          f"{sum(findings) / len(findings):.1f} findings each:")
     listed = [locks[at % len(locks)] for at in range(options.lockfiles)]
-    path = os.path.join(os.path.dirname(root), "list")
-    with open(path, "w") as f:
-        f.writelines(lock + "\n" for lock in listed)
+    path = list_of(root, locks, options.lockfiles)
     calls = [(options.ours, [(["check-many", root], path)]),
              (options.checks, [(["readings", root, path], os.devnull)]),
              (options.checks, [(["load", "1", root, locks[0]], os.devnull)]),
@@ -105,5 +132,8 @@ def measure(options):
             for at in range(min(DISTINCT, options.lockfiles)):
                 databases.write(folder, f"{at}.lock", databases.tied_lockfile(r, options.packages, names))
                 locks.append(os.path.join(folder, f"{at}.lock"))
+            if options.counts:
+                counted_many(options, root, locks)
+                continue
             single(options, root, locks[0], policy)
             many(options, root, locks)

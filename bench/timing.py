@@ -1,5 +1,6 @@
 """Times and memory of whole commands, and how a table shows them."""
 import os
+import re
 import subprocess
 import tempfile
 import time
@@ -38,6 +39,19 @@ def peak(program, calls):
     words, path = calls[0]
     with tempfile.TemporaryDirectory() as folder:
         return one_run(built(folder, "launch"), program, words, path)[1] * 1024
+
+
+def instructions(program, calls):
+    """The instructions of the calls, by valgrind's callgrind."""
+    total = 0
+    for words, path in calls:
+        with open(path, "rb") as data:
+            done = subprocess.run(
+                ["valgrind", "--tool=callgrind", "--callgrind-out-file=/dev/null", program, *words],
+                stdin=data, stdout=subprocess.DEVNULL, stderr=subprocess.PIPE, text=True,
+            )
+        total += int(re.search(r"Collected : (\d+)", done.stderr)[1])
+    return total
 
 
 def timed(pairs, runs):
