@@ -1,26 +1,28 @@
 //! The functions that an advisory affects.
 
-ghost use Rattle.std.specs.Prelude.{◌≡◌, ◌==◌, ◌&&◌, [], IfOk, length, option_map};
+ghost use Rattle.std.specs.Prelude.{◌≡◌, ◌==◌, ◌&&◌, [], IfErr, IfOk, length, option_map};
 ghost use Rattle.std.specs.Cmp.{and_equiv, and_per, on_equiv, on_per, partial_equiv_from_equiv};
 ghost use Rattle.std.specs.Cmp.Lexicographic.{bytes_decides, lists_equiv, lists_per, pointwise, pointwise_decides};
 ghost use Rattle.std.specs.List.{find};
+ghost use Rattle.std.specs.List.Sorted.{IsStrictlySortedBy};
+ghost use Rattle.std.specs.Map.{keys_of};
 ghost use Rattle.std.specs.Option.{option_copied};
 ghost use Rattle.rustsec_values.specs.Equality.{pair_decides};
+ghost use Rattle.rustsec_error.specs.Failure.{IsMemory};
 ghost use Rattle.rustsec_versions.specs.Equality.{requirements_eq, requirements_equiv};
 ghost use Rattle.rustsec_versions.specs.EqualityLaws.{requirements_decides};
-ghost use Rattle.rustsec_texts.specs.Paths.{path_eq, path_equiv};
+ghost use Rattle.rustsec_texts.specs.Paths.{path_eq, path_equiv, path_order};
 
 use rustsec_texts::FunctionPath;
-use rustsec_values::{ExactClone, ExactEq, SortedMap};
+use rustsec_values::{ExactClone, ExactEq, SortedMap, exact_copy};
 use rustsec_versions::Requirements;
 use std::alloc::{AllocError, Global};
 use std::collections::BTreeMap;
 use std::fmt;
 use std::marker::Model;
 
-/// Paths of functions, each with requirements for the versions in which the function is affected. Those of an advisory
-/// that was read are in the order of their paths, each path once. A list takes less memory than a map of std, whose least
-/// node has room for eleven entries.
+/// Paths of functions, each with requirements for the versions in which the function is affected, in the order of the
+/// paths, each path once. A list takes less memory than a map of std, whose least node has room for eleven entries.
 #[derive(Drop)]
 pub struct Functions {
     entries: Vec<(FunctionPath, Requirements)>,
@@ -28,11 +30,16 @@ pub struct Functions {
 
 impl Model for Functions {
     ghost use Rattle.std.specs.Prelude.{ℕ, List};
+    ghost use Rattle.std.specs.List.Sorted.{IsStrictlySortedBy};
+    ghost use Rattle.std.specs.Map.{keys_of};
     ghost use Rattle.semver.specs.Parse.{Held};
+    ghost use Rattle.rustsec_texts.specs.Paths.{path_order};
 
     ghost Value = { List (List (List ℕ) × List (List Held)) };
 
     ghost view = { λ f. f.entries.items };
+
+    ghost invariant = { λ f. IsStrictlySortedBy path_order (keys_of f.entries.items) };
 }
 
 impl Functions {
@@ -56,14 +63,19 @@ impl Functions {
     ) -> Result<Functions, AllocError>
         ensures { IfOk result (λ f. f ≡ map) }
     {
-        let mut entries: Vec<_> = BTreeMap::from(map).into_iter().collect(alloc)?;
+        let map = BTreeMap::from(map);
+
+        // It is the length whose contract says that the paths rise.
+        let _ = map.len();
+        let mut entries: Vec<_> = map.into_iter().collect(alloc)?;
         entries.shrink_to_fit();
         Ok(Functions { entries })
     }
 
-    /// Returns the functions with their requirements.
+    /// Returns the functions with their requirements, in the order of the paths.
     pub fn as_slice(&self) -> &[(FunctionPath, Requirements)]
-        ensures { result.now ≡ self.now }
+        ensures functions { result.now ≡ self.now }
+        ensures ordered { IsStrictlySortedBy path_order (keys_of self.now) }
     {
         self.entries.as_slice()
     }
@@ -82,7 +94,7 @@ impl Functions {
         self.entries.is_empty()
     }
 
-    /// Returns the requirements of the first function with a path, if any. It compares one path after another.
+    /// Returns the requirements of the function with a path, if any. It compares one path after another.
     pub fn get(&self, path: &FunctionPath) -> Option<&Requirements>
         ensures { option_copied result ≡ option_map (λ e. e.1) (find (λ e. path_eq e.0 path.now) self.now) }
     {
@@ -90,6 +102,18 @@ impl Functions {
             Some(entry) => Some(&entry.1),
             None => None,
         }
+    }
+
+    /// Returns an equal list.
+    ///
+    /// # Errors
+    ///
+    /// `OutOfMemory` alone.
+    pub fn clone(&self, _alloc: Global) -> rustsec_error::Result<Functions>
+        ensures ok { IfOk result (λ c. c ≡ self.now) }
+        ensures err { IfErr result IsMemory }
+    {
+        Ok(exact_copy(self)?)
     }
 }
 

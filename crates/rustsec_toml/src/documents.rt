@@ -6,7 +6,7 @@ ghost use Rattle.toml.specs.View.{table_view};
 ghost use Rattle.rustsec_error.specs.Failure.{IsMemory, IsOfKind, IsRefusal};
 
 use crate::lines::shown_line;
-use crate::statements::{Found, element_at, key_at};
+use crate::statements::{Found, element_at, key_at, key_of_inline};
 use rustsec_error::{Error, ErrorKind, Result};
 use rustsec_places::Place;
 use rustsec_plain::plain_document;
@@ -138,8 +138,13 @@ impl<'a> TablePlace<'a> {
         }
     }
 
-    /// Returns the text from a key of the table on, or from an element of the array at the key on.
-    fn from_part(self, alloc: Global, key: &str) -> std::result::Result<&'a str, AllocError> {
+    /// Returns the text from a key of the table on, or from an element of the array at the key on. It is the text from the
+    /// table on if that part is not found, and the whole text if the table is not found either.
+    ///
+    /// # Errors
+    ///
+    /// `AllocError` alone.
+    pub fn rest_from(self, alloc: Global, key: &str) -> std::result::Result<&'a str, AllocError> {
         let found = self.from_key(alloc, key)?;
         match self.element {
             Some(index) => Ok(element_at(alloc, found, index)?.unwrap_or(found)),
@@ -159,14 +164,15 @@ impl<'a> TablePlace<'a> {
         Ok(key_at(alloc, self.text, self.path)?.unwrap_or(self.text))
     }
 
-    /// Returns the text from a key on of the table at a position in an array of tables; from the table on if it has no
-    /// header of its own, or the key is not found.
+    /// Returns the text from a key on of the table at a position in an array of tables; from the table on if the key is
+    /// not found.
     fn in_array(self, alloc: Global, index: usize, key: &str) -> Found<&'a str> {
         let Some(array) = key_at(alloc, self.text, self.path)? else {
             return Ok(None);
         };
         if !is_header(self.text, array) {
-            return Ok(Some(element_at(alloc, array, index)?.unwrap_or(array)));
+            let table = element_at(alloc, array, index)?.unwrap_or(array);
+            return Ok(Some(key_of_inline(alloc, table, key)?.unwrap_or(table)));
         }
         match table_at(alloc, array, self.path, index)? {
             Some(table) => {
@@ -204,7 +210,7 @@ impl<'a> TablePlace<'a> {
         if self.text.is_empty() || error.kind() == ErrorKind::OutOfMemory {
             return error;
         }
-        match self.from_part(alloc, key) {
+        match self.rest_from(alloc, key) {
             Ok(part) => self.refused_from(alloc, part, error),
             Err(refused) => Error::from(refused),
         }

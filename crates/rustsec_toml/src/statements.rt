@@ -125,18 +125,16 @@ fn reach(alloc: Global, text: &str, path: &[&str], from: Option<usize>) -> Found
     }
 }
 
-/// Returns the text from the first key on in the inline table that is the value of a key, if its path agrees with these parts
-/// from an index on, and how far they go with it.
-fn key_within<'a>(
+/// Returns the text from the first key on of an inline table, given from after its brace on, if the key's path agrees with
+/// these parts from an index on, and how far they go with it.
+fn key_inside<'a>(
     alloc: Global,
-    key: &'a str,
+    inside: &'a str,
     path: &[&str],
     from: usize,
 ) -> Found<(&'a str, usize)> {
-    let Some(mut rest) = within_value(alloc, key, b'{')? else {
-        return Ok(None);
-    };
-    for _ in key.bytes() {
+    let mut rest = inside;
+    for _ in inside.bytes() {
         let start = skip_blank(rest, true);
         if let Some(reached) = reach(alloc, start, path, Some(from))? {
             return Ok(Some((start, reached)));
@@ -147,6 +145,20 @@ fn key_within<'a>(
         rest = next;
     }
     Ok(None)
+}
+
+/// Returns the text from the first key on in the inline table that is the value of a key, if its path agrees with these parts
+/// from an index on, and how far they go with it.
+fn key_within<'a>(
+    alloc: Global,
+    key: &'a str,
+    path: &[&str],
+    from: usize,
+) -> Found<(&'a str, usize)> {
+    match within_value(alloc, key, b'{')? {
+        Some(inside) => key_inside(alloc, inside, path, from),
+        None => Ok(None),
+    }
 }
 
 /// Returns the text from a key on, or from the key in its inline table on, or in one within it, to which a path leads that goes
@@ -221,4 +233,19 @@ pub fn element_at(alloc: Global, key: &str, index: usize) -> Result<Option<&str>
         rest = next;
     }
     Ok(Some(skip_blank(rest, true)))
+}
+
+/// Returns the text from a key on of the inline table with which a text begins.
+///
+/// # Errors
+///
+/// `AllocError` alone.
+pub(crate) fn key_of_inline<'a>(alloc: Global, table: &'a str, key: &str) -> Found<&'a str> {
+    let Some(inside) = skip_byte(table, b'{') else {
+        return Ok(None);
+    };
+    match key_inside(alloc, inside, &[key], 0)? {
+        Some((found, _)) => Ok(Some(found)),
+        None => Ok(None),
+    }
 }

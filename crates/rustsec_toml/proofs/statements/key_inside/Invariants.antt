@@ -1,6 +1,6 @@
 use denote.Shadow.{shadow}
 use denote.Text.{Utf8}
-use Rattle.rustsec_toml.proofs.statements.key_within.Given as goal
+use Rattle.rustsec_toml.proofs.statements.key_inside.Given as goal
 
 -- what is left is text
 abbrev pub invariant-loop : goal.invariant-loop
