@@ -9,4 +9,4 @@ mod statements;
 
 pub use crate::documents::{TablePlace, document};
 pub use crate::section::Section;
-pub use crate::statements::{element_at, key_at};
+pub use crate::statements::key_at;

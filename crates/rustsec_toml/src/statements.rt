@@ -222,7 +222,11 @@ pub fn key_at<'a>(
 /// # Errors
 ///
 /// `AllocError` alone.
-pub fn element_at(alloc: Global, key: &str, index: usize) -> Result<Option<&str>, AllocError> {
+pub(crate) fn element_at(
+    alloc: Global,
+    key: &str,
+    index: usize,
+) -> Result<Option<&str>, AllocError> {
     let Some(mut rest) = within_value(alloc, key, b'[')? else {
         return Ok(None);
     };
