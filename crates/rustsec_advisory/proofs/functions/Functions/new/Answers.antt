@@ -1,4 +1,3 @@
-use Rattle.std.proofs.Common.{◌≡◌}
 use Rattle.std.specs.List.Sorted.{IsStrictlySortedBy}
 use Rattle.rustsec_advisory.proofs.functions.Functions.new.Goals as goal
 
