@@ -1,6 +1,6 @@
 -- The notes on a policy: what it asks for that this library does not do, and which of its keys have no effect here.
 -- Without a key nothing is asked for.
-use Rattle.std.specs.Prelude.{◌++◌, ◌&&◌, not, ℕ, Bool, true, false, if◌then◌else◌, List, [], ◌∷◌, Option, Some, None, codes, is_some, option_map, unwrap_or}
+use Rattle.std.specs.Prelude.{◌++◌, ◌&&◌, not, ℕ, Bool, true, false, if◌then◌else◌, List, [], ◌∷◌, Option, Some, None, codes, is_some, unwrap_or}
 use Rattle.std.specs.List.{join_by, list_any}
 use Rattle.rustsec_policy.specs.declared.policy.Policy.{Policy}
 use Rattle.rustsec_policy.specs.declared.unused.DatabasePolicy.{DatabasePolicy}

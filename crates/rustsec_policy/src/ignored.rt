@@ -2,20 +2,21 @@
 
 ghost use Rattle.std.specs.Prelude.{◌≡◌, ◌++◌, ◌<◌, ◌∷◌, [], IfErr, IfOk, None, OnErr, OnOk, Some, codes, length, option_map};
 ghost use Rattle.std.specs.List.{filter_map};
+ghost use Rattle.toml.specs.Data.{as_str};
 ghost use Rattle.toml.specs.View.{array_view, table_view, view};
-ghost use Rattle.rustsec_toml.specs.Fields.{list_of, required, text};
+ghost use Rattle.rustsec_toml.specs.Fields.{list_of, optional, required, text};
 ghost use Rattle.rustsec_values.specs.Reading.{read_all};
 ghost use Rattle.rustsec_error.specs.Failure.{IsOfKind, IsRefusal};
 ghost use Rattle.rustsec_policy.specs.Policies.{counts_until, id_on, ids_on, ignored_in, ignored_of, known_id};
 
 use crate::keys::{IgnoredKeys, expect_keys};
 use crate::nearest::{asking, with_nearest};
-use crate::refused::{array_in, is_refused};
+use crate::refused::{Read, at_key};
 use rustsec_error::{Error, ErrorKind, Result, refused_text};
 use rustsec_texts::{Date, Id};
 use rustsec_toml::{Section, TablePlace};
 use rustsec_values::{Items, Text, exact_copy};
-use std::alloc::{AllocError, Global};
+use std::alloc::Global;
 use toml::value::Array;
 use toml::{Table, Value};
 
@@ -89,89 +90,130 @@ fn id_in(alloc: Global, section: Section<'_>) -> Result<Id>
     }
 }
 
+/// Reads the reason in an entry that is a table.
+fn reason_in(alloc: Global, section: Section<'_>) -> Result<Option<Text>>
+    ensures ok { IfOk result (λ r. optional as_str (codes "reason") (table_view section.entry.table.now) ≡ Some r) }
+    ensures err { IfErr result (IsRefusal ErrorKind.Parse (optional as_str (codes "reason") (table_view section.entry.table.now) ≡ None)) }
+{
+    let reason = section.optional_string_at(alloc, "reason")?;
+    Ok(Text::from_option(alloc, reason)?)
+}
+
+/// A refusal of an entry.
+#[derive(Drop)]
+pub(crate) struct RefusedEntry<'a> {
+    pub(crate) error: Error,
+    /// The index of the entry, from 0 on.
+    pub(crate) index: usize,
+    /// The key of the entry that is at fault, if the entry is a table.
+    pub(crate) key: Option<&'a str>,
+}
+
 /// Reads an entry that is a table: `id`, and perhaps `reason` and `until`.
-fn ignored_in(alloc: Global, table: &Table) -> Result<Ignored>
+fn ignored_in(alloc: Global, table: &Table) -> Read<'_, Ignored>
     ensures ok { IfOk result (λ i. ignored_in (table_view table.now) ≡ Some i) }
-    ensures err { IfErr result (IsRefusal ErrorKind.Parse (ignored_in (table_view table.now) ≡ None)) }
+    ensures err { IfErr result (λ r. IsRefusal ErrorKind.Parse (ignored_in (table_view table.now) ≡ None) r.error) }
 {
     let section = Section {
         table,
         name: "an entry of `ignore`",
         place: TablePlace::unknown(),
     };
-    if let Err(refused) = expect_keys::<IgnoredKeys>(alloc, section) {
-        return Err(refused.error);
-    }
-    let id = id_in(alloc, section)?;
-    let reason = Text::from_option(alloc, section.optional_string_at(alloc, "reason")?)?;
-    let until = section.optional_text_at(alloc, "until")?;
+    expect_keys::<IgnoredKeys>(alloc, section)?;
+    let id = at_key(section, "id", id_in(alloc, section))?;
+    let reason = at_key(section, "reason", reason_in(alloc, section))?;
+    let until = at_key(section, "until", section.optional_text_at(alloc, "until"))?;
     Ok(Ignored { id, reason, until })
 }
 
-/// Reads an entry: an ID, or a table.
-fn ignored_of(alloc: Global, value: &Value) -> Result<Ignored>
+/// Returns the error for an entry of another kind.
+fn other_kind(alloc: Global, value: &Value) -> Error
+    ensures { IsOfKind ErrorKind.Parse result }
+{
+    let expected = "an ID, or a table with `id`";
+    refused_text(
+        alloc,
+        "an entry of `ignore` is of the kind",
+        value.type_str(),
+        expected,
+    )
+}
+
+/// Reads an entry at an index: an ID, or a table.
+fn ignored_of(
+    alloc: Global,
+    index: usize,
+    value: &Value,
+) -> std::result::Result<Ignored, RefusedEntry<'_>>
     ensures ok { IfOk result (λ i. ignored_of (view value.now) ≡ Some i) }
-    ensures err { IfErr result (IsRefusal ErrorKind.Parse (ignored_of (view value.now) ≡ None)) }
+    ensures err { IfErr result (λ r. IsRefusal ErrorKind.Parse (ignored_of (view value.now) ≡ None) r.error) }
 {
     if let Some(text) = value.as_str() {
-        let id = known_id(alloc, text)?;
-        return Ok(Ignored {
-            id,
-            reason: None,
-            until: None,
-        });
+        return match known_id(alloc, text) {
+            Ok(id) => Ok(Ignored {
+                id,
+                reason: None,
+                until: None,
+            }),
+            Err(error) => Err(RefusedEntry {
+                error,
+                index,
+                key: None,
+            }),
+        };
     }
-    match value.as_table() {
-        Some(table) => ignored_in(alloc, table),
-        None => Err(refused_text(
-            alloc,
-            "an entry of `ignore` is of the kind",
-            value.type_str(),
-            "an ID, or a table with `id`",
-        )),
+    let Some(table) = value.as_table() else {
+        let error = other_kind(alloc, value);
+        return Err(RefusedEntry {
+            error,
+            index,
+            key: None,
+        });
+    };
+    match ignored_in(alloc, table) {
+        Ok(ignored) => Ok(ignored),
+        Err(refused) => Err(RefusedEntry {
+            error: refused.error,
+            index,
+            key: Some(refused.key),
+        }),
     }
 }
 
 /// Appends the entry of a value.
-fn add_ignored(alloc: Global, ignored: &mut Items<Ignored>, value: &Value) -> Result<()>
+fn add_ignored<'a>(
+    alloc: Global,
+    ignored: &mut Items<Ignored>,
+    value: &'a Value,
+) -> std::result::Result<(), RefusedEntry<'a>>
     ensures ok { OnOk result (option_map (λ i. ignored.old ++ i ∷ []) (ignored_of (view value.now)) ≡ Some ignored.new) }
-    ensures err { IfErr result (IsRefusal ErrorKind.Parse (ignored_of (view value.now) ≡ None)) }
+    ensures err { IfErr result (λ r. IsRefusal ErrorKind.Parse (ignored_of (view value.now) ≡ None) r.error) }
 {
-    match ignored_of(alloc, value) {
-        Ok(entry) => {
-            ignored.push(entry)?;
-            Ok(())
-        }
-        Err(e) => Err(e),
+    let index = ignored.len();
+    let entry = ignored_of(alloc, index, value)?;
+    match ignored.push(entry) {
+        Ok(()) => Ok(()),
+        Err(refused) => Err(RefusedEntry {
+            error: Error::from(refused),
+            index,
+            key: None,
+        }),
     }
 }
 
 /// Reads the entries of an array, in order.
-pub(crate) fn all_ignored(alloc: Global, array: &Array) -> Result<Items<Ignored>>
+pub(crate) fn all_ignored(
+    alloc: Global,
+    array: &Array,
+) -> std::result::Result<Items<Ignored>, RefusedEntry<'_>>
     ensures ok { IfOk result (λ is. read_all ignored_of (list_of (array_view array.now)) ≡ Some is) }
-    ensures err { IfErr result (IsRefusal ErrorKind.Parse (read_all ignored_of (list_of (array_view array.now)) ≡ None)) }
+    ensures err { IfErr result (λ r. IsRefusal ErrorKind.Parse (read_all ignored_of (list_of (array_view array.now)) ≡ None) r.error) }
 {
     let mut ignored = Items::new(alloc);
     for value in array {
         add_ignored(alloc, &mut ignored, value)?;
     }
     Ok(ignored)
-}
-
-/// Returns the index of the first refused value of an array of entries.
-pub(crate) fn first_refused(
-    alloc: Global,
-    value: Option<&Value>,
-) -> std::result::Result<Option<usize>, AllocError> {
-    let Some(entries) = array_in(value) else {
-        return Ok(None);
-    };
-    for (index, entry) in entries.iter().enumerate() {
-        if is_refused(ignored_of(alloc, entry))? {
-            return Ok(Some(index));
-        }
-    }
-    Ok(None)
 }
 
 /// Returns the error for an entry with a last day if no day is given.

@@ -91,6 +91,7 @@ pub(crate) fn expect_keys<'a, K: Keys>(alloc: Global, section: Section<'a>) -> R
                 table: section.name,
                 key: key.as_str(),
                 entry: Ok(None),
+                inner: None,
             });
         }
     }

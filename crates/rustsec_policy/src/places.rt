@@ -5,7 +5,7 @@ ghost use Rattle.rustsec_error.specs.Failure.{IsMemory, IsOfKind};
 use crate::refused::Refused;
 use rustsec_error::{Error, refused_at};
 use rustsec_places::Place;
-use rustsec_toml::{element_at, key_at};
+use rustsec_toml::TablePlace;
 use std::alloc::{AllocError, Global};
 
 /// Returns the name of a table without its brackets, or `None` for the table of the whole document.
@@ -13,47 +13,28 @@ fn bare_name(table: &str) -> Option<&str> {
     table.strip_prefix('[')?.strip_suffix(']')
 }
 
-/// Returns the document's text from a key of a table on, or from the table's key on if that one is not found.
-fn key_of<'a, 'k>(
-    alloc: Global,
-    text: &'a str,
-    table: &'k str,
-    key: &'k str,
-) -> Result<Option<&'a str>, AllocError> {
-    let Some(table) = bare_name(table) else {
-        return key_at(alloc, text, &[key]);
-    };
-    match key_at(alloc, text, &[table, key])? {
-        Some(found) => Ok(Some(found)),
-        None => key_at(alloc, text, &[table]),
-    }
+/// Returns the place of a key of a table in words.
+fn words_at(alloc: Global, table: TablePlace<'_>, key: &str) -> Result<String, AllocError> {
+    let part = table.rest_from(alloc, key)?;
+    Place::of_end(table.text, part).in_words(alloc)
 }
 
-/// Returns the document's text from the refused entry on if its array is found, else from the refused key on.
-fn refused_part<'a>(
-    alloc: Global,
-    text: &'a str,
-    refused: &Refused<'_>,
-) -> Result<Option<&'a str>, AllocError> {
-    let Some(key) = key_of(alloc, text, refused.table, refused.key)? else {
-        return Ok(None);
+/// Returns the place of what is refused in words: of a key, of an element of the array there, or of a key of that element.
+/// It is the place of the table around it if that one is not found.
+fn words_of(alloc: Global, text: &str, refused: &Refused<'_>) -> Result<String, AllocError> {
+    let file = TablePlace::whole(text);
+    let Some(name) = bare_name(refused.table) else {
+        return words_at(alloc, file, refused.key);
     };
-    match refused.entry? {
-        Some(index) => Ok(Some(element_at(alloc, key, index)?.unwrap_or(key))),
-        None => Ok(Some(key)),
+    let (table, entries) = ([name], [name, refused.key]);
+    if let Some(inner) = refused.inner {
+        let mut entry = file.at(&entries);
+        entry.index = refused.entry?;
+        return words_at(alloc, entry, inner);
     }
-}
-
-/// Returns the place of a refused key or entry in words, if it is found.
-fn words_of(
-    alloc: Global,
-    text: &str,
-    refused: &Refused<'_>,
-) -> Result<Option<String>, AllocError> {
-    match refused_part(alloc, text, refused)? {
-        Some(part) => Ok(Some(Place::of_end(text, part).in_words(alloc)?)),
-        None => Ok(None),
-    }
+    let mut section = file.at(&table);
+    section.element = refused.entry?;
+    words_at(alloc, section, refused.key)
 }
 
 /// Returns the error of a refused document, with the place of the refused key before its message.
@@ -62,8 +43,7 @@ pub(crate) fn refused_in_text(alloc: Global, text: &str, refused: Refused<'_>) -
     ensures memory { IsMemory refused.entry.error → IsMemory result }
 {
     match words_of(alloc, text, &refused) {
-        Ok(Some(words)) => refused_at(alloc, &words, &refused.error),
-        Ok(None) => refused.error,
+        Ok(words) => refused_at(alloc, &words, &refused.error),
         Err(refused) => Error::from(refused),
     }
 }

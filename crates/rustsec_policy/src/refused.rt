@@ -17,6 +17,8 @@ pub(crate) struct Refused<'a> {
     pub(crate) key: &'a str,
     /// The index of the element that is refused, if the value is a list; an error if there was no memory to look for it.
     pub(crate) entry: std::result::Result<Option<usize>, AllocError>,
+    /// The key of that element, if it is about one.
+    pub(crate) inner: Option<&'a str>,
 }
 
 /// What was read of a policy file, or why it was refused.
@@ -38,6 +40,7 @@ pub(crate) fn at_key<'a, T: Drop>(
             table: section.name,
             key,
             entry: Ok(None),
+            inner: None,
         }),
     }
 }
@@ -47,7 +50,7 @@ pub(crate) fn at_key<'a, T: Drop>(
 /// # Errors
 ///
 /// `AllocError` if memory ran out while it was read.
-pub(crate) fn is_refused<T: Drop>(read: Result<T>) -> std::result::Result<bool, AllocError> {
+fn is_refused<T: Drop>(read: Result<T>) -> std::result::Result<bool, AllocError> {
     let Err(error) = read else {
         return Ok(false);
     };
@@ -58,7 +61,7 @@ pub(crate) fn is_refused<T: Drop>(read: Result<T>) -> std::result::Result<bool, 
 }
 
 /// Returns the array that a value is, if any.
-pub(crate) fn array_in(value: Option<&Value>) -> Option<&Array> {
+fn array_in(value: Option<&Value>) -> Option<&Array> {
     value?.as_array()
 }
 
@@ -104,6 +107,7 @@ pub(crate) fn at_element<'a, E: FromText, T: Drop>(
             table: section.name,
             key,
             entry: first_other::<E>(alloc, section.get(key)),
+            inner: None,
         }),
     }
 }

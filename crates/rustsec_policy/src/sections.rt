@@ -10,7 +10,7 @@ ghost use Rattle.rustsec_policy.specs.Policies.{advisories_in, ids_on, ignored_o
 ghost use Rattle.rustsec_policy.specs.Words.{severity_named};
 
 use crate::flags::flag_at;
-use crate::ignored::{Ignored, all_ignored, first_refused, ids_on};
+use crate::ignored::{Ignored, all_ignored, ids_on};
 use crate::keys::{AdvisoryKeys, OutputKeys, TargetKeys, expect_keys};
 use crate::nearest::with_nearest_name;
 use crate::refused::{Read, Refused, at_element, at_key};
@@ -59,32 +59,22 @@ pub struct TargetPolicy {
 }
 
 /// Reads the entries at `ignore`.
-fn ignore_at(alloc: Global, section: Section<'_>) -> Result<Items<Ignored>>
+fn ignore_at<'a>(alloc: Global, section: Section<'a>) -> Read<'a, Items<Ignored>>
     ensures ok { IfOk result (λ is. defaulted [] (every ignored_of) (codes "ignore") (table_view section.entry.table.now) ≡ Some is) }
-    ensures err { IfErr result (IsRefusal ErrorKind.Parse (defaulted [] (every ignored_of) (codes "ignore") (table_view section.entry.table.now) ≡ None)) }
+    ensures err { IfErr result (λ r. IsRefusal ErrorKind.Parse (defaulted [] (every ignored_of) (codes "ignore") (table_view section.entry.table.now) ≡ None) r.error) }
 {
     let Some(value) = section.get("ignore") else {
         return Ok(Items::new(alloc));
     };
-    let array = section.array_of(alloc, "ignore", value, "an array of IDs and tables")?;
-    match all_ignored(alloc, array) {
+    let array = section.array_of(alloc, "ignore", value, "an array of IDs and tables");
+    match all_ignored(alloc, at_key(section, "ignore", array)?) {
         Ok(ignored) => Ok(ignored),
-        Err(e) => Err(section.refused_at(alloc, "ignore", &e)),
-    }
-}
-
-/// Reads the entries at `ignore`, and says which one is refused.
-fn entries_at<'a>(alloc: Global, section: Section<'a>) -> Read<'a, Items<Ignored>>
-    ensures ok { IfOk result (λ is. defaulted [] (every ignored_of) (codes "ignore") (table_view section.entry.table.now) ≡ Some is) }
-    ensures err { IfErr result (λ r. IsRefusal ErrorKind.Parse (defaulted [] (every ignored_of) (codes "ignore") (table_view section.entry.table.now) ≡ None) r.error) }
-{
-    match ignore_at(alloc, section) {
-        Ok(ignored) => Ok(ignored),
-        Err(error) => Err(Refused {
-            error,
+        Err(refused) => Err(Refused {
+            error: section.refused_at(alloc, "ignore", &refused.error),
             table: section.name,
             key: "ignore",
-            entry: first_refused(alloc, section.get("ignore")),
+            entry: Ok(Some(refused.index)),
+            inner: refused.key,
         }),
     }
 }
@@ -152,7 +142,7 @@ impl AdvisoryPolicy {
             place: TablePlace::unknown(),
         };
         expect_keys::<AdvisoryKeys>(alloc, section)?;
-        let ignore = entries_at(alloc, section)?;
+        let ignore = ignore_at(alloc, section)?;
         let informational_warnings = at_element::<Informational, Option<Items<Informational>>>(
             alloc,
             section,

@@ -13,7 +13,7 @@ returns-in_err-add_ignored-clause-err c =
     let same = c.deref-value-items.ensures.value in
     let p = err_from_is_err_and c.from_residual.result c.from_residual.ensures.1 in
     let stop = items_stop ignored_of _ c.loop-value.value-index c.value-item.result (rw same at c.loop-value-test.true) (rw same at c.value-item.is) in
-    rw (p.1, p.2) (refused_by _ c.in_err-add_ignored.field-0.0 stop c.in_err-add_ignored.ensures.err)
+    rw (p.1, p.2) (refused_by _ c.in_err-add_ignored.field-0.0.error stop c.in_err-add_ignored.ensures.err)
 
 pub loop-value-preserved : goal.loop-value-preserved
 loop-value-preserved c =
