@@ -8,7 +8,7 @@ use rustsec_lock::Lockfile;
 use rustsec_lock::package::Name;
 use rustsec_query::Query;
 use rustsec_report::{Report, Settings};
-use rustsec_texts::{Collection, Informational};
+use rustsec_texts::Informational;
 use rustsec_values::{Items, exact_copy};
 use std::alloc::{AllocError, Global};
 use std::collections::HashMap;
