@@ -85,6 +85,28 @@ def least_free(advisories, version):
     return min(free, key=lambda v: v.key) if free else None
 
 
+def borders(advisories):
+    """Where the intervals of advisories begin, and the first versions above them."""
+    found = []
+    for advisory in advisories:
+        for interval, _ in advisory.intervals:
+            if interval.start:
+                found.append(interval.start[0] if interval.start[1] else interval.start[0].successor())
+            if interval.end:
+                found.append(interval.end[0].successor() if interval.end[1] else interval.end[0])
+    return [v for v in found if v is not None]
+
+
+def movers(counting, own, version, free, ignored):
+    """The ignored advisories that affect a version, from this one to below the answer, that none in force affects. All
+    versions between two borders are affected alike, so these are tried."""
+    in_force = [a for a in counting if a.id not in ignored] + [own]
+    tried = [version] + [v for v in borders(counting + [own]) if version.key <= v.key]
+    between = [v for v in tried if free is None or v.key < free.key]
+    bare = [v for v in between if not any(a.affects(v) for a in in_force)]
+    return [a.id for a in counting if a.id in ignored and any(a.affects(v) for v in bare)]
+
+
 def is_compatible(version, free):
     caret = rules.Interval([("^", list(version.numbers), version.pre)])
     return free is not None and caret.holds(free)
@@ -139,10 +161,8 @@ def update_of(advisories, package, advisory, ignored):
     version = rules.version_of(package.version)
     counting = [a for a in advisories if is_about(a, package) and not a.informational]
     free = least_free(counting + [advisory], version)
-    left = [a for a in counting if a.id not in ignored]
-    without = least_free(left + [advisory], version)
     command = ["cargo", "update", f"{package.source}#{package.name}@{package.version}"]
-    moved = [a.id for a in counting if a.id in ignored and without and a.affects(without)]
+    moved = movers(counting, advisory, version, free, ignored)
     return {"least-free": str(free) if free else None, "compatible": is_compatible(version, free), "ignored": moved,
             "command": command}
 

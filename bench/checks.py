@@ -20,6 +20,7 @@ REQUIREMENTS = [
     ">= 1.0.0, < 1.2.0", ">= 0.1.5, < 1.0.0", "< 0.1.0", "< 1.0.0", "<= 0.1.0", "< 1.2.3-alpha.1", ">= 3.0.0",
     ">= 4.0.0-rc.1", "> 1.2.3-alpha.1", "> 1.2.3-beta, < 1.9.0",
 ]
+BORDERS = ["0.0.0-0", "0.1.0", "1.0.0", "1.2.3", "2.0.0", "2.1.0", "3.0.0"]
 VECTORS = [
     ("CVSS:3.1/AV:N/AC:L/PR:N/UI:N/S:C/C:H/I:H/A:H", "10.0", "critical"),
     ("CVSS:3.1/AV:N/AC:L/PR:N/UI:N/S:U/C:H/I:H/A:H", "9.8", "critical"),
@@ -55,11 +56,20 @@ class Advisory:
         self.title = r.choice(TITLES)
         self.choose_lists(r)
 
-    def choose_lists(self, r):
+    def choose_band(self, r):
+        """Leaves the versions between two places of a line affected, so that the bands of several advisories touch."""
+        low = r.randrange(len(BORDERS) - 1)
+        high = r.choice([low + 1, low + 1, low + 2, len(BORDERS) - 1])
+        self.patched = [f">= {BORDERS[min(high, len(BORDERS) - 1)]}"] if r.random() < 0.9 else []
+        self.unaffected = [f"< {BORDERS[low]}"] if low else []
+
+    def choose_lists(self, r, banded=False):
         """Draws lists until they are accepted."""
         while True:
             self.patched = r.sample(REQUIREMENTS, r.choice([0, 1, 1, 1, 2]))
             self.unaffected = r.sample(REQUIREMENTS, r.choice([0, 0, 0, 1, 1]))
+            if banded:
+                self.choose_band(r)
             self.intervals = [(rules.Interval(rules.comparators_of(t)), True) for t in self.patched]
             self.intervals += [(rules.Interval(rules.comparators_of(t)), False) for t in self.unaffected]
             pairs = [(a, b) for i, a in enumerate(self.intervals) for b in self.intervals[i + 1:]]
@@ -163,10 +173,11 @@ def table(keys):
 class Asked:
     """A policy file and words, and what they come to."""
 
-    def __init__(self, r, advisories):
+    def __init__(self, r, advisories, is_crowded):
         ids = [a.id for a in advisories] + [i for a in advisories for i in a.aliases] + ["RUSTSEC-2018-0001"]
         self.today = TODAY if r.random() < 0.9 else None
-        self.entries = [self.entry(r, ids) for _ in range(r.choice([0, 0, 1, 2]))]
+        self.entries = [self.entry(r, ids) for _ in range(r.choice([2, 4, 6] if is_crowded else [0, 0, 1, 2]))]
+        self.is_by_headers = r.random() < 0.3
         self.words_ignored = [r.choice(ids) for _ in range(r.choice([0, 0, 0, 1]))]
         self.warnings = r.sample([*KINDS, "curious"], r.randint(0, 3)) if r.random() < 0.3 else None
         self.threshold = r.choice(SEVERITIES) if r.random() < 0.2 else None
@@ -194,16 +205,23 @@ class Asked:
         until = r.choice(["2025-06-14", TODAY, "2025-06-16"]) if r.random() < 0.4 else None
         return r.choice(ids), reason, until
 
-    def policy(self):
-        def entry(id_, reason, until):
-            if not reason and not until:
-                return json.dumps(id_)
-            keys = [f'id = "{id_}"'] + ([f'reason = "{reason}"'] if reason else [])
-            return "{ " + ", ".join(keys + ([f'until = "{until}"'] if until else [])) + " }"
+    def ignore_lines(self):
+        """The entries of `ignore`: in an array, or each below a header of its own."""
+        def keys_of(id_, reason, until):
+            more = [f'reason = "{reason}"'] if reason else []
+            return [f'id = "{id_}"', *more, *([f'until = "{until}"'] if until else [])]
 
-        lines = ["[advisories]", "ignore = [" + ", ".join(entry(*e) for e in self.entries) + "]"]
+        if self.is_by_headers:
+            return [line for e in self.entries for line in ("[[advisories.ignore]]", *keys_of(*e))]
+        entries = ["{ " + ", ".join(keys_of(*e)) + " }" if e[1] or e[2] else json.dumps(e[0]) for e in self.entries]
+        return ["ignore = [" + ", ".join(entries) + "]"]
+
+    def policy(self):
+        lines = ["[advisories]"]
+        lines += [] if self.is_by_headers else self.ignore_lines()
         lines += [f"informational_warnings = {json.dumps(self.warnings)}"] if self.warnings is not None else []
         lines += [f'severity_threshold = "{self.threshold}"'] if self.threshold else []
+        lines += self.ignore_lines() if self.is_by_headers else []
         lines += ["[output]", f"deny = {json.dumps(self.denied)}"]
         lines += [f'format = "{self.format}"'] if self.format else []
         lines += table(self.shown)
@@ -248,15 +266,26 @@ class Case:
         self.folder, self.root = folder, os.path.join(folder, "database")
         os.makedirs(os.path.join(self.root, "crates"))
         self.advisories = [Advisory(r, number) for number in range(1, r.choice([0, 1, 3, 6, 9, 9]) + 1)]
+        is_crowded = r.random() < 0.4
+        if is_crowded:
+            self.crowd(r)
         for a in self.advisories:
             databases.write(self.root, a.collection, a.package, a.id + ".md", a.text().encode())
         self.advisories.sort(key=lambda a: (("crates", "rust").index(a.collection), a.package, a.id))
-        self.lockfile, self.asked = random_lockfile(r), Asked(r, self.advisories)
+        self.lockfile, self.asked = random_lockfile(r), Asked(r, self.advisories, is_crowded)
         self.lock = self.write("Cargo.lock", self.lockfile)
         databases.write(folder, "audit.toml", self.asked.policy().encode())
         self.options = ["--policy", os.path.join(folder, "audit.toml"), *self.asked.words()]
         self.refused = "bad parameter" if self.asked.is_refused() else None
         self.choose_baseline(r)
+
+    def crowd(self, r):
+        """Makes most advisories vulnerabilities of one package, so that ignored ones decide what to update it to."""
+        name = r.choice(NAMES)
+        for a in self.advisories:
+            if r.random() < 0.9:
+                a.package, a.collection, a.withdrawn, a.informational, a.source = name, "crates", None, None, None
+                a.choose_lists(r, banded=True)
 
     def write(self, name, lockfile):
         databases.write(self.folder, name, lockfile.text())

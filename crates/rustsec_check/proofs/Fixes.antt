@@ -1,4 +1,4 @@
--- The fixes of an advisory's ranges are valid versions.
+-- The fixes and the introductions of an advisory's ranges are valid versions.
 use Rattle.std.proofs.Common.{◌≡◌, ◌∙◌, ◌⊎◌, ◌<◌, ◌++◌, ◌||◌, ℕ, zero, suc, Bool, Contains, List, [], ◌∷◌, Option, Some, None, ap, arith, get_or, inl, inr, length, refl, subst, sym}
 use Rattle.std.specs.List.{filter_map, list_any}
 use Rattle.std.proofs.lemmas.Bool.{cases_Bool}
@@ -9,11 +9,11 @@ use Rattle.rustsec_versions.specs.ranges.AcceptedRanges.{AreMergedRanges}
 use Rattle.rustsec_versions.specs.interval.Interval.{Endpoint, Interval, exclusive, inclusive, unbounded}
 use Rattle.rustsec_versions.specs.acceptance.Lists.{Lists, affected, intervals}
 use Rattle.rustsec_versions.specs.order.Precedence.{IsVersion}
-use Rattle.rustsec_versions.specs.ranges.Ranges.{Range, in_ranges, in_range, lower_cut, lower_cuts}
+use Rattle.rustsec_versions.specs.ranges.Ranges.{Range, in_ranges, in_range, lower_cut, lower_cuts, upper_cut, upper_cuts}
 use Rattle.rustsec_versions.specs.requirement.Requirement.{interval_of}
 use Rattle.rustsec_versions.proofs.lemmas.order.LeastAbove.{successor-valid}
 use Rattle.rustsec_versions.proofs.lemmas.requirement.Sound.{IsSoundEnd, interval_of-sound}
-use Rattle.rustsec_check.specs.LeastFree.{AreRangesOfAll, HaveValidFixes, IsValidFix, is_affected}
+use Rattle.rustsec_check.specs.LeastFree.{AreRangesOfAll, HaveValidFixes, HaveValidStarts, IsValidFix, IsValidStart, is_affected}
 
 -- to be one of the elements, by recursion
 abbrev Among : {X : Type 0} → List X → X → Type 0
@@ -82,6 +82,41 @@ fix-valid ls rs v a h =
     let cuts = Contains-permutation (filter_map (λ r. r.fixed) rs) (lower_cuts a.merged) v (IsPermutation-sym _ _ a.ranges.fixed) h in
     let (m, there, cut) = source (λ i. lower_cut i.start) a.merged v (among (lower_cuts a.merged) v cuts) in
     cut-valid m.start v (start-sound ls rs m a (contained a.merged m there)) cut
+
+-- ---- introductions
+
+upper-valid : (e : Endpoint) (v : Parts) → IsSoundEnd e → upper_cut e ≡ Some v → IsVersion v
+upper-valid unbounded v h is = cc is
+upper-valid (inclusive w) v h is = (successor-valid w v h.version is).0
+upper-valid (exclusive w) v h is =
+    let same : w ≡ v = cc is in
+    rw (← same) h.version
+
+-- the end of a merged interval is a bound of a requirement
+end-sound : (ls : Lists) (rs : List Range) (m : Interval) → (a : AreMergedRanges ls rs) → Contains a.merged m → IsSoundEnd m.end
+end-sound ls rs m a h =
+    let (i, (is_one, of)) = a.are_merged.only m h in
+    let (j, (is_interval, (joined, same))) = of.end in
+    let (cs, there, read) = source interval_of (ls.patched ++ ls.unaffected) j (among (intervals ls) j is_interval) in
+    subst IsSoundEnd same (interval_of-sound cs j read).end
+
+start-valid : (ls : Lists) (rs : List Range) (v : Parts) → AreMergedRanges ls rs → Contains (filter_map (λ r. r.introduced) rs) v → IsVersion v
+start-valid ls rs v a h =
+    let cuts = Contains-permutation (filter_map (λ r. r.introduced) rs) (upper_cuts a.merged) v (IsPermutation-sym _ _ a.ranges.introduced) h in
+    let (m, there, cut) = source (λ i. upper_cut i.end) a.merged v (among (upper_cuts a.merged) v cuts) in
+    upper-valid m.end v (end-sound ls rs m a (contained a.merged m there)) cut
+
+starts-head : (o : Option Parts) (r : Range) (rs : List Range) → r.introduced ≡ o
+    → ((v : Parts) → Among (filter_map (λ s. s.introduced) (r ∷ rs)) v → IsVersion v) → IsValidStart o × ((v : Parts) → Among (filter_map (λ s. s.introduced) rs) v → IsVersion v)
+starts-head None r rs is each = (tt, λ v h. each v (rw is h))
+starts-head (Some introduced) r rs is each = (each introduced (rw is (inl refl)), λ v h. each v (rw is (inr h)))
+
+starts : (rs : List Range) → ((v : Parts) → Among (filter_map (λ r. r.introduced) rs) v → IsVersion v) → HaveValidStarts rs
+starts [] each = tt
+starts (r ∷ rs) each = let h = starts-head r.introduced r rs refl each in (h.0, starts rs h.1)
+
+pub valid-starts : (ls : Lists) (rs : List Range) → AreMergedRanges ls rs → HaveValidStarts rs
+valid-starts ls rs are = starts rs (λ v k. start-valid ls rs v are (contained (filter_map (λ r. r.introduced) rs) v k))
 
 -- ---- the ranges of one more advisory
 

@@ -1,5 +1,4 @@
 pub mod Advised
-pub mod AllKept
 pub mod AsReport
 pub mod BothKinds
 pub mod Fixes
@@ -8,6 +7,8 @@ pub mod KeptChecks
 pub mod Known
 pub mod MoreFindings
 pub mod MoreYanked
+pub mod Movers
+pub mod Moves
 pub mod OneAnswer
 pub mod OneCheck
 pub mod Packages

@@ -9,6 +9,7 @@ use Rattle.std.specs.declared.cmp.Ordering.{Ordering}
 use Rattle.std.specs.declared.cmp.Ordering.TheVariants.{Equal, Greater, Less}
 use Rattle.std.proofs.lemmas.Cmp.{nat_list_cmp_total}
 use Rattle.std.proofs.lemmas.List.Elements.{All-filter, All-head, All-same, All-tail}
+use Rattle.semver.specs.Parse.{Parts}
 use Rattle.rustsec_versions.specs.order.Precedence.{IsVersion}
 use Rattle.rustsec_lock.specs.Lockfile.{AreValid}
 use Rattle.rustsec_lock.specs.Package.{PackageValue}
@@ -20,9 +21,10 @@ use Rattle.rustsec_check.specs.Checks.{IsCheckOf, is_unused}
 use Rattle.rustsec_check.specs.Compatible.{is_compatible_with}
 use Rattle.rustsec_check.specs.Findings.{AreFindings, IsFinding, IsUpdate, is_denied, is_old, pair_of}
 use Rattle.rustsec_check.specs.Pairs.{counted, found, is_ignored}
-use Rattle.rustsec_check.specs.Updates.{IsUpdateBy, UpdateValue, in_force, lists_with, movers}
+use Rattle.rustsec_check.specs.Updates.{AreIdsOf, IsMover, IsUpdateBy, UpdateValue, in_force, lists_of}
 use Rattle.rustsec_check.specs.Values.{CheckValue, FindingValue, Found, SubjectValue}
 use Rattle.rustsec_check.proofs.FoundPackages.{found-of}
+use Rattle.rustsec_check.proofs.Movers.{one-list}
 use Rattle.rustsec_check.proofs.OneAnswer.{one-answer}
 
 -- ---- paths
@@ -47,10 +49,11 @@ one-path edges roots target (Some p) (Some q) h k = ap Some (same-path p q (h.no
 one-update : (ids : List IdValue) (others : List Advisory) (p : PackageValue) (a : Advisory) (u v : UpdateValue)
     → IsUpdateBy ids others p a u → IsUpdateBy ids others p a v → u ≡ v
 one-update ids others p a u v h k =
-    let free : u.least_free ≡ v.least_free = one-answer (lists_with a others) p.version u.least_free v.least_free h.least_free k.least_free in
-    let rest : h.rest ≡ k.rest = one-answer (lists_with a (in_force ids others)) p.version h.rest k.rest h.least_rest k.least_rest in
+    let free : u.least_free ≡ v.least_free = one-answer (lists_of (a ∷ others)) p.version u.least_free v.least_free h.least_free k.least_free in
     let compatible : u.is_compatible ≡ v.is_compatible = h.is_compatible ∙ (ap (is_compatible_with p.version) free ∙ sym k.is_compatible) in
-    let moved : u.moved_by ≡ v.moved_by = h.moved_by ∙ (ap (λ r. movers ids r others) rest ∙ sym k.moved_by) in
+    let is_mover : Option Parts → Advisory → Type 0 = λ found. IsMover ids (lists_of (a ∷ in_force ids others)) p.version found in
+    let moved : u.moved_by ≡ v.moved_by = one-list (is_mover u.least_free) others u.moved_by v.moved_by h.moved_by
+    (subst (λ (found : Option Parts). AreIdsOf (is_mover found) others v.moved_by) (sym free) k.moved_by) in
     λ i. record { least_free = free i; is_compatible = compatible i; moved_by = moved i }
 
 -- ---- findings

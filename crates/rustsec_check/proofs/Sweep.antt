@@ -9,21 +9,21 @@ use Rattle.rustsec_versions.specs.ranges.Ranges.{Range, in_range, in_ranges, is_
 use Rattle.rustsec_versions.proofs.lemmas.order.PrecedenceLaws.{at_most-below, at_most-not_below, at_most-trans, below-weak, not_below}
 use Rattle.rustsec_check.specs.LeastFree.{AreRangesOfAll, HaveValidFixes, IsLeastFree, IsValidFix, holding, is_affected}
 
-at_most-refl : (v : Parts) → is_at_most v v ≡ true
+pub at_most-refl : (v : Parts) → is_at_most v v ≡ true
 at_most-refl v = elim (cases_Bool (is_below v v)) [
   | inl below ↦ below-weak v v below
   | inr other ↦ not_below v v other
 ]
 
-both-first : (a b : Bool) → (a && b) ≡ true → a ≡ true
+pub both-first : (a b : Bool) → (a && b) ≡ true → a ≡ true
 both-first true b h = refl
 both-first false b h = cc h
 
-both-second : (a b : Bool) → (a && b) ≡ true → b ≡ true
+pub both-second : (a b : Bool) → (a && b) ≡ true → b ≡ true
 both-second true b h = h
 both-second false b h = cc h
 
-both : (a b : Bool) → a ≡ true → b ≡ true → (a && b) ≡ true
+pub both : (a b : Bool) → a ≡ true → b ≡ true → (a && b) ≡ true
 both true b h k = k
 both false b h k = cc h
 
@@ -95,7 +95,7 @@ start rs v found valid is = rw is (record {
 })
 
 -- a version at or above one that a range holds is not below the range
-from-up : (introduced : Option Parts) (found u : Parts) → is_from introduced found ≡ true → is_at_most found u ≡ true → is_from introduced u ≡ true
+pub from-up : (introduced : Option Parts) (found u : Parts) → is_from introduced found ≡ true → is_at_most found u ≡ true → is_from introduced u ≡ true
 from-up None found u h k = refl
 from-up (Some introduced) found u h k = at_most-trans introduced found u h k
 
@@ -190,7 +190,7 @@ abbrev pub left : List Range → Parts → ℕ
 left [] v = 0
 left (r ∷ rs) v = cond (is_till r.fixed v) 1 0 + left rs v
 
-till-down : (fixed : Option Parts) (v w : Parts) → is_at_most v w ≡ true → is_till fixed w ≡ true → is_till fixed v ≡ true
+pub till-down : (fixed : Option Parts) (v w : Parts) → is_at_most v w ≡ true → is_till fixed w ≡ true → is_till fixed v ≡ true
 till-down None v w low h = refl
 till-down (Some fixed) v w low h = at_most-below v w fixed low h
 

@@ -24,8 +24,9 @@ pub record AreFacts (s : SubjectValue) (f : FactsValue) : Type 0 where
   pub is_old : f.is_old ≡ is_old s.baseline f.«package»
   pub path : IsAnswer s.graph.edges s.graph.roots f.place f.path
   pub dependents : f.dependents ≡ dependents s.graph.edges f.place
-  pub others : f.advice.others ≡ counting s.advisories f.«package»
-  pub advice : IsVersion f.«package».version → IsAdvice s.settings.ignore f.«package» f.advice
+  pub ids : f.advice.counted.ids ≡ s.settings.ignore
+  pub others : f.advice.counted.others ≡ counting s.advisories f.«package»
+  pub advice : IsVersion f.«package».version → IsAdvice f.«package» f.advice
 
 -- likewise for the facts about the last package, if there was one
 abbrev pub AreLast : SubjectValue → Option FactsValue → Type 0

@@ -31,6 +31,15 @@ abbrev pub HaveValidFixes : List Range → Type 0
 HaveValidFixes [] = Unit {0}
 HaveValidFixes (r ∷ rs) = IsValidFix r.fixed × HaveValidFixes rs
 
+-- an introduction that is a valid version
+abbrev pub IsValidStart : Option Parts → Type 0
+IsValidStart None = Unit {0}
+IsValidStart (Some introduced) = IsVersion introduced
+
+abbrev pub HaveValidStarts : List Range → Type 0
+HaveValidStarts [] = Unit {0}
+HaveValidStarts (r ∷ rs) = IsValidStart r.introduced × HaveValidStarts rs
+
 -- ranges that hold the valid versions which some of the lists leave affected
 pub record AreRangesOfAll (all : List Lists) (rs : List Range) : Type 0 where
   pub valid : HaveValidFixes rs

@@ -4,6 +4,7 @@ pub mod Compatible
 pub mod Facts
 pub mod Findings
 pub mod LeastFree
+pub mod Moving
 pub mod Pairs
 pub mod Subjects
 pub mod Updates

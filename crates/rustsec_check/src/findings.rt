@@ -7,10 +7,11 @@ ghost use Rattle.rustsec_check.specs.Facts.{AreAbout, AreFacts, ArePlaced};
 ghost use Rattle.rustsec_check.specs.Findings.{AreFindingsOf, IsFinding, denies, is_denied, is_old, is_same, pair_of};
 ghost use Rattle.rustsec_check.specs.Pairs.{as_ignored, left_out};
 
-use crate::advice::{Update, update_of};
+use crate::advice::update_of;
 use crate::facts::{Facts, facts_about};
 use crate::found::{Found, is_ignored};
 use crate::subject::Viewed;
+use crate::update::Update;
 use rustsec_advisory::Advisory;
 use rustsec_error::Result;
 use rustsec_lock::Lockfile;
@@ -147,8 +148,7 @@ fn finding_of<'a>(
     ensures ok { IfOk result (IsFinding subject.now) }
     ensures err { IfErr result IsMemory }
 {
-    let ids = subject.settings.ignore.as_slice();
-    let update = update_of(alloc, ids, &facts.advice, found.package, found.advisory)?;
+    let update = update_of(alloc, &facts.advice, found.package, found.advisory)?;
     Ok(Finding {
         kind: found.kind,
         advisory: found.advisory,

@@ -5,21 +5,22 @@
 mod advice;
 mod checking;
 mod compatible;
+mod counted;
 mod facts;
 mod findings;
 mod found;
 mod kept;
+mod moving;
 mod outcome;
 mod ranges;
 mod subject;
 mod update;
 mod yanked;
 
-pub use crate::advice::Update;
 pub use crate::checking::check;
 pub use crate::compatible::is_compatible;
 pub use crate::findings::{Finding, IgnoredPair};
 pub use crate::outcome::Check;
 pub use crate::subject::Subject;
-pub use crate::update::least_free;
+pub use crate::update::{Update, least_free};
 pub use crate::yanked::{Yanked, yanked_fail, yanked_packages};

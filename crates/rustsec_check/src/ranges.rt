@@ -24,7 +24,7 @@ fn is_from(introduced: &Option<Version>, version: &Version) -> bool
 }
 
 /// Returns whether a version is below where a range ends, in precedence.
-fn is_till(fixed: &Option<Version>, version: &Version) -> bool
+pub(crate) fn is_till(fixed: &Option<Version>, version: &Version) -> bool
     ensures { result ≡ is_till (option_map parts_of fixed.now) (parts_of version.now) }
 {
     match fixed {

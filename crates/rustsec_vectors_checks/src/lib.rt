@@ -23,4 +23,6 @@ mod readings;
 #[cfg(test)]
 mod split;
 #[cfg(test)]
+mod ways;
+#[cfg(test)]
 mod yanked;

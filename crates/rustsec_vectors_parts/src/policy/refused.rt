@@ -146,19 +146,19 @@ const ENTRIES: &[(&str, &str)] = &[
     ),
     (
         "[advisories]\nignore = [{ id = \"RUSTSEC-2020-0001\", reasn = \"x\" }]",
-        "line 2, column 11: key `ignore` in [advisories]: unknown key `reasn` in an entry of `ignore`, expected `id`, `reason` or `until`; did you mean `reason`?",
+        "line 2, column 39: key `ignore` in [advisories]: unknown key `reasn` in an entry of `ignore`, expected `id`, `reason` or `until`; did you mean `reason`?",
     ),
     (
         "[advisories]\nignore = [\"CVE-2020-1\", { id = \"RUSTSEC-2020-0001\", until = \"2026-02-30\" }]",
-        "line 2, column 25: key `ignore` in [advisories]: key `until` in an entry of `ignore`: malformed date `2026-02-30`, expected YYYY-MM-DD, a day of the years 2000 to 2100",
+        "line 2, column 53: key `ignore` in [advisories]: key `until` in an entry of `ignore`: malformed date `2026-02-30`, expected YYYY-MM-DD, a day of the years 2000 to 2100",
     ),
     (
         "[advisories]\nignore = [{ id = \"RUSTSEC-2020-0001\", until = 2026-02-28 }]",
-        "line 2, column 11: key `ignore` in [advisories]: key `until` in an entry of `ignore`: found datetime `2026-02-28`, expected a string",
+        "line 2, column 39: key `ignore` in [advisories]: key `until` in an entry of `ignore`: found datetime `2026-02-28`, expected a string",
     ),
     (
         "[advisories]\nignore = [{ crate = \"base@1.0.0\" }]",
-        "line 2, column 11: key `ignore` in [advisories]: unknown key `crate` in an entry of `ignore`, expected `id`, `reason` or `until`",
+        "line 2, column 13: key `ignore` in [advisories]: unknown key `crate` in an entry of `ignore`, expected `id`, `reason` or `until`",
     ),
     (
         "[advisories]\nignore = [\"RUSTSEC-1\"]",
@@ -174,11 +174,19 @@ const ENTRIES: &[(&str, &str)] = &[
     ),
     (
         "[advisories]\nignore = [{ id = \"cve-2020-1234\" }]",
-        "line 2, column 11: key `ignore` in [advisories]: key `id` in an entry of `ignore`: unknown form of ID `cve-2020-1234`, expected `RUSTSEC-`, `CVE-`, `GHSA-` or `TALOS-` at its beginning; did you mean `CVE-`?",
+        "line 2, column 13: key `ignore` in [advisories]: key `id` in an entry of `ignore`: unknown form of ID `cve-2020-1234`, expected `RUSTSEC-`, `CVE-`, `GHSA-` or `TALOS-` at its beginning; did you mean `CVE-`?",
     ),
     (
         "[[advisories.ignore]]\nid = \"FOO-1\"",
-        "line 1, column 3: key `ignore` in [advisories]: key `id` in an entry of `ignore`: unknown form of ID `FOO-1`, expected `RUSTSEC-`, `CVE-`, `GHSA-` or `TALOS-` at its beginning",
+        "line 2, column 1: key `ignore` in [advisories]: key `id` in an entry of `ignore`: unknown form of ID `FOO-1`, expected `RUSTSEC-`, `CVE-`, `GHSA-` or `TALOS-` at its beginning",
+    ),
+    (
+        "[[advisories.ignore]]\nid = \"CVE-2020-1\"\n\n# why\n[[advisories.ignore]]\nid = \"CVE-2020-2\"\n  resaon = \"x\"\n\n[[advisories.ignore]]\nid = \"FOO-1\"\n",
+        "line 7, column 3: key `ignore` in [advisories]: unknown key `resaon` in an entry of `ignore`, expected `id`, `reason` or `until`; did you mean `reason`?",
+    ),
+    (
+        "[[advisories.ignore]]\nid = \"CVE-2020-1\"\n[[advisories.ignore]]\nreason = \"id = 1\"\n[output]\nquiet = true\n",
+        "line 3, column 3: key `ignore` in [advisories]: key `id` is missing in an entry of `ignore`",
     ),
 ];
 

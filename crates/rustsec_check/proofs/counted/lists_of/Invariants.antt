@@ -1,6 +1,6 @@
 use Rattle.std.proofs.Common.{◌≡◌, map, take}
 use Rattle.rustsec_check.specs.Updates.{lists_of}
-use Rattle.rustsec_check.proofs.advice.lists_of.Given as goal
+use Rattle.rustsec_check.proofs.counted.lists_of.Given as goal
 
 -- those of the advisories so far
 abbrev pub invariant-loop-advisory : goal.invariant-loop-advisory

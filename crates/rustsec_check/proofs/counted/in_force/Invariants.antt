@@ -1,6 +1,6 @@
 use Rattle.std.proofs.Common.{◌≡◌, map, take}
 use Rattle.rustsec_check.specs.Updates.{in_force}
-use Rattle.rustsec_check.proofs.advice.in_force.Given as goal
+use Rattle.rustsec_check.proofs.counted.in_force.Given as goal
 
 -- those of the advisories so far
 abbrev pub invariant-loop-advisory : goal.invariant-loop-advisory
