@@ -1,4 +1,4 @@
--- The IDs of the advisories of which something is true.
+-- The IDs of the advisories that pass a test.
 use Rattle.std.proofs.Common.{◌≡◌, ◌∙◌, ◌≤◌, ◌||◌, Bool, true, false, List, [], ◌∷◌, ◌++◌, Err, IfOk, Ok, Result, ap, arith, inl, inr, length, map, not, refl, subst, suc, sym}
 use Rattle.std.specs.Bool.{Decides}
 use Rattle.std.specs.Borrow.{Bor}
@@ -9,7 +9,7 @@ use Rattle.rustsec_advisory.specs.declared.advisory.Advisory.{Advisory}
 use Rattle.rustsec_check.specs.Updates.{AreIdsOf}
 
 module _ (P : Advisory → Type 0) where
-  -- one more advisory of which it is true, and one of which it is not
+  -- one more advisory that passes, and one that does not
   pub ids-more : (xs : List Advisory) (ids : List IdValue) (a : Advisory) → AreIdsOf P xs ids → P a → AreIdsOf P (xs ++ a ∷ []) (ids ++ a.metadata.id ∷ [])
   ids-more [] ids a is holds = inl (holds, [], ap (λ (xs : List IdValue). xs ++ a.metadata.id ∷ []) is, refl)
   ids-more (x ∷ xs) ids a (inl (here, rest, is, more)) holds =

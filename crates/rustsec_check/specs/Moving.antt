@@ -11,8 +11,8 @@ abbrev pub later : Option Parts → Parts → Parts
 later None v = v
 later (Some introduced) v = if is_at_most introduced v then v else introduced
 
--- a range that holds a valid version, not below a version and below the answer if there is one, that none of those in force
--- leave affected
+-- a range that holds a valid version, not below a version and below the answer, if any, that none of those in force leave
+-- affected
 pub record MovesIn (in_force : List Lists) (v : Parts) (answer : Option Parts) (r : Range) : Type 0 where
   pub at : Parts
   pub valid : IsVersion at

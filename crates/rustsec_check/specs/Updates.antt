@@ -45,7 +45,7 @@ affects None a = false
 affects (Some v) a = affected a.versions v
 
 -- requirements that move an answer about a version: they leave affected a valid version, not below that one and below the
--- answer if there is one, that none of those in force leave affected
+-- answer, if any, that none of those in force leave affected
 pub record Moves (in_force : List Lists) (v : Parts) (answer : Option Parts) (ls : Lists) : Type 0 where
   pub at : Parts
   pub valid : IsVersion at
@@ -58,7 +58,7 @@ pub record Moves (in_force : List Lists) (v : Parts) (answer : Option Parts) (ls
 abbrev pub IsMover : List IdValue → List Lists → Parts → Option Parts → Advisory → Type 0
 IsMover ids in_force v answer a = (is_among ids a.metadata.id ≡ true) × Moves in_force v answer a.versions
 
--- the IDs of the advisories of which something is true, in order
+-- the IDs of the advisories that pass a test, in order
 abbrev pub AreIdsOf : (Advisory → Type 0) → List Advisory → List IdValue → Type 0
 AreIdsOf P [] ids = ids ≡ []
 AreIdsOf P (a ∷ others) ids = (P a × (rest : List IdValue) × (ids ≡ a.metadata.id ∷ rest) × AreIdsOf P others rest) ⊎ ((¬ P a) × AreIdsOf P others ids)

@@ -24,7 +24,7 @@ use std::alloc::Global;
 pub(crate) struct Answer<'a> {
     /// The version.
     pub(crate) version: &'a Version,
-    /// The least free version, if there is one.
+    /// The least free version, if any.
     pub(crate) least_free: &'a Option<Version>,
     /// The ranges of the advisories in force.
     pub(crate) in_force: &'a [OsvRange],

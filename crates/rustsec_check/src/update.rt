@@ -26,7 +26,7 @@ pub struct Update<'a> {
     /// Whether the interval of the requirement `^LOCKED` holds that version, so that an update within it is enough.
     pub is_compatible: bool,
     /// The IDs of the ignored advisories that move this answer: those that leave affected a version, not below the locked
-    /// one and below the answer if there is one, that neither the finding's advisory nor another one in force does.
+    /// one and below the answer, if any, that neither the finding's advisory nor another one in force does.
     pub moved_by: Vec<&'a Id>,
 }
 
@@ -77,7 +77,7 @@ pub(crate) fn sweep<'a>(ranges: &'a [OsvRange], version: &'a Version) -> Option<
     Some(found)
 }
 
-/// Returns a copy of a version, if there is one.
+/// Returns a copy of a version, if any.
 pub(crate) fn copied(version: Option<&Version>) -> std::result::Result<Option<Version>, AllocError>
     ensures { IfOk result (λ v. option_map parts_of v ≡ option_map (λ v. parts_of v.now) version.entry) }
 {
