@@ -41,13 +41,13 @@ module _ (P Q : Advisory → Type 0) where
   ids-alike to from (x ∷ xs) ids (inr (other, more)) = inr (λ h. other (from x h), ids-alike to from xs ids more)
 
 -- there is one list of these IDs
-pub one-list : (P : Advisory → Type 0) (xs : List Advisory) (ids others : List IdValue) → AreIdsOf P xs ids → AreIdsOf P xs others → ids ≡ others
-one-list P [] ids others h k = h ∙ sym k
-one-list P (x ∷ xs) ids others (inl (a, rest, is, more)) (inl (b, tail, has, all)) =
-    is ∙ (ap (λ (ys : List IdValue). x.metadata.id ∷ ys) (one-list P xs rest tail more all) ∙ sym has)
-one-list P (x ∷ xs) ids others (inl (a, rest, is, more)) (inr (never, k)) = absurd (never a)
-one-list P (x ∷ xs) ids others (inr (never, h)) (inl (b, tail, has, all)) = absurd (never b)
-one-list P (x ∷ xs) ids others (inr (a, h)) (inr (b, k)) = one-list P xs ids others h k
+pub one-ids : (P : Advisory → Type 0) (xs : List Advisory) (ids others : List IdValue) → AreIdsOf P xs ids → AreIdsOf P xs others → ids ≡ others
+one-ids P [] ids others h k = h ∙ sym k
+one-ids P (x ∷ xs) ids others (inl (a, rest, is, more)) (inl (b, tail, has, all)) =
+    is ∙ (ap (λ (ys : List IdValue). x.metadata.id ∷ ys) (one-ids P xs rest tail more all) ∙ sym has)
+one-ids P (x ∷ xs) ids others (inl (a, rest, is, more)) (inr (never, k)) = absurd (never a)
+one-ids P (x ∷ xs) ids others (inr (never, h)) (inl (b, tail, has, all)) = absurd (never b)
+one-ids P (x ∷ xs) ids others (inr (a, h)) (inr (b, k)) = one-ids P xs ids others h k
 
 -- a test of what references point at
 pub any-now : (p : Advisory → Bool) (xs : List (Bor Advisory)) → list_any (λ a. p a.now) xs ≡ list_any p (map (λ (a : Bor Advisory). a.now) xs)

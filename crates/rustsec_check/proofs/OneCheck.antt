@@ -21,10 +21,10 @@ use Rattle.rustsec_check.specs.Checks.{IsCheckOf, is_unused}
 use Rattle.rustsec_check.specs.Compatible.{is_compatible_with}
 use Rattle.rustsec_check.specs.Findings.{AreFindings, IsFinding, IsUpdate, is_denied, is_old, pair_of}
 use Rattle.rustsec_check.specs.Pairs.{counted, found, is_ignored}
-use Rattle.rustsec_check.specs.Updates.{AreIdsOf, IsMover, IsUpdateBy, UpdateValue, in_force, lists_of}
+use Rattle.rustsec_check.specs.Updates.{AreIdsOf, IsMover, IsUpdateBy, UpdateValue, counting, in_force, lists_of}
 use Rattle.rustsec_check.specs.Values.{CheckValue, FindingValue, Found, SubjectValue}
 use Rattle.rustsec_check.proofs.FoundPackages.{found-of}
-use Rattle.rustsec_check.proofs.Movers.{one-list}
+use Rattle.rustsec_check.proofs.Movers.{one-ids}
 use Rattle.rustsec_check.proofs.OneAnswer.{one-answer}
 
 -- ---- paths
@@ -52,7 +52,7 @@ one-update ids others p a u v h k =
     let free : u.least_free ≡ v.least_free = one-answer (lists_of (a ∷ others)) p.version u.least_free v.least_free h.least_free k.least_free in
     let compatible : u.is_compatible ≡ v.is_compatible = h.is_compatible ∙ (ap (is_compatible_with p.version) free ∙ sym k.is_compatible) in
     let is_mover : Option Parts → Advisory → Type 0 = λ found. IsMover ids (lists_of (a ∷ in_force ids others)) p.version found in
-    let moved : u.moved_by ≡ v.moved_by = one-list (is_mover u.least_free) others u.moved_by v.moved_by h.moved_by
+    let moved : u.moved_by ≡ v.moved_by = one-ids (is_mover u.least_free) others u.moved_by v.moved_by h.moved_by
     (subst (λ (found : Option Parts). AreIdsOf (is_mover found) others v.moved_by) (sym free) k.moved_by) in
     λ i. record { least_free = free i; is_compatible = compatible i; moved_by = moved i }
 
@@ -72,7 +72,7 @@ one-finding-of s f g valid pair h k =
     let on_it : f.dependents ≡ g.dependents = h.dependents ∙ (ap (dependents s.graph.edges) place ∙ sym k.dependents) in
     let update_of_g : IsVersion f.«package».version → IsUpdate s f.«package» f.advisory g.update
     = subst (λ (p : Found). IsVersion p.«package».version → IsUpdate s p.«package» p.advisory g.update) (sym pair) k.update in
-    let update : f.update ≡ g.update = one-update _ _ _ _ f.update g.update (h.update valid) (update_of_g valid) in
+    let update : f.update ≡ g.update = one-update s.settings.ignore (counting s.advisories f.«package») f.«package» f.advisory f.update g.update (h.update valid) (update_of_g valid) in
     λ i. record {
       kind = kind i;
       advisory = advisory i;
