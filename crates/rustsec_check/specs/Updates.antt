@@ -39,11 +39,6 @@ in_force ids advisories = filter (λ a. not (is_among ids a.metadata.id)) adviso
 abbrev pub lists_of : List Advisory → List Lists
 lists_of advisories = map (λ (a : Advisory). a.versions) advisories
 
--- whether an advisory leaves a version affected; none is left if there is no version
-abbrev pub affects : Option Parts → Advisory → Bool
-affects None a = false
-affects (Some v) a = affected a.versions v
-
 -- requirements that move an answer about a version: they leave affected a valid version, not below that one and below the
 -- answer, if any, that none of those in force leave affected
 pub record Moves (in_force : List Lists) (v : Parts) (answer : Option Parts) (ls : Lists) : Type 0 where
@@ -92,8 +87,13 @@ pub record AdviceValue : Type 0 where
 abbrev pub IsAdvice : PackageValue → AdviceValue → Type 0
 IsAdvice p v = IsUpdateFor v.counted.ids [] v.counted.others p.version v.update
 
--- whether the answer is the same if an advisory counts too: it leaves the answer free, and either no ignored advisory moves
--- the answer, or one in force has the same requirements
+-- whether an advisory leaves a version affected; none is left if there is no version
+abbrev pub affects : Option Parts → Advisory → Bool
+affects None a = false
+affects (Some v) a = affected a.versions v
+
+-- whether it is known that the answer is the same if an advisory counts too: it leaves the answer free, and either no
+-- ignored advisory moves the answer, or one in force has the same requirements
 abbrev pub is_same_with : AdviceValue → Advisory → Bool
 is_same_with v a = not (affects v.update.least_free a)
     && (length v.update.moved_by == 0 || list_any (λ b. lists_eq b.versions a.versions) (in_force v.counted.ids v.counted.others))

@@ -58,8 +58,8 @@ pub(crate) fn advice_about<'a>(
     Ok(Advice { counted, update })
 }
 
-/// Returns whether the package can be mended in the same way if an advisory counts too: the advisory leaves the answer
-/// free, and it moves no ignored advisory into or out of those that move the answer.
+/// Returns whether it is known that the package can be mended in the same way if an advisory counts too: the advisory
+/// leaves the answer free, and either no ignored one moves the answer, or one in force has the same requirements.
 fn is_same_with(advice: &Advice<'_>, advisory: &Advisory) -> bool
     ensures { result ≡ is_same_with advice.now advisory.now }
 {

@@ -1,9 +1,8 @@
 //! Whether an ignored advisory moves an answer.
 
-ghost use Rattle.std.specs.Prelude.{◌≡◌, IfErr, IfOk, List, option_map, true};
+ghost use Rattle.std.specs.Prelude.{◌≡◌, IfErr, IfOk, List, option_map};
 ghost use Rattle.std.specs.Bool.{Decides};
 ghost use Rattle.semver.specs.Identifiers.{parts_of};
-ghost use Rattle.semver.specs.Parse.{Parts};
 ghost use Rattle.rustsec_error.specs.Failure.{IsMemory};
 ghost use Rattle.rustsec_versions.specs.acceptance.Lists.{Lists};
 ghost use Rattle.rustsec_versions.specs.order.Precedence.{IsVersion};
@@ -26,7 +25,7 @@ pub(crate) struct Answer<'a> {
     pub(crate) version: &'a Version,
     /// The least free version, if any.
     pub(crate) least_free: &'a Option<Version>,
-    /// The ranges of the advisories in force.
+    /// The ranges of the finding's own advisory, if any, and of those in force.
     pub(crate) in_force: &'a [OsvRange],
 }
 

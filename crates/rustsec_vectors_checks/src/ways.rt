@@ -101,9 +101,9 @@ fn check_paths(rt: HostRuntime) -> Result<(), Fail> {
     Ok(())
 }
 
-/// Ignored IDs, and those that are named. The answer is 3.0.0 with each of them, and without the ignored ones:
-/// 2.0.0 without the third; 1.1.0 without the other two, and the third moves it from 2.0.0 on; still 3.0.0 without the
-/// second or the fourth alone, since the other one affects the same versions.
+/// Ignored IDs, and those that are named. The answer is 3.0.0 in each row. Without the third advisory it is 2.0.0. Without
+/// all three it is 1.1.0: the second and the fourth move it to 2.0.0, and the third moves it on. Without the second and the
+/// fourth it is 1.1.0. Without the second alone it stays, since the fourth affects the same versions.
 const MOVED: &[(&[&str], &str)] = &[
     (&["RUSTSEC-2021-0003"], " RUSTSEC-2021-0003"),
     (
