@@ -5,6 +5,7 @@ use rustsec_lock::Severity;
 use rustsec_policy::{Policy, read_severity};
 use std::alloc::Global;
 use std::process::Abort;
+use std::test::Fail;
 
 /// Texts that are not TOML documents, and the messages.
 const NO_DOCUMENTS: &[(&str, &str)] = &[
@@ -234,6 +235,35 @@ const UNKNOWN_WORDS: &[(&str, &str)] = &[
     ),
 ];
 
+/// Documents whose entry of `ignore` has a malformed ID at `id`, and the place of that key: line ends of two bytes, quoted
+/// keys, an inline table, a dotted key, and brackets in comments and strings before it.
+const PLACES: &[(&str, &str)] = &[
+    (
+        "[[advisories.ignore]]\r\nid = \"CVE-2020-1\"\r\n[[advisories.ignore]]\r\nid = \"FOO-1\"\r\n",
+        "line 4, column 1",
+    ),
+    (
+        "[[\"advisories\".'ignore']]\n\"id\" = \"FOO-1\"",
+        "line 2, column 1",
+    ),
+    (
+        "advisories = { ignore = [\"CVE-2020-1\", { id = \"FOO-1\" }] }",
+        "line 1, column 42",
+    ),
+    (
+        "advisories.ignore = [{ id = \"FOO-1\" }]",
+        "line 1, column 24",
+    ),
+    (
+        "[advisories]\nignore = [ # [\n  \"CVE-2020-1\", # }\n  { reason = \"]\",\n    id = \"FOO-1\" },\n]",
+        "line 5, column 5",
+    ),
+    (
+        "[advisories]\nignore = [\"CVE-2020-1\", { reason = '{', \"id\" = \"FOO-1\" }]",
+        "line 2, column 41",
+    ),
+];
+
 /// Returns whether a text is refused as a policy with a message.
 fn refuses(alloc: Global, text: &str, message: &str) -> bool {
     match Policy::from_str(alloc, text) {
@@ -270,6 +300,22 @@ fn refused_entries(rt: HostRuntime) {
     }
 }
 
+/// Returns whether a text is refused as a policy for the ID `FOO-1` at a place.
+fn refuses_at(alloc: Global, text: &str, place: &str) -> Result<bool, Fail> {
+    let message = format!(in alloc;
+        "{place}: key `ignore` in [advisories]: key `id` in an entry of `ignore`: unknown form of ID `FOO-1`, expected `RUSTSEC-`, `CVE-`, `GHSA-` or `TALOS-` at its beginning"
+    )?;
+    Ok(refuses(alloc, text, message.as_str()))
+}
+
+#[test]
+fn places_of_entries(rt: HostRuntime) -> Result<(), Fail> {
+    for (text, place) in PLACES {
+        assert!(rt; refuses_at(rt.alloc(), text, place)?, "of {text}");
+    }
+    Ok(())
+}
+
 #[test]
 fn unknown_words(rt: HostRuntime) {
     for (text, message) in UNKNOWN_WORDS {
@@ -278,7 +324,7 @@ fn unknown_words(rt: HostRuntime) {
 }
 
 /// Returns the severity of a name, or the kind of the refusal.
-fn severity_of(alloc: Global, text: &str) -> std::result::Result<Severity, ErrorKind> {
+fn severity_of(alloc: Global, text: &str) -> Result<Severity, ErrorKind> {
     match read_severity(alloc, text) {
         Ok(severity) => Ok(severity),
         Err(e) => Err(e.kind()),
