@@ -4,7 +4,6 @@ ghost use Rattle.rustsec_error.specs.Failure.{IsMemory, IsOfKind};
 
 use crate::refused::Refused;
 use rustsec_error::{Error, refused_at};
-use rustsec_places::Place;
 use rustsec_toml::TablePlace;
 use std::alloc::{AllocError, Global};
 
@@ -16,7 +15,7 @@ fn bare_name(table: &str) -> Option<&str> {
 /// Returns the place of a key of a table in words.
 fn words_at(alloc: Global, table: TablePlace<'_>, key: &str) -> Result<String, AllocError> {
     let part = table.rest_from(alloc, key)?;
-    Place::of_end(table.text, part).in_words(alloc)
+    table.place_of(part).in_words(alloc)
 }
 
 /// Returns the place of what is refused in words: of a key, of an element of the array there, or of a key of that element.

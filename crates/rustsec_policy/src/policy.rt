@@ -10,9 +10,9 @@ use crate::places::refused_in_text;
 use crate::refused::{Read, at_key};
 use crate::sections::{AdvisoryPolicy, OutputPolicy, TargetPolicy};
 use crate::unused::{DatabasePolicy, PackagePolicy, YankedPolicy};
-use rustsec_error::{Error, ErrorKind, Result};
+use rustsec_error::{ErrorKind, Result};
 use rustsec_toml::{Section, TablePlace, document};
-use std::alloc::{AllocError, Global};
+use std::alloc::Global;
 use toml::Table;
 
 /// The policy of a file.

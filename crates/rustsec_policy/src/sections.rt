@@ -2,7 +2,6 @@
 
 ghost use Rattle.std.specs.Prelude.{◌≡◌, ◌<◌, ◌∷◌, [], IfErr, IfOk, None, OnErr, Some, codes, length, option_map};
 ghost use Rattle.toml.specs.View.{table_view};
-ghost use Rattle.rustsec_lock.specs.Platforms.{arch_of, os_of};
 ghost use Rattle.rustsec_texts.specs.Informational.{informational_of};
 ghost use Rattle.rustsec_toml.specs.Fields.{defaulted, every, optional, text};
 ghost use Rattle.rustsec_error.specs.Failure.{IsMemory, IsOfKind, IsRefusal};

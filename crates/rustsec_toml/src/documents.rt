@@ -6,9 +6,9 @@ ghost use Rattle.toml.specs.View.{table_view};
 ghost use Rattle.rustsec_error.specs.Failure.{IsMemory, IsOfKind, IsRefusal};
 
 use crate::lines::shown_line;
-use crate::statements::{Found, element_at, key_at, key_of_inline};
+use crate::statements::{Found, element_at, header_at, key_at, key_of_inline};
 use rustsec_error::{Error, ErrorKind, Result};
-use rustsec_places::Place;
+use rustsec_places::{Place, skip_mark};
 use rustsec_plain::plain_document;
 use std::alloc::{AllocError, Global};
 use toml::Table;
@@ -42,14 +42,6 @@ fn keys_to<'k>(
     Ok(keys)
 }
 
-/// Returns whether a key, from which on the text is given, is in the header of a table.
-fn is_header(document: &str, key: &str) -> bool {
-    match document.strip_suffix(key) {
-        Some(before) => before.trim_end().ends_with('['),
-        None => false,
-    }
-}
-
 /// Returns the text from the key in the header of a table on. The table is at a position in an array of tables, in whose
 /// first header the given text begins.
 fn table_at<'a>(alloc: Global, first: &'a str, path: &[&str], index: usize) -> Found<&'a str> {
@@ -58,7 +50,7 @@ fn table_at<'a>(alloc: Global, first: &'a str, path: &[&str], index: usize) -> F
         let Some((_, rest)) = found.split_once('\n') else {
             return Ok(None);
         };
-        let Some(next) = key_at(alloc, rest, path)? else {
+        let Some(next) = header_at(alloc, rest, path)? else {
             return Ok(None);
         };
         found = next;
@@ -66,19 +58,34 @@ fn table_at<'a>(alloc: Global, first: &'a str, path: &[&str], index: usize) -> F
     Ok(Some(found))
 }
 
+/// Returns the text from a key on, where the text begins after the header of its table. The key may have a header of its own.
+fn key_in_body<'a>(alloc: Global, body: &'a str, path: &[&str], key: &str) -> Found<&'a str> {
+    match key_at(alloc, body, &[key])? {
+        Some(found) => Ok(Some(found)),
+        None => header_at(alloc, body, &keys_to(alloc, path, key)?),
+    }
+}
+
 /// Returns the text from a key of a table on, where the text begins in the header of the table.
 fn key_in_table<'a>(alloc: Global, table: &'a str, path: &[&str], key: &str) -> Found<&'a str> {
     let Some((_, body)) = table.split_once('\n') else {
         return Ok(None);
     };
-    let Some(found) = key_at(alloc, body, &[key])? else {
+    let Some(found) = key_in_body(alloc, body, path, key)? else {
         return Ok(None);
     };
-    match key_at(alloc, body, path)? {
+    match header_at(alloc, body, path)? {
         // The key is that of the next table.
         Some(next) if next.len() > found.len() => Ok(None),
         _ => Ok(Some(found)),
     }
+}
+
+/// Returns the text from a key on of the table at a position in an array of tables that is the value of a key; from the
+/// table on if its key is not found.
+fn key_in_element<'a>(alloc: Global, array: &'a str, index: usize, key: &str) -> Found<&'a str> {
+    let table = element_at(alloc, array, index)?.unwrap_or(array);
+    Ok(Some(key_of_inline(alloc, table, key)?.unwrap_or(table)))
 }
 
 /// Returns a message with a place before it and the line after it.
@@ -138,6 +145,12 @@ impl<'a> TablePlace<'a> {
         }
     }
 
+    /// Returns the place in the text at which a part of it begins that goes to its end. A byte order mark takes no column
+    /// (RFC 3629, section 6).
+    pub fn place_of(self, part: &str) -> Place {
+        Place::of_end(skip_mark(self.text), part)
+    }
+
     /// Returns the text from a key of the table on, or from an element of the array at the key on. It is the text from the
     /// table on if that part is not found, and the whole text if the table is not found either.
     ///
@@ -167,19 +180,16 @@ impl<'a> TablePlace<'a> {
     /// Returns the text from a key on of the table at a position in an array of tables; from the table on if the key is
     /// not found.
     fn in_array(self, alloc: Global, index: usize, key: &str) -> Found<&'a str> {
-        let Some(array) = key_at(alloc, self.text, self.path)? else {
-            return Ok(None);
-        };
-        if !is_header(self.text, array) {
-            let table = element_at(alloc, array, index)?.unwrap_or(array);
-            return Ok(Some(key_of_inline(alloc, table, key)?.unwrap_or(table)));
+        if let Some(first) = header_at(alloc, self.text, self.path)? {
+            let Some(table) = table_at(alloc, first, self.path, index)? else {
+                return Ok(Some(first));
+            };
+            let found = key_in_table(alloc, table, self.path, key)?;
+            return Ok(Some(found.unwrap_or(table)));
         }
-        match table_at(alloc, array, self.path, index)? {
-            Some(table) => {
-                let found = key_in_table(alloc, table, self.path, key)?;
-                Ok(Some(found.unwrap_or(table)))
-            }
-            None => Ok(Some(array)),
+        match key_at(alloc, self.text, self.path)? {
+            Some(array) => key_in_element(alloc, array, index, key),
+            None => Ok(None),
         }
     }
 
@@ -197,7 +207,7 @@ impl<'a> TablePlace<'a> {
         if self.text.is_empty() {
             return Ok(None);
         }
-        let place = Place::of_end(self.text, self.from_key(alloc, key)?);
+        let place = self.place_of(self.from_key(alloc, key)?);
         Ok(Some(place.from_line(self.line).line))
     }
 
@@ -224,7 +234,7 @@ impl<'a> TablePlace<'a> {
         if error.kind() == ErrorKind::OutOfMemory {
             return error;
         }
-        let place = Place::of_end(self.text, part);
+        let place = self.place_of(part);
         match placed(alloc, self, place, error.message()) {
             Ok(message) => Error::with_cause(alloc, error.kind(), &message, error.cause()),
             Err(refused) => Error::from(refused),
@@ -240,7 +250,8 @@ fn no_document_at(
     from_end: usize,
     name: &str,
 ) -> std::result::Result<String, AllocError> {
-    let place = Place::of_offset(at.text, at.text.len().saturating_sub(from_end));
+    let text = skip_mark(at.text);
+    let place = Place::of_offset(text, text.len().saturating_sub(from_end));
     let message = format!(in alloc; "{name} is not a TOML document")?;
     placed(alloc, at, place, &message)
 }

@@ -217,6 +217,28 @@ pub fn key_at<'a>(
     Ok(None)
 }
 
+/// Returns the text of a document from the key in the first header on that has exactly these parts.
+///
+/// # Errors
+///
+/// `AllocError` alone.
+pub(crate) fn header_at<'a>(alloc: Global, document: &'a str, path: &[&str]) -> Found<&'a str> {
+    let mut rest = skip_mark(document);
+    for _ in document.bytes() {
+        let start = skip_blank(rest, true);
+        let key = skip_ws(start.trim_start_matches('['));
+        let is_header = first(start) == b'[';
+        if is_header && reach(alloc, key, path, Some(0))? == Some(path.len()) {
+            return Ok(Some(key));
+        }
+        let Some(next) = from_byte(alloc, key, b'\n')? else {
+            return Ok(None);
+        };
+        rest = next;
+    }
+    Ok(None)
+}
+
 /// Returns the text from the element at an index of the array that is the value of a key on.
 ///
 /// # Errors

@@ -189,6 +189,14 @@ const ENTRIES: &[(&str, &str)] = &[
         "[[advisories.ignore]]\nid = \"CVE-2020-1\"\n[[advisories.ignore]]\nreason = \"id = 1\"\n[output]\nquiet = true\n",
         "line 3, column 3: key `ignore` in [advisories]: key `id` is missing in an entry of `ignore`",
     ),
+    (
+        "[[advisories.ignore]]\nid = \"CVE-2020-1\"\n[advisories.ignore.reason]\nid = \"x\"\n[[advisories.ignore]]\n\n  [ advisories . ignore . id ] # FOO\n",
+        "line 3, column 2: key `ignore` in [advisories]: key `reason` in an entry of `ignore`: found table `{ id = \"x\" }`, expected a string",
+    ),
+    (
+        "[[advisories.ignore]]\nid = \"CVE-2020-1\"\n[[advisories.ignore]]\n\n  [ advisories . ignore . id ] # FOO\n[[advisories.ignore]]\n",
+        "line 5, column 5: key `ignore` in [advisories]: key `id` in an entry of `ignore`: found table `{}`, expected a string",
+    ),
 ];
 
 /// Documents with an unknown word, and the messages.
@@ -236,7 +244,7 @@ const UNKNOWN_WORDS: &[(&str, &str)] = &[
 ];
 
 /// Documents whose entry of `ignore` has a malformed ID at `id`, and the place of that key: line ends of two bytes, quoted
-/// keys, an inline table, a dotted key, and brackets in comments and strings before it.
+/// keys, an inline table, a dotted key, brackets in comments and strings before it, and a byte order mark.
 const PLACES: &[(&str, &str)] = &[
     (
         "[[advisories.ignore]]\r\nid = \"CVE-2020-1\"\r\n[[advisories.ignore]]\r\nid = \"FOO-1\"\r\n",
@@ -261,6 +269,14 @@ const PLACES: &[(&str, &str)] = &[
     (
         "[advisories]\nignore = [\"CVE-2020-1\", { reason = '{', \"id\" = \"FOO-1\" }]",
         "line 2, column 41",
+    ),
+    (
+        "[advisories] # [\nignore = [\"CVE-2020-1\", { id = \"FOO-1\" }]",
+        "line 2, column 27",
+    ),
+    (
+        "\u{feff}advisories.ignore = [{ id = \"FOO-1\" }]",
+        "line 1, column 24",
     ),
 ];
 
