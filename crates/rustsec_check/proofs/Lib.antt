@@ -13,3 +13,4 @@ pub mod OneAnswer
 pub mod OneCheck
 pub mod Packages
 pub mod Sweep
+pub mod Settled

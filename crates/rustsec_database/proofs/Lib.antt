@@ -11,3 +11,4 @@ pub mod Places
 pub mod Slots
 pub mod Tables
 pub mod Touching
+pub mod Spans

@@ -168,6 +168,12 @@ module _ {A : Type 0} where
       ∙ (ap (λ o. filter test (at_places (take i places) xs) ++ filter test (cons_option o [])) at
       ∙ sym (step-at test places i n xs l is)))
 
+  pub found-far : (test : A → Bool) (places : List ℕ) (i n : ℕ) (xs : List A) (found : List (Bor A)) (o : Option A) → i < length places
+      → n ≡ get_or places i n → map (λ y. y.now) found ≡ filter test (at_places (take i places) xs) → o ≡ slice_get xs n
+      → ((x : A) → o ≡ Some x → test x ≡ false) → map (λ y. y.now) found ≡ filter test (at_places (take (i + 1) places) xs)
+  found-far test places i n xs found None l is before at fails = found-none test places i n xs found l is before at
+  found-far test places i n xs found (Some x) l is before at fails = found-other test places i n xs found x l is before at (fails x refl)
+
   any-step : (b c : Bool) (x : A) (o : Option A) → is_some o ≡ c → is_some (cond b (Some x) o) ≡ (b || c)
   any-step true c x o h = refl
   any-step false c x o h = h

@@ -8,6 +8,8 @@ use Rattle.std.specs.HashMap.{HashMap, Updates}
 use Rattle.std.specs.List.{filter, find, list_any, position_from}
 use Rattle.std.specs.Option.{option_eq}
 use denote.Enum.Bare.{sameb}
+use Rattle.semver.specs.Parse.{Parts}
+use Rattle.rustsec_versions.specs.acceptance.Lists.{affected}
 use Rattle.rustsec_texts.specs.IdOrder.{id_decides, id_eq}
 use Rattle.rustsec_texts.specs.Ids.{IdValue}
 use Rattle.rustsec_texts.specs.contracts.collection.Collection.{the_type as collection}
@@ -136,6 +138,16 @@ selected-under q c name a of named h =
     both _ _
     (subst (λ o. if_there (λ c. option_eq (sameb collection) (Some c) a.metadata.collection) o ≡ true) (sym of) (first_so (in_collection q a) (has_name q a) two))
     (subst (λ o. if_there (λ n. pointwise nat_eq n a.metadata.«package») o ≡ true) (sym named) (second_so (in_collection q a) (has_name q a) two))
+
+-- an advisory that a query selects affects the version that the query asks for
+pub selected-affecting : (q : Asked) (version : Option Parts) (a : Advisory) → version ≡ q.package_version → selects q a ≡ true
+    → if_there (affected a.versions) version ≡ true
+unfolding selects
+selected-affecting q version a at h =
+    let asked : has_version q a ≡ true =
+    second_so (in_collection q a && has_name q a) (has_version q a) (first_so _ (has_source q a) (first_so _ (is_severe q a) (first_so _ (on_arch q a)
+    (first_so _ (on_os q a) (first_so _ (of_year q a) (first_so _ (as_withdrawn q a) (first_so _ (as_informational q a) h))))))) in
+    subst (λ o. if_there (affected a.versions) o ≡ true) (sym at) asked
 
 -- an advisory that a query selects for a package is of the query's collection and the package's name
 pub selected-of : (q : Asked) (p : PackageValue) (c : Collection) (a : Advisory) → q.collection ≡ Some c → selects (of_package q p) a ≡ true

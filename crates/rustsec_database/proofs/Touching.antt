@@ -1,15 +1,16 @@
 -- The packages of a lockfile by their names, and whether some advisory affects one of them.
-use Rattle.std.proofs.Common.{◌≡◌, ◌∙◌, ◌+◌, ◌<◌, ◌++◌, ◌&&◌, ◌||◌, ℕ, Bool, true, false, cond, not, ◌==◌, List, [], ◌∷◌, Option, Some, None, get_or, length, nat_eq, take, refl, sym, ap, subst, arith}
-use Rattle.std.proofs.lemmas.Grind.{common_steps}
+use Rattle.std.proofs.Common.{◌≡◌, ◌∙◌, ◌+◌, ◌<◌, ◌++◌, ◌&&◌, ◌||◌, ℕ, Bool, true, false, cond, List, [], ◌∷◌, Option, Some, None, get_or, length, nat_eq, take, refl, sym, ap, subst, arith}
 use Rattle.std.proofs.lemmas.List.{length-take-le, take_more}
 use Rattle.std.specs.Cmp.Lexicographic.{bytes_decides, pointwise}
 use Rattle.std.specs.List.{cons_option, filter, filter_map, list_any, slice_get}
 use Rattle.rustsec_versions.specs.acceptance.Lists.{affected}
+use Rattle.rustsec_versions.specs.ranges.Ranges.{is_till}
 use Rattle.rustsec_lock.specs.Package.{PackageValue}
 use Rattle.rustsec_advisory.specs.declared.advisory.Advisory.{Advisory}
-use Rattle.rustsec_database.specs.Kept.{is_about_any, touches_any}
-use Rattle.rustsec_database.specs.Places.{IsIndexByName, affects_at, at_places, holds_at, is_named, places_from}
+use Rattle.rustsec_database.specs.Kept.{bears_on_any, touches_any}
+use Rattle.rustsec_database.specs.Places.{IsIndexByName, affects_at, at_places, bears_at, holds_at, is_named, places_from}
 use Rattle.rustsec_database.specs.Slots.{slots_at, with_slot}
+use Rattle.rustsec_database.specs.Spans.{span_of}
 use Rattle.rustsec_database.proofs.Places.{places-below, places-in, places-out, taken}
 use Rattle.rustsec_database.proofs.Slots.{with_slot-last}
 use Rattle.rustsec_database.proofs.Tables.{name-back, plus-zero}
@@ -65,29 +66,20 @@ module _ {A : Type 0} where
   any-filter p test [] = refl
   any-filter p test (x ∷ xs) = any-both p test x (filter p xs) xs (p x) refl (any-filter p test xs)
 
--- the packages of the advisory's name are enough
-pub touched : (packages : List PackageValue) (a : Advisory) (slots : List ℕ) → slots ≡ places_from (is_named a.metadata.«package») 0 packages
-    → list_any (affects_at a.versions packages) slots ≡ touches_any packages a
-touched packages a slots are =
-    let test : PackageValue → Bool = λ p. affected a.versions p.version in
-    let named = is_named a.metadata.«package» in
+-- the packages of a name are enough for a test of the packages that have it
+named-any : (packages : List PackageValue) (test : PackageValue → Bool) (name slots : List ℕ) → slots ≡ places_from (is_named name) 0 packages
+    → list_any (λ n. holds_at test (slice_get packages n)) slots ≡ list_any (λ p. is_named name p && test p) packages
+named-any packages test name slots are =
     any-at test packages slots
     ∙ (ap (λ ps. list_any test (at_places ps packages)) are
-    ∙ (ap (list_any test) (taken named packages) ∙ any-filter named test packages))
+    ∙ (ap (list_any test) (taken (is_named name) packages) ∙ any-filter (is_named name) test packages))
 
-some-step : (b : Bool) (n : ℕ) (ns : List ℕ) (rest : Bool) → not (length ns == 0) ≡ rest → not (length (cond b (n ∷ ns) ns) == 0) ≡ (b || rest)
-some-step true n ns rest h =
-    let some : (length (n ∷ ns) == 0) ≡ false = grind (arith, common_steps) in
-    ap not some
-some-step false n ns rest h = h
+-- an advisory affects one of the packages exactly if it affects one of its name
+pub touched : (packages : List PackageValue) (a : Advisory) (slots : List ℕ) → slots ≡ places_from (is_named a.metadata.«package») 0 packages
+    → list_any (affects_at a.versions packages) slots ≡ touches_any packages a
+touched packages a slots are = named-any packages (λ p. affected a.versions p.version) a.metadata.«package» slots are
 
--- there is a place exactly if some element passes the test
-some-place : {A : Type 0} (test : A → Bool) (i : ℕ) (xs : List A) → not (length (places_from test i xs) == 0) ≡ list_any test xs
-some-place test i [] = refl
-some-place test i (x ∷ xs) = some-step (test x) i (places_from test (i + 1) xs) (list_any test xs) (some-place test (i + 1) xs)
-
--- a package has the advisory's name
-pub some-named : (packages : List PackageValue) (a : Advisory) (slots : List ℕ) → slots ≡ places_from (is_named a.metadata.«package») 0 packages
-    → not (length slots == 0) ≡ is_about_any packages a
-some-named packages a slots are =
-    ap (λ (ns : List ℕ). not (length ns == 0)) are ∙ some-place (is_named a.metadata.«package») 0 packages
+-- and it bears on one of them exactly if it bears on one of its name
+pub borne : (packages : List PackageValue) (a : Advisory) (slots : List ℕ) → slots ≡ places_from (is_named a.metadata.«package») 0 packages
+    → list_any (bears_at (span_of a.versions).fixed packages) slots ≡ bears_on_any packages a
+borne packages a slots are = named-any packages (λ p. is_till (span_of a.versions).fixed p.version) a.metadata.«package» slots are

@@ -4,6 +4,7 @@ use Rattle.std.specs.Cmp.Lexicographic.{pointwise}
 use Rattle.std.specs.List.{filter, list_any}
 use Rattle.rustsec_error.specs.Failure.{Failure, IsMemory}
 use Rattle.rustsec_versions.specs.acceptance.Lists.{affected}
+use Rattle.rustsec_versions.specs.ranges.Ranges.{is_till}
 use Rattle.rustsec_lock.specs.Package.{PackageValue}
 use Rattle.rustsec_texts.specs.IdOrder.{id_eq}
 use Rattle.rustsec_texts.specs.Ids.{IdValue}
@@ -13,6 +14,7 @@ use Rattle.rustsec_folders.specs.declared.source_file.SourceFile.{SourceFile}
 use Rattle.rustsec_database.specs.Latest.{last_date}
 use Rattle.rustsec_database.specs.Loaded.{AreLoaded, IsAdded, IsFirstFault, has_id}
 use Rattle.rustsec_database.specs.Opened.{AreOpened}
+use Rattle.rustsec_database.specs.Spans.{span_of}
 
 -- some advisories, some IDs, and a date, if any
 pub record KeptValue : Type 0 where
@@ -42,15 +44,20 @@ touches a p = pointwise nat_eq a.metadata.«package» p.name && affected a.versi
 abbrev pub touches_any : List PackageValue → Advisory → Bool
 touches_any packages a = list_any (touches a) packages
 
--- ---- which advisories are about a package of a lockfile
+-- ---- which advisories bear on a package of a lockfile, whichever later version it is updated to
 
 -- an advisory is about a package: it has its name
 abbrev pub is_about : Advisory → PackageValue → Bool
 is_about a p = pointwise nat_eq a.metadata.«package» p.name
 
--- an advisory is about one of some packages
-abbrev pub is_about_any : List PackageValue → Advisory → Bool
-is_about_any packages a = list_any (is_about a) packages
+-- an advisory bears on a package: it is about it, and no patched requirement `>=` of a release holds its version, and so
+-- all later ones
+abbrev pub bears_on : Advisory → PackageValue → Bool
+bears_on a p = is_about a p && is_till (span_of a.versions).fixed p.version
+
+-- an advisory bears on one of some packages
+abbrev pub bears_on_any : List PackageValue → Advisory → Bool
+bears_on_any packages a = list_any (bears_on a) packages
 
 -- ---- one file more, for the functions that opening calls
 

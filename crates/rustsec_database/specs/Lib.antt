@@ -6,3 +6,4 @@ pub mod Loaded
 pub mod Opened
 pub mod Kept
 pub mod Places
+pub mod Spans

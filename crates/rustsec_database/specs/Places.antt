@@ -6,7 +6,9 @@ use Rattle.std.specs.HashMap.{HashMap}
 use Rattle.std.specs.List.{filter_map, position_from}
 use Rattle.std.specs.Option.{option_eq}
 use denote.Enum.Bare.{sameb}
+use Rattle.semver.specs.Parse.{Parts}
 use Rattle.rustsec_versions.specs.acceptance.Lists.{Lists, affected}
+use Rattle.rustsec_versions.specs.ranges.Ranges.{is_till}
 use Rattle.rustsec_lock.specs.Package.{PackageValue}
 use Rattle.rustsec_texts.specs.IdOrder.{id_eq}
 use Rattle.rustsec_texts.specs.Ids.{IdValue}
@@ -58,3 +60,7 @@ holds_at test (Some x) = test x
 -- whether there is a package at a place, and its version is affected
 abbrev pub affects_at : Lists → List PackageValue → ℕ → Bool
 affects_at versions packages place = holds_at (λ (p : PackageValue). affected versions p.version) (slice_get packages place)
+
+-- whether there is a package at a place, and its version is below where a span ends
+abbrev pub bears_at : Option Parts → List PackageValue → ℕ → Bool
+bears_at fixed packages place = holds_at (λ (p : PackageValue). is_till fixed p.version) (slice_get packages place)

@@ -1,23 +1,27 @@
 //! The database: advisories loaded from files, with indexes by ID and by package.
 
-ghost use Rattle.std.specs.Prelude.{◌≡◌, ◌++◌, ◌⊎◌, ◌<◌, ◌^◌, ℕ, IfErr, IfOk, IfSome, List, OnOk, length, map, true};
+ghost use Rattle.std.specs.Prelude.{◌≡◌, ◌++◌, ◌⊎◌, ◌<◌, ◌^◌, ℕ, IfErr, IfOk, IfSome, List, OnOk, Some, length, map, option_map, slice_get, true};
 ghost use Rattle.std.specs.Iterator.Adapters.{IterYieldsInOrder};
 ghost use Rattle.std.specs.List.{filter, find};
 ghost use Rattle.std.specs.Option.{option_copied};
 ghost use Rattle.std.specs.Slice.Iter.{iter_rest};
+ghost use Rattle.semver.specs.Identifiers.{parts_of};
 ghost use Rattle.rustsec_error.specs.Failure.{IsMemory};
+ghost use Rattle.rustsec_versions.specs.acceptance.Lists.{affected};
 ghost use Rattle.rustsec_advisory.specs.declared.advisory.Advisory as given;
 ghost use Rattle.rustsec_query.specs.Pairs.{as_vulnerability, is_audited, pairs, pairs_of};
 ghost use Rattle.rustsec_query.specs.Query.{crate_scope, of_package};
-ghost use Rattle.rustsec_query.specs.Selects.{selects};
+ghost use Rattle.rustsec_query.specs.Selects.{if_there, selects};
 ghost use Rattle.rustsec_database.specs.Loaded.{AreLoaded, IsFirstFault, IsOnlyWithId, has_id};
 ghost use Rattle.rustsec_database.specs.Places.{AreIndexesOf, at_places, is_under, places_from};
+ghost use Rattle.rustsec_database.specs.Spans.{is_near, spans_of};
 
 use crate::entries::Entries;
 use crate::indexes::Indexes;
 use crate::matches::{Matches, MatchesPackage};
 use crate::pair::{Pair, push_pairs, vulnerabilities_of};
 use crate::slot::Slot;
+use crate::span::{Span, spans_of};
 use rustsec_advisory::Advisory;
 use rustsec_error::Result;
 use rustsec_folders::SourceFile;
@@ -26,6 +30,7 @@ use rustsec_lock::package::{Name, Package};
 use rustsec_query::{Query, Vulnerability};
 use rustsec_texts::{Collection, Id};
 use rustsec_values::Test;
+use semver::Version;
 use std::alloc::{AllocError, Global};
 use std::marker::Model;
 use std::{slice, vec};
@@ -38,34 +43,84 @@ pub type Iter<'a> = slice::Iter<'a, Advisory>;
 pub struct Database {
     entries: Entries,
     indexes: Indexes,
+    /// The span of each advisory.
+    spans: Vec<Span>,
 }
 
 impl Model for Database {
-    ghost use Rattle.std.specs.Prelude.{List};
+    ghost use Rattle.std.specs.Prelude.{◌≡◌, List};
     ghost use Rattle.rustsec_advisory.specs.declared.advisory.Advisory as given;
     ghost use Rattle.rustsec_database.specs.Places.{AreIndexesOf};
+    ghost use Rattle.rustsec_database.specs.Spans.{spans_of};
 
     ghost Value = { List given.Advisory };
 
     ghost view = { λ d. d.entries };
 
-    ghost invariant = { λ d. AreIndexesOf d.entries d.indexes.crates d.indexes.rust };
+    ghost invariant = { λ d. AreIndexesOf d.entries d.indexes.crates d.indexes.rust × (d.spans.items ≡ spans_of d.entries) };
 }
 
-/// Returns the advisories in some slots that pass a test, in the order of the slots.
+/// What the index is asked for: a collection and a name, and a version, if any.
+#[derive(Clone, Copy)]
+struct Sought<'a> {
+    collection: Collection,
+    name: &'a Name,
+    version: Option<&'a Version>,
+}
+
+/// The spans of stored advisories, and a version that is asked for, if any.
+#[derive(Drop)]
+struct Screen<'a> {
+    spans: &'a [Span],
+    version: Option<&'a Version>,
+}
+
+impl<'a> Model for Screen<'a> {
+    ghost use Rattle.std.specs.Prelude.{List, Option, option_map};
+    ghost use Rattle.semver.specs.Identifiers.{parts_of};
+    ghost use Rattle.semver.specs.Parse.{Parts};
+    ghost use Rattle.rustsec_versions.specs.ranges.Ranges.{Range};
+
+    ghost Value = { List Range × Option Parts };
+
+    ghost view = { λ s. (s.spans.now, option_map (λ v. parts_of v.now) s.version) };
+}
+
+impl<'a> Screen<'a> {
+    /// Returns whether the span of the advisory in a slot holds the version. The advisory itself is not read.
+    fn is_near(&self, slot: Slot) -> bool
+        ensures { result ≡ is_near self.now.0 self.now.1 slot }
+    {
+        let Some(version) = self.version else {
+            return true;
+        };
+        match self.spans.get(slot.place()) {
+            Some(span) => span.holds(version),
+            None => true,
+        }
+    }
+}
+
+/// Returns the advisories in some slots that pass a test, in the order of the slots. Only those whose span holds the
+/// version of the screen may pass.
 fn matching<'a, T: Test<Advisory>>(
     alloc: Global,
     entries: &'a Entries,
+    screen: &Screen<'_>,
     slots: &[Slot],
     test: &T,
 ) -> std::result::Result<Vec<&'a Advisory>, AllocError>
+    requires { (place : ℕ) (a : given.Advisory) → Some a ≡ slice_get entries.now place → T.passes test.now a ≡ true
+        → is_near screen.now.0 screen.now.1 place ≡ true }
     ensures { IfOk result (λ v. map (λ a. a.now) v.items ≡ filter (T.passes test.now) (at_places slots.now entries.now)) }
 {
     let mut found = Vec::new(alloc);
     for slot in slots {
-        if let Some(advisory) = entries.get(*slot) {
-            if test.passes(advisory) {
-                found.push(advisory)?;
+        if screen.is_near(*slot) {
+            if let Some(advisory) = entries.get(*slot) {
+                if test.passes(advisory) {
+                    found.push(advisory)?;
+                }
             }
         }
     }
@@ -108,7 +163,12 @@ impl Database {
         ensures err { IfErr result IsMemory }
     {
         let indexes = Indexes::of(alloc, entries.as_slice())?;
-        Ok(Database { entries, indexes })
+        let spans = spans_of(alloc, entries.as_slice())?;
+        Ok(Database {
+            entries,
+            indexes,
+            spans,
+        })
     }
 
     /// Loads the database of some files. Advisories whose ID is the placeholder are left out.
@@ -160,19 +220,32 @@ impl Database {
         }
     }
 
-    /// Uses the index to find the advisories that pass a test, in the order in which they were loaded. Only
-    /// advisories of this collection and this package name may pass the test.
+    /// Returns the screen for a version.
+    fn screen<'a>(&'a self, version: Option<&'a Version>) -> Screen<'a>
+        ensures { result ≡ (spans_of self.now, option_map (λ v. parts_of v.now) version.entry) }
+    {
+        Screen {
+            spans: self.spans.as_slice(),
+            version,
+        }
+    }
+
+    /// Uses the index to find the advisories that pass a test, in the order in which they were loaded. Only advisories of
+    /// this collection and this package name that affect this version may pass the test.
     fn indexed<T: Test<Advisory>>(
         &self,
         alloc: Global,
-        collection: Collection,
-        name: &Name,
+        sought: Sought<'_>,
         test: &T,
     ) -> std::result::Result<Vec<&Advisory>, AllocError>
-        requires { (a : given.Advisory) → T.passes test.now a ≡ true → is_under collection name.now a ≡ true }
+        requires under { (a : given.Advisory) → T.passes test.now a ≡ true → is_under sought.collection sought.name.now a ≡ true }
+        requires affects { (a : given.Advisory) → T.passes test.now a ≡ true
+            → if_there (affected a.versions) (option_map (λ v. parts_of v.now) sought.version) ≡ true }
         ensures { IfOk result (λ v. map (λ a. a.now) v.items ≡ filter (T.passes test.now) self.now) }
     {
-        matching(alloc, &self.entries, self.slots(collection, name), test)
+        let screen = self.screen(sought.version);
+        let slots = self.slots(sought.collection, sought.name);
+        matching(alloc, &self.entries, &screen, slots, test)
     }
 
     /// Returns the advisories that match a query, in the order in which they were loaded. If the query asks
@@ -187,7 +260,13 @@ impl Database {
     {
         if let Some(collection) = query.asked_collection() {
             if let Some(name) = query.asked_name() {
-                let found = self.indexed(alloc, collection, name, &Matches { query })?;
+                let version = query.asked_version();
+                let sought = Sought {
+                    collection,
+                    name,
+                    version,
+                };
+                let found = self.indexed(alloc, sought, &Matches { query })?;
                 return Ok(found);
             }
         }
@@ -210,10 +289,15 @@ impl Database {
         ensures { IfOk result (λ v. map (λ a. a.now) v.items ≡ filter (selects (of_package query.now «package».now)) self.now) }
     {
         let test = MatchesPackage { query, package };
-        match query.asked_collection() {
-            Some(collection) => self.indexed(alloc, collection, &package.name, &test),
-            None => all_matching(alloc, &self.entries, &test),
-        }
+        let Some(collection) = query.asked_collection() else {
+            return all_matching(alloc, &self.entries, &test);
+        };
+        let sought = Sought {
+            collection,
+            name: &package.name,
+            version: Some(&package.version),
+        };
+        self.indexed(alloc, sought, &test)
     }
 
     /// Appends one pair for each advisory that a query finds for a package. A package that is not audited adds
@@ -311,6 +395,7 @@ impl IntoIterator for Database {
         let Database {
             entries,
             indexes: _,
+            spans: _,
         } = self;
         entries.into_iter()
     }

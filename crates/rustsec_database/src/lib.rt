@@ -13,12 +13,13 @@ mod matches;
 mod open;
 mod pair;
 mod slot;
+mod span;
 
 pub use crate::database::{Database, Iter};
 pub use crate::entries::Entries;
 pub use crate::index::Index;
 pub use crate::kept::KeptDatabase;
-pub use crate::locked::{Locked, Named};
+pub use crate::locked::{Bearing, Locked};
 pub use crate::pair::{Pair, vulnerabilities_of};
 pub use crate::slot::Slot;
 pub use rustsec_folders::SourceFile;

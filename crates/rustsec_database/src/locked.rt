@@ -1,13 +1,14 @@
-//! Which advisories affect a package of a lockfile, and which are about one.
+//! Which advisories affect a package of a lockfile, and which bear on one.
 
 ghost use Rattle.std.specs.Prelude.{◌≡◌, IfErr, IfOk};
 ghost use Rattle.std.specs.List.{list_any};
 ghost use Rattle.rustsec_error.specs.Failure.{IsMemory};
-ghost use Rattle.rustsec_database.specs.Kept.{is_about_any, touches_any};
-ghost use Rattle.rustsec_database.specs.Places.{IsIndexByName, affects_at, is_named, places_from};
+ghost use Rattle.rustsec_database.specs.Kept.{bears_on_any, touches_any};
+ghost use Rattle.rustsec_database.specs.Places.{IsIndexByName, affects_at, bears_at, is_named, places_from};
 
 use crate::index::Index;
 use crate::slot::Slot;
+use crate::span::{Span, span_of};
 use rustsec_advisory::Advisory;
 use rustsec_error::Result;
 use rustsec_lock::package::{Name, Package};
@@ -90,6 +91,13 @@ impl<'a> Locked<'a> {
             None => &[],
         }
     }
+
+    /// Returns the packages.
+    fn packages(&self) -> &[Package]
+        ensures { result.now ≡ self.now }
+    {
+        self.packages
+    }
 }
 
 impl<'a> Test<Advisory> for Locked<'a> {
@@ -103,43 +111,63 @@ impl<'a> Test<Advisory> for Locked<'a> {
     }
 }
 
+/// Returns whether there is a package in a slot and its version is below where a span ends.
+fn bears_at(span: &Span, packages: &[Package], slot: Slot) -> bool
+    ensures { result ≡ bears_at span.now.fixed packages.now slot }
+{
+    match packages.get(slot.place()) {
+        Some(package) => span.is_till(&package.version),
+        None => false,
+    }
+}
+
+/// Returns whether the version of some package in these slots is below where a span ends.
+fn bears_on_some(span: &Span, packages: &[Package], slots: &[Slot]) -> bool
+    ensures { result ≡ list_any (bears_at span.now.fixed packages.now) slots.now }
+{
+    slots.iter().any(|slot| bears_at(span, packages, *slot))
+}
+
 /// The packages of a lockfile, with an index by their names. Contracts see it as the list of the packages. As a test it
-/// passes the advisories that are about one of them, whichever versions they affect.
+/// passes the advisories that bear on one of them: those about it, unless a patched requirement is `>=` of a release that
+/// is not above the locked version. Such an advisory affects neither that version nor a later one.
 #[derive(Drop)]
-pub struct Named<'a> {
+pub struct Bearing<'a> {
     locked: Locked<'a>,
 }
 
-impl<'a> Model for Named<'a> {
+impl<'a> Model for Bearing<'a> {
     ghost use Rattle.std.specs.Prelude.{List};
     ghost use Rattle.rustsec_lock.specs.Package.{PackageValue};
 
     ghost Value = { List PackageValue };
 
-    ghost view = { λ n. n.locked };
+    ghost view = { λ b. b.locked };
 }
 
-impl<'a> Named<'a> {
+impl<'a> Bearing<'a> {
     /// Returns the packages with their index.
     ///
     /// # Errors
     ///
     /// `OutOfMemory` alone.
-    pub fn new(alloc: Global, packages: &'a [Package]) -> Result<Named<'a>>
-        ensures ok { IfOk result (λ n. n ≡ packages.now) }
+    pub fn new(alloc: Global, packages: &'a [Package]) -> Result<Bearing<'a>>
+        ensures ok { IfOk result (λ b. b ≡ packages.now) }
         ensures err { IfErr result IsMemory }
     {
         let locked = Locked::new(alloc, packages)?;
-        Ok(Named { locked })
+        Ok(Bearing { locked })
     }
 }
 
-impl<'a> Test<Advisory> for Named<'a> {
-    ghost use Rattle.rustsec_database.specs.Kept.{is_about_any};
+impl<'a> Test<Advisory> for Bearing<'a> {
+    ghost use Rattle.rustsec_database.specs.Kept.{bears_on_any};
 
-    ghost passes = { λ packages a. is_about_any packages a };
+    ghost passes = { λ packages a. bears_on_any packages a };
 
     fn passes(&self, advisory: &Advisory) -> bool {
-        !self.locked.slots(&advisory.metadata.package).is_empty()
+        let named = self.locked.slots(&advisory.metadata.package);
+        let span = span_of(&advisory.versions);
+        bears_on_some(&span, self.locked.packages(), named)
     }
 }

@@ -1,4 +1,4 @@
--- The check of a lockfile by the advisories about its packages, which alone are kept of the database.
+-- The check of a lockfile by the advisories that bear on its packages, which alone are kept of the database.
 use Rattle.std.proofs.Common.{◌≡◌, ◌⊎◌, ◌∙◌, ℕ, Bool, Err, List, Ok, Option, None, Result, Some, false, true, inl, inr, length, refl, subst, sym}
 use Rattle.std.specs.Prelude.{IfOk}
 use Rattle.rustsec_error.specs.Failure.{Failure, IsRefusal}
@@ -10,7 +10,7 @@ use Rattle.rustsec_lock.specs.Lockfile.{IsLockfileRefusal}
 use Rattle.rustsec_lock.specs.Package.{PackageValue}
 use Rattle.rustsec_texts.specs.Ids.{IdValue}
 use Rattle.rustsec_advisory.specs.declared.advisory.Advisory.{Advisory}
-use Rattle.rustsec_database.specs.Kept.{AreOpenedFor, IsKept, KeptValue, is_about_any}
+use Rattle.rustsec_database.specs.Kept.{AreOpenedFor, IsKept, KeptValue, bears_on_any}
 use Rattle.rustsec_database.specs.Opened.{AreOpened}
 use Rattle.rustsec_check.specs.Checks.{IsCheckOf}
 use Rattle.rustsec_check.specs.Values.{SubjectValue, YankedValue}
@@ -62,9 +62,9 @@ yanked-kept s all None found h = h
 yanked-kept s all (Some y) found (ys, (are, is)) = (ys, (kept-yanked s all y.packages ys are, is))
 
 pub kept-found : (p : PlanValue) (ids : List IdValue) (k : KeptValue) (l : LoadedValue) (f h : FoundValue) → ids ≡ p.wanted.settings.ignore
-    → ((all : List Advisory) (s : SubjectValue) → IsKept (is_about_any s.packages) all k → s.advisories ≡ k.advisories
+    → ((all : List Advisory) (s : SubjectValue) → IsKept (bears_on_any s.packages) all k → s.advisories ≡ k.advisories
     → s.settings.ignore ≡ ids → IsCheckOf s f.check → IsCheckOf (record s { advisories = all }) h.check)
-    → h.yanked ≡ f.yanked → IsFound (ground p k.advisories) l f → (all : List Advisory) → IsKept (is_about_any l.locked.packages) all k
+    → h.yanked ≡ f.yanked → IsFound (ground p k.advisories) l f → (all : List Advisory) → IsKept (bears_on_any l.locked.packages) all k
     → IsFound (ground p all) l h
 kept-found p ids k l f h ids_are more same is all kept =
     let s = subject_of (ground p k.advisories) l in
@@ -75,10 +75,10 @@ kept-found p ids k l f h ids_are more same is all kept =
 
 pub all-found : (p : PlanValue) (ids : List IdValue) (k : KeptValue) (l : LoadedValue) (f : FoundValue) (answer : Result FoundValue Failure)
     → ids ≡ p.wanted.settings.ignore
-    → IfOk answer (λ h. (all : List Advisory) (s : SubjectValue) → IsKept (is_about_any s.packages) all k → s.advisories ≡ k.advisories
+    → IfOk answer (λ h. (all : List Advisory) (s : SubjectValue) → IsKept (bears_on_any s.packages) all k → s.advisories ≡ k.advisories
     → s.settings.ignore ≡ ids → IsCheckOf s f.check → IsCheckOf (record s { advisories = all }) h.check)
     → IfOk answer (λ h. h.yanked ≡ f.yanked) → IsFound (ground p k.advisories) l f
-    → IfOk answer (λ h. (all : List Advisory) → IsKept (is_about_any l.locked.packages) all k → IsFound (ground p all) l h)
+    → IfOk answer (λ h. (all : List Advisory) → IsKept (bears_on_any l.locked.packages) all k → IsFound (ground p all) l h)
 all-found p ids k l f (Ok h) ids_are more same is = kept-found p ids k l f h ids_are more same is
 all-found p ids k l f (Err e) ids_are more same is = tt
 
@@ -88,9 +88,9 @@ dated-kept : (d : DatedValue) (test : Advisory → Bool) (k : KeptValue) (all : 
 dated-kept d test k all is h = is ∙ (λ i. record { count = h.number i; last_date = h.last_date i })
 
 module _ (p : PlanValue) (d : DatedValue) (k : KeptValue) (l : LoadedValue) (is : d ≡ record { count = length k.ids; last_date = k.last_date })
-    (all : List Advisory) (kept : IsKept (is_about_any l.locked.packages) all k) where
+    (all : List Advisory) (kept : IsKept (bears_on_any l.locked.packages) all k) where
   same-database : d ≡ dated_of all
-  same-database = dated-kept d (is_about_any l.locked.packages) k all is kept
+  same-database = dated-kept d (bears_on_any l.locked.packages) k all is kept
 
   pub kept-empty : (e : Failure) → IsRefusal kind.NotFound (is_empty (record { plan = p; database = d }) l ≡ true) e
       → IsRefusal kind.NotFound (is_empty (basis_of (ground p all)) l ≡ true) e
@@ -110,32 +110,32 @@ module _ (p : PlanValue) (d : DatedValue) (k : KeptValue) (l : LoadedValue) (is 
 module _ (a b c : Allowed) (read : AllowSame a b) (opened : AllowSame b c) (root lock : List ℕ) (p : PlanValue) (r : LockedValue)
     (packages : List PackageValue) (k : KeptValue) (at : Places) (at_is : at ≡ places_of p lock) where
   -- a result by all advisories, where some of them were kept
-  by-all : (R : List Advisory → Type 0) → AreOpenedFor b root (is_about_any packages) k → packages ≡ r.packages
-      → ((all : List Advisory) → IsKept (is_about_any r.packages) all k → R all) → (all : List Advisory) × (AreOpened a root all × R all)
+  by-all : (R : List Advisory → Type 0) → AreOpenedFor b root (bears_on_any packages) k → packages ≡ r.packages
+      → ((all : List Advisory) → IsKept (bears_on_any r.packages) all k → R all) → (all : List Advisory) × (AreOpened a root all × R all)
   by-all R (all, (there, kept)) is made =
-      (all, (opened-before a b read root all there, made all (subst (λ (ps : List PackageValue). IsKept (is_about_any ps) all k) is kept)))
+      (all, (opened-before a b read root all there, made all (subst (λ (ps : List PackageValue). IsKept (bears_on_any ps) all k) is kept)))
 
-  pub checked-by-kept : (form : Form) (l : LoadedValue) (o : Output) → AreOpenedFor b root (is_about_any packages) k → packages ≡ r.packages
+  pub checked-by-kept : (form : Form) (l : LoadedValue) (o : Output) → AreOpenedFor b root (bears_on_any packages) k → packages ≡ r.packages
       → IsLockedAt a lock r → AreOthersAt c at r l
-      → ((all : List Advisory) → IsKept (is_about_any l.locked.packages) all k → IsCheckedOutput form (ground p all) l o)
+      → ((all : List Advisory) → IsKept (bears_on_any l.locked.packages) all k → IsCheckedOutput form (ground p all) l o)
       → (all : List Advisory) × (AreOpened a root all × IsLockfileOutput a form (ground p all) lock o)
   checked-by-kept form l o there is locked others made =
       let beside = subst (λ (x : Places). AreOthersAt c x r l) at_is others in
       let loaded = loaded-by a c (same-trans a b c read opened) (places_of p lock) r l locked beside in
       by-all (λ all. IsLockfileOutput a form (ground p all) lock o) there is
-      (λ all kept. (l, (loaded, made all (subst (λ (x : LockedValue). IsKept (is_about_any x.packages) all k) (sym others.0) kept))))
+      (λ all kept. (l, (loaded, made all (subst (λ (x : LockedValue). IsKept (bears_on_any x.packages) all k) (sym others.0) kept))))
 
-  pub refused-by-kept : (l : LoadedValue) (e : Failure) → AreOpenedFor b root (is_about_any packages) k → packages ≡ r.packages
+  pub refused-by-kept : (l : LoadedValue) (e : Failure) → AreOpenedFor b root (bears_on_any packages) k → packages ≡ r.packages
       → IsLockedAt a lock r → AreOthersAt c at r l
-      → ((all : List Advisory) → IsKept (is_about_any l.locked.packages) all k → IsRefusal kind.NotFound (is_empty (basis_of (ground p all)) l ≡ true) e)
+      → ((all : List Advisory) → IsKept (bears_on_any l.locked.packages) all k → IsRefusal kind.NotFound (is_empty (basis_of (ground p all)) l ≡ true) e)
       → (all : List Advisory) × (AreOpened a root all × IsCheckedRefusal a (ground p all) lock e)
   refused-by-kept l e there is locked others made =
       let beside = subst (λ (x : Places). AreOthersAt c x r l) at_is others in
       let loaded = loaded-by a c (same-trans a b c read opened) (places_of p lock) r l locked beside in
       by-all (λ all. IsCheckedRefusal a (ground p all) lock e) there is
-      (λ all kept. inr (l, (loaded, made all (subst (λ (x : LockedValue). IsKept (is_about_any x.packages) all k) (sym others.0) kept))))
+      (λ all kept. inr (l, (loaded, made all (subst (λ (x : LockedValue). IsKept (bears_on_any x.packages) all k) (sym others.0) kept))))
 
-  pub others-refused : (e : Failure) → AreOpenedFor b root (is_about_any packages) k → IsLockedAt a lock r → IsOtherRefusal c at r e
+  pub others-refused : (e : Failure) → AreOpenedFor b root (bears_on_any packages) k → IsLockedAt a lock r → IsOtherRefusal c at r e
       → (all : List Advisory) × (AreOpened a root all × IsCheckedRefusal a (ground p all) lock e)
   others-refused e (all, (there, kept)) locked h =
       let refused = subst (λ (x : Places). IsOtherRefusal c x r e) at_is h in
@@ -143,6 +143,6 @@ module _ (a b c : Allowed) (read : AllowSame a b) (opened : AllowSame b c) (root
 
 -- the lockfile was refused
 pub lockfile-refused : (a b : Allowed) → AllowSame a b → (root lock : List ℕ) (p : PlanValue) (packages : List PackageValue) (k : KeptValue) (e : Failure)
-    → AreOpenedFor b root (is_about_any packages) k → IsLockfileRefusal a lock e
+    → AreOpenedFor b root (bears_on_any packages) k → IsLockfileRefusal a lock e
     → (all : List Advisory) × (AreOpened a root all × IsCheckedRefusal a (ground p all) lock e)
 lockfile-refused a b same root lock p packages k e (all, (at, kept)) h = (all, (opened-before a b same root all at, inl (unlocked h)))

@@ -1,8 +1,8 @@
-//! The command `check`. Of the database it keeps the advisories about the lockfile's packages alone.
+//! The command `check`. Of the database it keeps the advisories that bear on the lockfile's packages alone.
 
 ghost use Rattle.std.specs.Prelude.{◌≡◌, ◌⊎◌, [], IfErr, IfOk, List, map};
 ghost use Rattle.rustsec_advisory.specs.declared.advisory.Advisory.{Advisory};
-ghost use Rattle.rustsec_database.specs.Kept.{AreOpenedFor, is_about_any};
+ghost use Rattle.rustsec_database.specs.Kept.{AreOpenedFor, bears_on_any};
 ghost use Rattle.rustsec_database.specs.Opened.{AreOpened, IsOpenRefusal};
 ghost use Rattle.rustsec_folders.specs.Allowed.{AllowSame};
 ghost use Rattle.rustsec_lock.specs.Package.{PackageValue};
@@ -18,7 +18,7 @@ use crate::plan::Plan;
 use rustsec_commands::Paths;
 use rustsec_commands::error_output::refusal_output;
 use rustsec_commands::output::{Output, usage_output};
-use rustsec_database::{KeptDatabase, Named};
+use rustsec_database::{Bearing, KeptDatabase};
 use rustsec_error::Result;
 use rustsec_folders::Folders;
 use rustsec_lock::package::Package;
@@ -35,20 +35,20 @@ fn packages_read(read: &Result<Locked>) -> &[Package]
     }
 }
 
-/// Opens the database under a root, and keeps of its advisories those about a package of a lockfile that was read.
+/// Opens the database under a root, and keeps of its advisories those that bear on a package of a lockfile that was read.
 fn kept_for<F: Folders>(
     alloc: Global,
     folders: &mut F,
     root: &str,
     read: &Result<Locked>,
 ) -> Result<KeptDatabase>
-    ensures ok { IfOk result (λ k. (packages : List PackageValue) × (AreOpenedFor (F.allowed folders.old) root.now (is_about_any packages) k
+    ensures ok { IfOk result (λ k. (packages : List PackageValue) × (AreOpenedFor (F.allowed folders.old) root.now (bears_on_any packages) k
         × IfOk read.now (λ l. packages ≡ l.packages))) }
     ensures err { IfErr result (IsOpenRefusal (F.allowed folders.old) root.now) }
     ensures same { AllowSame (F.allowed folders.old) (F.allowed folders.new) }
 {
-    let named = Named::new(alloc, packages_read(read))?;
-    KeptDatabase::open_with(alloc, folders, root, &named)
+    let bearing = Bearing::new(alloc, packages_read(read))?;
+    KeptDatabase::open_with(alloc, folders, root, &bearing)
 }
 
 /// Reads the lockfile, opens the database and checks the lockfile by a plan. A refusal of the database is the answer also

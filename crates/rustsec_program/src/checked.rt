@@ -8,7 +8,7 @@ ghost use Rattle.rustsec_advisory.specs.declared.advisory.Advisory as given;
 ghost use Rattle.rustsec_check.specs.Checks.{IsCheckOf};
 ghost use Rattle.rustsec_check.specs.Subjects.{subject_view};
 ghost use Rattle.rustsec_check.specs.Values.{SubjectValue};
-ghost use Rattle.rustsec_database.specs.Kept.{IsKept, is_about_any};
+ghost use Rattle.rustsec_database.specs.Kept.{IsKept, bears_on_any};
 ghost use Rattle.rustsec_program.specs.Checked.{AreYankedIf, FoundValue, IsCheckedOutput, IsCheckedRefusal, IsFound, IsLockfileOutput, IsOutputFor, IsWrittenText, basis_of, is_empty, places_of, some_yanked_fail, status_of, subject_of};
 ghost use Rattle.rustsec_program.specs.Places.{places_view};
 ghost use Rattle.rustsec_program.specs.Forms.{form_view};
@@ -163,11 +163,11 @@ impl<'a> Found<'a> {
         }
     }
 
-    /// Returns what is found by all advisories under a root. This was found by those in `kept`, which are about the
+    /// Returns what is found by all advisories under a root. This was found by those in `kept`, which bear on the
     /// lockfile's packages. `ids` are the ignored IDs.
     fn with_all_ids(self, alloc: Global, kept: &KeptDatabase, ids: &'a [Id]) -> Result<Found<'a>>
         ensures yanked { IfOk result (λ f. f.yanked ≡ self.entry.yanked) }
-        ensures check { IfOk result (λ f. (all : List given.Advisory) (s : SubjectValue) → IsKept (is_about_any s.packages) all kept.now
+        ensures check { IfOk result (λ f. (all : List given.Advisory) (s : SubjectValue) → IsKept (bears_on_any s.packages) all kept.now
             → s.advisories ≡ kept.now.advisories → s.settings.ignore ≡ ids.now → IsCheckOf s self.entry.check → IsCheckOf (record s { advisories = all }) f.check) }
         ensures err { IfErr result IsMemory }
     {
@@ -366,14 +366,14 @@ pub fn check_lockfile<'x, F: Folders>(
     checked_output(alloc, form, ground, &loaded)
 }
 
-/// Returns what is found in a lockfile by all advisories. `kept` has those about its packages.
+/// Returns what is found in a lockfile by all advisories. `kept` has those that bear on its packages.
 fn found_by_kept<'x>(
     alloc: Global,
     plan: &'x Plan<'x>,
     kept: &'x KeptDatabase,
     loaded: &'x Loaded,
 ) -> Result<Found<'x>>
-    ensures ok { IfOk result (λ f. (all : List given.Advisory) → IsKept (is_about_any loaded.now.locked.packages) all kept.now
+    ensures ok { IfOk result (λ f. (all : List given.Advisory) → IsKept (bears_on_any loaded.now.locked.packages) all kept.now
         → IsFound (record { plan = plan.now; advisories = all }) loaded.now f) }
     ensures err { IfErr result IsMemory }
 {
@@ -381,7 +381,7 @@ fn found_by_kept<'x>(
     found.with_all_ids(alloc, kept, plan.wanted.settings.ignore.as_slice())
 }
 
-/// Checks lockfiles that were loaded, and makes the output. `kept` has the advisories about the lockfile's packages. The
+/// Checks lockfiles that were loaded, and makes the output. `kept` has the advisories that bear on the lockfile's packages. The
 /// output is that of a check by all advisories.
 ///
 /// # Errors
@@ -394,9 +394,9 @@ pub fn kept_output<'x>(
     kept: &'x KeptDatabase,
     loaded: &'x Loaded,
 ) -> Result<Output>
-    ensures ok { IfOk result (λ o. (all : List given.Advisory) → IsKept (is_about_any loaded.now.locked.packages) all kept.now
+    ensures ok { IfOk result (λ o. (all : List given.Advisory) → IsKept (bears_on_any loaded.now.locked.packages) all kept.now
         → IsCheckedOutput (form_view form.entry) (record { plan = plan.now; advisories = all }) loaded.now o) }
-    ensures err { IfErr result (λ e. (all : List given.Advisory) → IsKept (is_about_any loaded.now.locked.packages) all kept.now
+    ensures err { IfErr result (λ e. (all : List given.Advisory) → IsKept (bears_on_any loaded.now.locked.packages) all kept.now
         → IsRefusal ErrorKind.NotFound (is_empty (basis_of (record { plan = plan.now; advisories = all })) loaded.now ≡ true) e) }
 {
     let dated = Dated::of_kept(kept);

@@ -1,9 +1,17 @@
-use Rattle.std.proofs.Common.{ap, rules}
+use Rattle.std.proofs.Common.{Some, ap, refl, rules}
 use Rattle.rustsec_lock.specs.Package.{PackageValue}
-use Rattle.rustsec_database.proofs.Tables.{selected-of}
+use Rattle.rustsec_query.specs.Query.{of_package}
+use Rattle.rustsec_database.proofs.Tables.{selected-affecting, selected-of}
 use Rattle.rustsec_database.proofs.database.Database.query_of_package.Goals as goal
 
 pub indexed-requires : goal.indexed-requires
-indexed-requires c = λ a h.
-    let name = ap (λ (p : PackageValue). p.name) c.«package».view_is in
-    rw name (selected-of c.args.query.now c.args.«package».now _ a (search rules) h)
+indexed-requires c = record {
+  under = λ a h. (
+      let name = ap (λ (p : PackageValue). p.name) c.«package».view_is in
+      rw name (selected-of c.args.query.now c.args.«package».now _ a (search rules) h)
+      );
+  affects = λ a h. (
+      let version = ap (λ (p : PackageValue). p.version) c.«package».view_is in
+      rw version (selected-affecting (of_package c.args.query.now c.args.«package».now) (Some c.args.«package».now.version) a refl h)
+      );
+}
