@@ -18,9 +18,9 @@ use Rattle.rustsec_check.proofs.Sweep.{at_most-refl}
 module _ {A : Type 0} where
   swap-step : (p q : A → Bool) (x : A) (xs : List A) (b c : Bool) → p x ≡ b → q x ≡ c → filter p (filter q xs) ≡ filter q (filter p xs)
       → filter p (filter q (x ∷ xs)) ≡ filter q (filter p (x ∷ xs))
-  swap-step p q x xs true true is has h = rw (is, has) (rw (is, has) (ap (λ (ys : List A). x ∷ ys) h))
-  swap-step p q x xs true false is has h = rw (is, has) (rw (is, has) h)
-  swap-step p q x xs false true is has h = rw (is, has) (rw (is, has) h)
+  swap-step p q x xs true true is has h = rw (is, has) (rw is (ap (λ (ys : List A). x ∷ ys) h))
+  swap-step p q x xs true false is has h = rw (is, has) (rw has h)
+  swap-step p q x xs false true is has h = rw (is, has) (rw is h)
   swap-step p q x xs false false is has h = rw (is, has) h
 
   -- the order of two filters does not matter
@@ -88,7 +88,7 @@ module _ (test : Advisory → Bool) (v : Parts) where
 
   least-same : (some all : List Lists) (found : Option Parts) → AffectSame v some all → IsLeastFree some v found → IsLeastFree all v found
   least-same some all found same h = record {
-    some = λ w is. (let s = h.some w is in (s.0, (s.1, sym (same w s.1) ∙ s.2)));
+    some = λ w is. (let s = h.some w is in (s.0, s.1, sym (same w s.1) ∙ s.2));
     least = λ w is u valid at free. h.least w is u valid at (same u at ∙ free);
     none = λ is u valid at. sym (same u at) ∙ h.none is u valid at;
     itself = λ free. h.itself (same v (at_most-refl v) ∙ free);

@@ -6,3 +6,4 @@ pub mod Shortest
 pub mod Sources
 pub mod Visits
 pub mod Words
+pub mod Reversed

@@ -5,3 +5,4 @@ pub mod Graph
 pub mod Paths
 pub mod Search
 pub mod Words
+pub mod Reverse

@@ -1,15 +1,14 @@
 //! The edges between the packages of a lockfile.
 
-ghost use Rattle.std.specs.Prelude.{◌≡◌, ◌<◌, ◌==◌, ◌&&◌, ◌||◌, not, false, IfOk, OnErr, length, map, option_map, slice_get, slice_index_or, ℕ};
+ghost use Rattle.std.specs.Prelude.{◌≡◌, ◌<◌, ◌==◌, ◌&&◌, ◌||◌, not, false, IfOk, length, map, option_map, slice_get, slice_index_or, ℕ};
 ghost use Rattle.std.specs.List.{list_any, range_with_len};
 ghost use Rattle.toml.specs.View.{table_view, view};
-ghost use Rattle.rustsec_graph.specs.Edges.{dependents, is_needed, is_successor, targets_at, targets_in, unresolved_at, unresolved_in};
+ghost use Rattle.rustsec_graph.specs.Edges.{is_needed, targets_at, targets_in, unresolved_at, unresolved_in};
 ghost use Rattle.rustsec_graph.specs.Entries.{places};
 ghost use Rattle.rustsec_graph.specs.Graph.{is_local, roots_of};
 
 use crate::entries::{packages_in, resolve, resolve_more, value_in};
 use crate::index::Index;
-use crate::search::successors_of;
 use rustsec_lock::package::Package;
 use rustsec_values::Items;
 use std::alloc::{AllocError, Global};
@@ -64,13 +63,6 @@ pub(crate) fn resolve_all(
     Ok(Resolved { edges, unresolved })
 }
 
-/// Returns whether a place is a successor of another one.
-fn is_successor(edges: &[Items<usize>], place: usize, from: usize) -> bool
-    ensures { result ≡ is_successor edges.now place from }
-{
-    successors_of(edges, from).iter().any(|to| *to == place)
-}
-
 /// Marks the successors of a place, but not the place itself.
 fn mark(needed: &mut Vec<bool>, from: usize, successors: &[usize])
     ensures len { length needed.new.items ≡ length needed.old.items }
@@ -104,26 +96,6 @@ fn is_marked(marks: &[bool], place: usize) -> bool
         Some(mark) => *mark,
         None => false,
     }
-}
-
-/// Returns the places with an edge to a place, in order.
-pub(crate) fn dependents(
-    alloc: Global,
-    edges: &[Items<usize>],
-    place: usize,
-) -> Result<Vec<usize>, AllocError>
-    ensures ok { IfOk result (λ v. v.items ≡ dependents edges.now place) }
-
-    // The answer that there is no place takes no memory.
-    ensures none { OnErr result (0 < length (dependents edges.now place)) }
-{
-    let mut dependents = Vec::new(alloc);
-    for from in 0..edges.len() {
-        if is_successor(edges, place, from) {
-            dependents.push(from)?;
-        }
-    }
-    Ok(dependents)
 }
 
 /// Returns whether there is a package at a place, and it has no source.

@@ -8,8 +8,9 @@ ghost use Rattle.rustsec_graph.specs.Graph.{graph_of};
 ghost use Rattle.rustsec_graph.specs.Paths.{IsAnswer, IsPathTo};
 
 use crate::candidates::is_old;
-use crate::edges::{Resolved, dependents, resolve_all, roots_of};
+use crate::edges::{Resolved, resolve_all, roots_of};
 use crate::index::Index;
+use crate::reverse::{copied, reversed};
 use crate::search::{Search, path_to, search_from};
 use rustsec_error::Result;
 use rustsec_lock::Lockfile;
@@ -22,6 +23,8 @@ use toml::Table;
 #[derive(Debug, Drop)]
 pub struct Graph {
     edges: Items<Items<usize>>,
+    /// The packages that depend on each package.
+    dependents: Vec<Items<usize>>,
     roots: Items<usize>,
     unresolved: Items<usize>,
     search: Search,
@@ -29,13 +32,14 @@ pub struct Graph {
 
 impl Model for Graph {
     ghost use Rattle.rustsec_graph.specs.Graph.{GraphValue, IsClosed};
+    ghost use Rattle.rustsec_graph.specs.Reverse.{AreReversed};
     ghost use Rattle.rustsec_graph.specs.Search.{IsWhole};
 
     ghost Value = { GraphValue };
 
     ghost view = { λ g. record { edges = g.edges; roots = g.roots; unresolved = g.unresolved } };
 
-    ghost invariant = { λ g. IsClosed g.edges g.roots × IsWhole g.edges g.roots g.search };
+    ghost invariant = { λ g. IsClosed g.edges g.roots × IsWhole g.edges g.roots g.search × AreReversed g.edges g.dependents.items };
 }
 
 impl Graph {
@@ -55,11 +59,13 @@ impl Graph {
         let index = Index::new(alloc, is_old(table), packages)?;
         let Resolved { edges, unresolved } = resolve_all(alloc, table, &index)?;
         let edge_lists = edges.as_slice();
+        let dependents = reversed(alloc, edge_lists)?;
         let roots = roots_of(alloc, packages, edge_lists)?;
         let root_places = roots.as_slice();
         let search = search_from(alloc, edge_lists, root_places)?;
         Ok(Graph {
             edges,
+            dependents,
             roots: Items::from(roots),
             unresolved,
             search,
@@ -95,7 +101,10 @@ impl Graph {
         // The answer that there is no package takes no memory.
         ensures none { OnErr result (0 < length (dependents self.now.edges place)) }
     {
-        let places = dependents(alloc, self.edges.as_slice(), place)?;
+        let Some(dependents) = self.dependents.get(place) else {
+            return Ok(Vec::new(alloc));
+        };
+        let places = copied(alloc, dependents.as_slice())?;
         Ok(places)
     }
 

@@ -7,6 +7,7 @@ mod entries;
 mod graph;
 mod index;
 mod releases;
+mod reverse;
 mod search;
 
 pub use crate::graph::Graph;

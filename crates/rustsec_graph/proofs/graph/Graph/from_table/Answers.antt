@@ -3,6 +3,7 @@ use Rattle.toml.specs.View.{table_view}
 use Rattle.rustsec_graph.specs.Candidates.{candidate_of, candidates, is_old}
 use Rattle.rustsec_graph.specs.Edges.{edges_of}
 use Rattle.rustsec_graph.specs.Graph.{roots_of}
+use Rattle.rustsec_graph.specs.Reverse.{AreReversed}
 use Rattle.rustsec_graph.specs.Search.{IsWhole}
 use Rattle.rustsec_graph.proofs.Closed.{closed-at, edges-are, roots-rise, unresolved-are}
 use Rattle.rustsec_graph.proofs.graph.Graph.from_table.Goals as goal
@@ -39,7 +40,9 @@ invariant_of-result c =
     c.from.ensures ∙ c.in_ok-roots.ensures ∙ ap (λ qs. roots_of qs es) c.as_slice-packages.ensures ∙ ap (roots_of ps) c.as_slice-edge_lists.ensures in
     let whole = subst (λ xs. IsWhole xs c.from.result c.in_ok-search.search) c.as_slice-edge_lists.ensures
     (subst (λ rs. IsWhole es rs c.in_ok-search.search) (c.as_slice-root_places.ensures.value ∙ sym c.from.ensures) c.in_ok-search.ensures) in
-    (closed-at ms ps c.in_ok-edges.field-0.edges c.from.result edges roots, whole)
+    let lists = subst (λ xs. AreReversed xs c.in_ok-dependents.dependents.items) c.as_slice-edge_lists.ensures
+    (record { len = c.in_ok-dependents.ensures.len; each = c.in_ok-dependents.ensures.each }) in
+    (closed-at ms ps c.in_ok-edges.field-0.edges c.from.result edges roots, whole, lists)
 
 pub returns-clause-ok : goal.returns-clause-ok
 returns-clause-ok c =

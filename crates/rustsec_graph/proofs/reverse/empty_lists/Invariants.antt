@@ -1,0 +1,10 @@
+use Rattle.std.proofs.Common.{◌≡◌, [], length, ℕ}
+use Rattle.std.specs.Prelude.{slice_index_or}
+use Rattle.rustsec_graph.proofs.reverse.empty_lists.Given as goal
+
+-- there are so many lists so far, all of them empty
+abbrev pub invariant-loop : goal.invariant-loop
+invariant-loop l = record {
+  len : length l.lists.items ≡ l.counter;
+  empty : (p : ℕ) → slice_index_or l.lists.items p [] ≡ [];
+}

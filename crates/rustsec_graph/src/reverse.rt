@@ -1,0 +1,85 @@
+//! The packages that depend on each package.
+
+ghost use Rattle.std.specs.Prelude.{◌≡◌, ◌++◌, ◌<◌, ◌==◌, ◌∷◌, [], if◌then◌else◌, IfOk, OnErr, OnOk, length, slice_index_or, ℕ};
+ghost use Rattle.std.specs.List.{list_any};
+ghost use Rattle.rustsec_graph.specs.Edges.{dependents};
+
+use rustsec_values::Items;
+use std::alloc::{AllocError, Global};
+
+/// Returns whether a place is among some.
+fn is_among(places: &[usize], place: usize) -> bool
+    ensures { result ≡ list_any (λ p. p == place) places.now }
+{
+    places.iter().any(|other| *other == place)
+}
+
+/// Appends a place to the list at another one, if there is a list.
+fn push_at(lists: &mut Vec<Items<usize>>, at: usize, place: usize) -> Result<(), AllocError>
+    ensures len { length lists.new.items ≡ length lists.old.items }
+    ensures ok { OnOk result ((p : ℕ) → p < length lists.old.items → slice_index_or lists.new.items p []
+        ≡ slice_index_or lists.old.items p [] ++ (if at == p then place ∷ [] else [])) }
+{
+    if at < lists.len() {
+        lists[at].push(place)?;
+    }
+    Ok(())
+}
+
+/// Appends a place to the list of each of its successors, once.
+fn push_dependent(
+    lists: &mut Vec<Items<usize>>,
+    place: usize,
+    successors: &[usize],
+) -> Result<(), AllocError>
+    ensures len { length lists.new.items ≡ length lists.old.items }
+    ensures ok { OnOk result ((p : ℕ) → p < length lists.old.items → slice_index_or lists.new.items p []
+        ≡ slice_index_or lists.old.items p [] ++ (if list_any (λ to. to == p) successors.now then place ∷ [] else [])) }
+{
+    for (index, to) in successors.iter().enumerate() {
+        if !is_among(&successors[..index], *to) {
+            push_at(lists, *to, place)?;
+        }
+    }
+    Ok(())
+}
+
+/// Returns so many empty lists.
+fn empty_lists(alloc: Global, count: usize) -> Result<Vec<Items<usize>>, AllocError>
+    ensures len { IfOk result (λ v. length v.items ≡ count) }
+    ensures empty { IfOk result (λ v. (p : ℕ) → slice_index_or v.items p [] ≡ []) }
+{
+    let mut lists = Vec::new(alloc);
+    for _ in 0..count {
+        lists.push(Items::new(alloc)).map_err(|_| AllocError)?;
+    }
+    Ok(lists)
+}
+
+/// Returns for each place those with an edge to it, in order.
+pub(crate) fn reversed(
+    alloc: Global,
+    edges: &[Items<usize>],
+) -> Result<Vec<Items<usize>>, AllocError>
+    ensures len { IfOk result (λ v. length v.items ≡ length edges.now) }
+    ensures each { IfOk result (λ v. (p : ℕ) → p < length edges.now → slice_index_or v.items p [] ≡ dependents edges.now p) }
+{
+    let mut lists = empty_lists(alloc, edges.len())?;
+    for (place, successors) in edges.iter().enumerate() {
+        push_dependent(&mut lists, place, successors.as_slice())?;
+    }
+    Ok(lists)
+}
+
+/// Returns a copy of a list of places.
+pub(crate) fn copied(alloc: Global, places: &[usize]) -> Result<Vec<usize>, AllocError>
+    ensures ok { IfOk result (λ v. v.items ≡ places.now) }
+
+    // An empty list takes no memory.
+    ensures none { OnErr result (0 < length places.now) }
+{
+    if places.is_empty() {
+        return Ok(Vec::new(alloc));
+    }
+    places.to_vec(alloc)
+}
