@@ -1,5 +1,5 @@
 -- Advisories that affect no version from the locked one on change nothing about how a package can be mended.
-use Rattle.std.proofs.Common.{◌≡◌, ◌∙◌, ◌||◌, ◌++◌, Bool, true, false, List, [], ◌∷◌, Option, ap, cond, inl, inr, not, refl, sym}
+use Rattle.std.proofs.Common.{◌≡◌, ◌∙◌, ◌||◌, Bool, true, false, List, [], ◌∷◌, Option, ap, cond, inl, inr, not, refl, sym}
 use Rattle.std.specs.List.{All, filter}
 use Rattle.std.proofs.lemmas.List.Elements.{All-cons, All-head, All-nil, All-tail}
 use Rattle.semver.specs.Parse.{Parts}
@@ -19,7 +19,7 @@ module _ {A : Type 0} where
   swap-step : (p q : A → Bool) (x : A) (xs : List A) (b c : Bool) → p x ≡ b → q x ≡ c → filter p (filter q xs) ≡ filter q (filter p xs)
       → filter p (filter q (x ∷ xs)) ≡ filter q (filter p (x ∷ xs))
   swap-step p q x xs true true is has h = rw (is, has) (rw is (ap (λ (ys : List A). x ∷ ys) h))
-  swap-step p q x xs true false is has h = rw (is, has) (rw has h)
+  swap-step p q x xs true false is has h = rw (is, has) h
   swap-step p q x xs false true is has h = rw (is, has) (rw is h)
   swap-step p q x xs false false is has h = rw (is, has) h
 

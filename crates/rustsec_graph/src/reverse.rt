@@ -44,7 +44,7 @@ fn push_dependent(
     Ok(())
 }
 
-/// Returns so many empty lists.
+/// Returns the given number of empty lists.
 fn empty_lists(alloc: Global, count: usize) -> Result<Vec<Items<usize>>, AllocError>
     ensures len { IfOk result (λ v. length v.items ≡ count) }
     ensures empty { IfOk result (λ v. (p : ℕ) → slice_index_or v.items p [] ≡ []) }

@@ -2,7 +2,7 @@ use Rattle.std.proofs.Common.{◌≡◌, [], length, ℕ}
 use Rattle.std.specs.Prelude.{slice_index_or}
 use Rattle.rustsec_graph.proofs.reverse.empty_lists.Given as goal
 
--- there are so many lists so far, all of them empty
+-- there is a list for each turn, and all are empty
 abbrev pub invariant-loop : goal.invariant-loop
 invariant-loop l = record {
   len : length l.lists.items ≡ l.counter;
