@@ -24,3 +24,5 @@ mod osv_documents;
 mod osv_export;
 #[cfg(test)]
 mod query_builders;
+#[cfg(test)]
+mod spans;
