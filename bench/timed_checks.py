@@ -4,7 +4,7 @@ The first has `check` beside `audit` over the same database and lockfile. The se
 as many readings of lockfiles as its list has paths, measured with rustsec_bench in two ways.
 
 - One process opens the database, and then reads each lockfile of the list from its file, with the graph of its
-  dependencies, as the reader of the Rust crate also resolves them. So it does what `check-many` does except the checks and their lines.
+  dependencies in both directions, as the reader of the Rust crate also resolves them. So it does what `check-many` does except the checks and their lines.
 - The sum of a process that opens the database once, and of calls that read the texts of the list's lockfiles, which are
   in memory. For these a process is started for each lockfile; its time without a call is subtracted, so that the start, and
   opening and reading the file, are not part of the sum. These readings are of a text that was read just before, so they take
