@@ -6,7 +6,7 @@ ghost use Rattle.toml.specs.View.{table_view};
 ghost use Rattle.rustsec_error.specs.Failure.{IsMemory, IsOfKind, IsRefusal};
 
 use crate::lines::shown_line;
-use crate::statements::{Found, element_at, header_at, key_at, key_of_inline};
+use crate::statements::{Found, element_at, header_at, key_at, key_of_body, key_of_inline};
 use rustsec_error::{Error, ErrorKind, Result};
 use rustsec_places::{Place, skip_mark};
 use rustsec_plain::plain_document;
@@ -60,7 +60,7 @@ fn table_at<'a>(alloc: Global, first: &'a str, path: &[&str], index: usize) -> F
 
 /// Returns the text from a key on, where the text begins after the header of its table. The key may have a header of its own.
 fn key_in_body<'a>(alloc: Global, body: &'a str, path: &[&str], key: &str) -> Found<&'a str> {
-    match key_at(alloc, body, &[key])? {
+    match key_of_body(alloc, body, key)? {
         Some(found) => Ok(Some(found)),
         None => header_at(alloc, body, &keys_to(alloc, path, key)?),
     }
@@ -145,10 +145,19 @@ impl<'a> TablePlace<'a> {
         }
     }
 
-    /// Returns the place in the text at which a part of it begins that goes to its end. A byte order mark takes no column
-    /// (RFC 3629, section 6).
+    /// Returns the text without the byte order mark of its file (RFC 3629, section 6), which only its first line can have.
+    fn unmarked(self) -> &'a str {
+        if self.line == 1 {
+            skip_mark(self.text)
+        } else {
+            self.text
+        }
+    }
+
+    /// Returns the place in the text of a part that begins there and goes to the end of the text. A byte order mark at the
+    /// beginning of the file takes no column.
     pub fn place_of(self, part: &str) -> Place {
-        Place::of_end(skip_mark(self.text), part)
+        Place::of_end(self.unmarked(), part)
     }
 
     /// Returns the text from a key of the table on, or from an element of the array at the key on. It is the text from the
@@ -250,7 +259,7 @@ fn no_document_at(
     from_end: usize,
     name: &str,
 ) -> std::result::Result<String, AllocError> {
-    let text = skip_mark(at.text);
+    let text = at.unmarked();
     let place = Place::of_offset(text, text.len().saturating_sub(from_end));
     let message = format!(in alloc; "{name} is not a TOML document")?;
     placed(alloc, at, place, &message)

@@ -239,6 +239,30 @@ pub(crate) fn header_at<'a>(alloc: Global, document: &'a str, path: &[&str]) -> 
     Ok(None)
 }
 
+/// Returns the text from the first key on that begins with a part, in a text that begins after the header of a table. The
+/// next header ends the table.
+///
+/// # Errors
+///
+/// `AllocError` alone.
+pub(crate) fn key_of_body<'a>(alloc: Global, body: &'a str, part: &str) -> Found<&'a str> {
+    let mut rest = body;
+    for _ in body.bytes() {
+        let key = skip_blank(rest, true);
+        if first(key) == b'[' {
+            return Ok(None);
+        }
+        if reach(alloc, key, &[part], Some(0))?.is_some() {
+            return Ok(Some(key));
+        }
+        let Some(next) = from_byte(alloc, key, b'\n')? else {
+            return Ok(None);
+        };
+        rest = next;
+    }
+    Ok(None)
+}
+
 /// Returns the text from the element at an index of the array that is the value of a key on.
 ///
 /// # Errors
