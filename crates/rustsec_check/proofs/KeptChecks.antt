@@ -1,5 +1,5 @@
--- A check by the advisories that bear on a package of the lockfile is the check by all of them, once its ignored IDs go by the
--- IDs of all.
+-- A check by the advisories that a test passes, of which each that bears on a package of the lockfile is one, is the check by
+-- all of them, once its ignored IDs go by the IDs of all.
 use Rattle.std.proofs.Common.{◌≡◌, ◌∙◌, ◌&&◌, ◌||◌, ◌+◌, ◌-◌, ◌++◌, ℕ, Bool, true, false, List, [], ◌∷◌, ap, inl, inr, length, map, nat_eq, not, refl, subst, sym}
 use Rattle.std.proofs.lemmas.Bool.{cases_Bool}
 use Rattle.std.specs.Cmp.{first_so, second_so}
@@ -16,7 +16,7 @@ use Rattle.rustsec_query.specs.Pairs.{finds, is_audited}
 use Rattle.rustsec_query.specs.Query.{Asked, of_package}
 use Rattle.rustsec_query.specs.Selects.{as_informational, as_withdrawn, has_name, has_source, has_version, in_collection, is_severe, of_year, on_arch, on_os, selects}
 use Rattle.rustsec_database.proofs.Places.{narrow}
-use Rattle.rustsec_database.specs.Kept.{IsKept, KeptValue, bears_on, bears_on_any, is_about}
+use Rattle.rustsec_database.specs.Kept.{IsKept, KeptValue, PassesBearing, bears_on, bears_on_any, is_about}
 use Rattle.rustsec_database.specs.Spans.{span_of}
 use Rattle.rustsec_database.proofs.Spans.{in-span, past-span}
 use Rattle.rustsec_database.proofs.Tables.{selected-affecting}
@@ -114,17 +114,13 @@ right : (a b : Bool) → b ≡ true → (a || b) ≡ true
 right true b h = refl
 right false b h = h
 
--- a test passes the advisories that bear on one of some packages
-abbrev pub PassesAny : (Advisory → Bool) → List PackageValue → Type 0
-PassesAny test packages = (a : Advisory) → bears_on_any packages a ≡ true → test a ≡ true
-
-passes-first : (test : Advisory → Bool) (p : PackageValue) (ps : List PackageValue) → PassesAny test (p ∷ ps) → Passes test p
+passes-first : (test : Advisory → Bool) (p : PackageValue) (ps : List PackageValue) → PassesBearing test (p ∷ ps) → Passes test p
 passes-first test p ps any a h = any a (left (bears_on a p) (bears_on_any ps a) h)
 
-passes-rest : (test : Advisory → Bool) (p : PackageValue) (ps : List PackageValue) → PassesAny test (p ∷ ps) → PassesAny test ps
+passes-rest : (test : Advisory → Bool) (p : PackageValue) (ps : List PackageValue) → PassesBearing test (p ∷ ps) → PassesBearing test ps
 passes-rest test p ps any a h = any a (right (bears_on a p) (bears_on_any ps a) h)
 
-found-from-kept : (advisories : List Advisory) (s : Settings) (test : Advisory → Bool) (n : ℕ) (packages : List PackageValue) → PassesAny test packages
+found-from-kept : (advisories : List Advisory) (s : Settings) (test : Advisory → Bool) (n : ℕ) (packages : List PackageValue) → PassesBearing test packages
     → flat_map (found_at (filter test advisories) s) (enumerate_from n packages) ≡ flat_map (found_at advisories s) (enumerate_from n packages)
 found-from-kept advisories s test n [] any = refl
 found-from-kept advisories s test n (p ∷ ps) any =
@@ -133,28 +129,27 @@ found-from-kept advisories s test n (p ∷ ps) any =
     let rest = found-from-kept advisories s test (n + 1) ps (passes-rest test p ps any) in
     λ i. first i ++ rest i
 
-all-mend : (ids : List IdValue) (advisories : List Advisory) (test : Advisory → Bool) (packages : List PackageValue) → PassesAny test packages
+all-mend : (ids : List IdValue) (advisories : List Advisory) (test : Advisory → Bool) (packages : List PackageValue) → PassesBearing test packages
     → All (MendAlike ids (filter test advisories) advisories) packages
 all-mend ids advisories test [] any = All-nil (MendAlike ids (filter test advisories) advisories)
 all-mend ids advisories test (p ∷ ps) any =
     All-cons (MendAlike ids (filter test advisories) advisories) p ps (mends-kept ids advisories test p (passes-first test p ps any))
     (all-mend ids advisories test ps (passes-rest test p ps any))
 
--- ---- the advisories that bear on one of these packages
+-- ---- the advisories that a test passes, of which each that bears on one of these packages is one
 
 -- they give the same pairs
-found-kept : (some all : List Advisory) (packages : List PackageValue) (s : Settings) → some ≡ filter (bears_on_any packages) all
-    → found some packages s ≡ found all packages s
+found-kept : (some all : List Advisory) (test : Advisory → Bool) (packages : List PackageValue) (s : Settings) → PassesBearing test packages
+    → some ≡ filter test all → found some packages s ≡ found all packages s
 unfolding found
-found-kept some all packages s are =
-    ap (λ (advisories : List Advisory). flat_map (found_at advisories s) (enumerate_from 0 packages)) are
-    ∙ found-from-kept all s (bears_on_any packages) 0 packages (λ a h. h)
+found-kept some all test packages s passes are =
+    ap (λ (advisories : List Advisory). flat_map (found_at advisories s) (enumerate_from 0 packages)) are ∙ found-from-kept all s test 0 packages passes
 
 -- and each package is mended alike
-mends-same : (ids : List IdValue) (some all : List Advisory) (packages : List PackageValue) → some ≡ filter (bears_on_any packages) all
-    → All (MendAlike ids some all) packages
-mends-same ids some all packages are =
-    subst (λ (advisories : List Advisory). All (MendAlike ids advisories all) packages) (sym are) (all-mend ids all (bears_on_any packages) packages (λ a h. h))
+mends-same : (ids : List IdValue) (some all : List Advisory) (test : Advisory → Bool) (packages : List PackageValue) → PassesBearing test packages
+    → some ≡ filter test all → All (MendAlike ids some all) packages
+mends-same ids some all test packages passes are =
+    subst (λ (advisories : List Advisory). All (MendAlike ids advisories all) packages) (sym are) (all-mend ids all test packages passes)
 
 -- ---- findings
 
@@ -181,17 +176,17 @@ each-finding-kept s all (f ∷ fs) same each =
     All-cons (IsFinding (record s { advisories = all })) f fs (finding-kept s all f here (All-head (IsFinding s) f fs each))
     (each-finding-kept s all fs (All-tail alike (pair_of f) (map pair_of fs) same) (All-tail (IsFinding s) f fs each))
 
-findings-kept : (s : SubjectValue) (all : List Advisory) (fs : List FindingValue) → s.advisories ≡ filter (bears_on_any s.packages) all → AreFindings s fs
-    → AreFindings (record s { advisories = all }) fs
-findings-kept s all fs are is =
+findings-kept : (s : SubjectValue) (all : List Advisory) (test : Advisory → Bool) (fs : List FindingValue) → PassesBearing test s.packages
+    → s.advisories ≡ filter test all → AreFindings s fs → AreFindings (record s { advisories = all }) fs
+findings-kept s all test fs passes are is =
     let ids = s.settings.ignore in
     let pairs = found s.advisories s.packages s.settings in
     let alike = MendAlikeAt ids s.advisories all in
-    let same = found-of (MendAlike ids s.advisories all) s.advisories s.packages s.settings (mends-same ids s.advisories all s.packages are) in
+    let same = found-of (MendAlike ids s.advisories all) s.advisories s.packages s.settings (mends-same ids s.advisories all test s.packages passes are) in
     let mended = All-filter (λ f. not (is_ignored ids f)) alike pairs same in
     let each = All-same alike (map pair_of fs) (counted ids pairs) is.pairs mended in
     record {
-      pairs = is.pairs ∙ ap (counted ids) (found-kept s.advisories all s.packages s.settings are);
+      pairs = is.pairs ∙ ap (counted ids) (found-kept s.advisories all test s.packages s.settings passes are);
       each = each-finding-kept s all fs each is.each;
     }
 
@@ -209,16 +204,16 @@ unknown-kept k all ids same = filter_agree (λ id. not (list_any (id_eq id) k.id
 
 -- ---- the check
 
-pub kept-check : (all : List Advisory) (s : SubjectValue) (k : KeptValue) (c : CheckValue) (ids unused unknown : List IdValue)
+pub kept-check : (all : List Advisory) (s : SubjectValue) (test : Advisory → Bool) (k : KeptValue) (c : CheckValue) (ids unused unknown : List IdValue)
     → unused ≡ filter (is_unused_of k.ids c.ignored) ids → unknown ≡ filter (λ id. not (list_any (id_eq id) k.ids)) ids
-    → IsKept (bears_on_any s.packages) all k → s.advisories ≡ k.advisories → s.settings.ignore ≡ ids → IsCheckOf s c
+    → PassesBearing test s.packages → IsKept test all k → s.advisories ≡ k.advisories → s.settings.ignore ≡ ids → IsCheckOf s c
     → IsCheckOf (record s { advisories = all }) (record c { unused = unused; unknown = unknown })
-kept-check all s k c ids unused unknown unused_are unknown_are kept same ignore is =
-    let are : s.advisories ≡ filter (bears_on_any s.packages) all = same ∙ kept.advisories in
-    let pairs = found-kept s.advisories all s.packages s.settings are in
-    let any = found-kept s.advisories all s.packages (any_severity s.settings) are in
+kept-check all s test k c ids unused unknown unused_are unknown_are passes kept same ignore is =
+    let are : s.advisories ≡ filter test all = same ∙ kept.advisories in
+    let pairs = found-kept s.advisories all test s.packages s.settings passes are in
+    let any = found-kept s.advisories all test s.packages (any_severity s.settings) passes are in
     record {
-      findings = findings-kept s all c.findings are is.findings;
+      findings = findings-kept s all test c.findings passes are is.findings;
       ignored = is.ignored ∙ ap (λ fs. map as_ignored (left_out s.settings.ignore fs)) pairs;
       unused = unused_are ∙ (unused-kept k all c.ignored ids kept.ids ∙ ap (filter (is_unused all c.ignored)) (sym ignore));
       unknown = unknown_are ∙ (unknown-kept k all ids kept.ids ∙ ap (filter (λ id. not (is_known all id))) (sym ignore));

@@ -12,5 +12,5 @@ pub mod Moves
 pub mod OneAnswer
 pub mod OneCheck
 pub mod Packages
-pub mod Sweep
 pub mod Settled
+pub mod Sweep

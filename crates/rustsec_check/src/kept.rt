@@ -1,11 +1,11 @@
 //! A check by a database that was kept for a lockfile, made the check by all advisories.
 
-ghost use Rattle.std.specs.Prelude.{◌≡◌, not, IfErr, IfOk, List, map};
+ghost use Rattle.std.specs.Prelude.{◌≡◌, not, Bool, IfErr, IfOk, List, map};
 ghost use Rattle.std.specs.List.{filter, list_any};
 ghost use Rattle.rustsec_error.specs.Failure.{IsMemory};
 ghost use Rattle.rustsec_texts.specs.IdOrder.{id_eq};
 ghost use Rattle.rustsec_advisory.specs.declared.advisory.Advisory as given;
-ghost use Rattle.rustsec_database.specs.Kept.{IsKept, bears_on_any};
+ghost use Rattle.rustsec_database.specs.Kept.{IsKept, PassesBearing};
 ghost use Rattle.rustsec_check.specs.Checks.{IsCheckOf, is_unused_of};
 ghost use Rattle.rustsec_check.specs.Values.{SubjectValue};
 
@@ -50,8 +50,9 @@ fn unknown_of<'a>(
 }
 
 impl<'a> Check<'a> {
-    /// Returns this check as a check by all advisories under a root. It was made by those in `kept`, which bear on the
-    /// lockfile's packages. Which of the ignored IDs, `ids`, are unused or unknown is decided again, by the IDs of all.
+    /// Returns this check as a check by all advisories under a root. It was made by those in `kept`, of which each that bears
+    /// on a package of the lockfile is one. Which of the ignored IDs, `ids`, are unused or unknown is decided again, by the
+    /// IDs of all.
     ///
     /// # Errors
     ///
@@ -62,8 +63,8 @@ impl<'a> Check<'a> {
         kept: &KeptDatabase,
         ids: &'a [Id],
     ) -> Result<Check<'a>>
-        ensures ok { IfOk result (λ c. (all : List given.Advisory) (s : SubjectValue) → IsKept (bears_on_any s.packages) all kept.now
-            → s.advisories ≡ kept.now.advisories → s.settings.ignore ≡ ids.now → IsCheckOf s self.entry → IsCheckOf (record s { advisories = all }) c) }
+        ensures ok { IfOk result (λ c. (all : List given.Advisory) (s : SubjectValue) (test : given.Advisory → Bool) → PassesBearing test s.packages
+            → IsKept test all kept.now → s.advisories ≡ kept.now.advisories → s.settings.ignore ≡ ids.now → IsCheckOf s self.entry → IsCheckOf (record s { advisories = all }) c) }
         ensures unused { IfOk result (λ c. c.unused ≡ filter (is_unused_of kept.now.ids self.entry.ignored) ids.now) }
         ensures unknown { IfOk result (λ c. c.unknown ≡ filter (λ id. not (list_any (id_eq id) kept.now.ids)) ids.now) }
 

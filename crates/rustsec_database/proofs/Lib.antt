@@ -1,14 +1,14 @@
 pub mod Files
 pub mod FurtherFile
-pub mod NameSlots
 pub mod KeptFiles
 pub mod Latest
+pub mod NameSlots
 pub mod Once
 pub mod OnlyWithId
 pub mod Opening
 pub mod Pairs
 pub mod Places
 pub mod Slots
+pub mod Spans
 pub mod Tables
 pub mod Touching
-pub mod Spans

@@ -1,5 +1,5 @@
 -- The advisories under a root that pass a test, beside the IDs and the latest date of all advisories there.
-use Rattle.std.specs.Prelude.{◌≡◌, ◌⊎◌, ◌&&◌, ℕ, Bool, false, IfErr, IfOk, List, Option, Result, length, nat_eq}
+use Rattle.std.specs.Prelude.{◌≡◌, ◌⊎◌, ◌&&◌, ℕ, Bool, false, true, IfErr, IfOk, List, Option, Result, length, nat_eq}
 use Rattle.std.specs.Cmp.Lexicographic.{pointwise}
 use Rattle.std.specs.List.{filter, list_any}
 use Rattle.rustsec_error.specs.Failure.{Failure, IsMemory}
@@ -50,14 +50,18 @@ touches_any packages a = list_any (touches a) packages
 abbrev pub is_about : Advisory → PackageValue → Bool
 is_about a p = pointwise nat_eq a.metadata.«package» p.name
 
--- an advisory bears on a package: it is about it, and no patched requirement `>=` of a release holds its version, and so
--- all later ones
+-- an advisory bears on a package: it is about it, and the first patched requirement that is `>=` of a release alone, if any,
+-- does not hold its version, and so all later ones
 abbrev pub bears_on : Advisory → PackageValue → Bool
 bears_on a p = is_about a p && is_till (span_of a.versions).fixed p.version
 
 -- an advisory bears on one of some packages
 abbrev pub bears_on_any : List PackageValue → Advisory → Bool
 bears_on_any packages a = list_any (bears_on a) packages
+
+-- a test passes each advisory that bears on one of some packages
+abbrev pub PassesBearing : (Advisory → Bool) → List PackageValue → Type 0
+PassesBearing test packages = (a : Advisory) → bears_on_any packages a ≡ true → test a ≡ true
 
 -- ---- one file more, for the functions that opening calls
 

@@ -87,7 +87,8 @@ impl<'a> Model for Screen<'a> {
 }
 
 impl<'a> Screen<'a> {
-    /// Returns whether the span of the advisory in a slot holds the version. The advisory itself is not read.
+    /// Returns whether the span of the advisory in a slot holds the version, if both are there. The advisory itself is not
+    /// read.
     fn is_near(&self, slot: Slot) -> bool
         ensures { result ≡ is_near self.now.0 self.now.1 slot }
     {

@@ -129,8 +129,9 @@ fn bears_on_some(span: &Span, packages: &[Package], slots: &[Slot]) -> bool
 }
 
 /// The packages of a lockfile, with an index by their names. Contracts see it as the list of the packages. As a test it
-/// passes the advisories that bear on one of them: those about it, unless a patched requirement is `>=` of a release that
-/// is not above the locked version. Such an advisory affects neither that version nor a later one.
+/// passes the advisories that bear on one of them: those about it, unless the first patched requirement that is `>=` of a
+/// release alone has a release that is not above the locked version. Such an advisory affects neither that version nor a
+/// later one.
 #[derive(Drop)]
 pub struct Bearing<'a> {
     locked: Locked<'a>,

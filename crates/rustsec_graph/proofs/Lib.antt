@@ -1,9 +1,9 @@
 pub mod Closed
 pub mod Lists
 pub mod Prefixes
+pub mod Reversed
 pub mod Searches
 pub mod Shortest
 pub mod Sources
 pub mod Visits
 pub mod Words
-pub mod Reversed

@@ -1,5 +1,5 @@
 -- An entry has the first word of the name of each package that it fits.
-use Rattle.std.proofs.Common.{◌≡◌, ◌∙◌, ◌++◌, ◌+◌, ◌<◌, ◌||◌, inl, inr, ℕ, zero, suc, Bool, true, false, cond, not, if◌then◌else◌, List, [], ◌∷◌, Option, Some, None, length, map, take, arith, length-append, refl, sym, ap, subst}
+use Rattle.std.proofs.Common.{◌≡◌, ◌∙◌, ◌++◌, ◌+◌, ◌||◌, inl, inr, ℕ, suc, Bool, true, false, cond, not, if◌then◌else◌, List, [], ◌∷◌, Option, Some, None, length, map, take, arith, refl, sym, ap, subst}
 use Rattle.std.specs.Prelude.{nat_eq, option_map, slice_get}
 use Rattle.std.specs.Borrow.{Bor}
 use Rattle.std.specs.Cmp.Lexicographic.{pointwise}
@@ -8,7 +8,7 @@ use Rattle.std.specs.List.{filter, list_any, prefix_len, range_with_len}
 use Rattle.std.specs.Option.{option_map_or}
 use Rattle.std.specs.Str.{bytes_eq}
 use Rattle.std.specs.declared.vec.Vec.{Vec}
-use Rattle.std.proofs.lemmas.Bool.{cases_Bool, cases_lt}
+use Rattle.std.proofs.lemmas.Bool.{cases_Bool}
 use Rattle.std.proofs.lemmas.List.{append-nil, map-id}
 use Rattle.std.proofs.lemmas.List.Elements.{filter-append}
 use Rattle.std.proofs.lemmas.List.Folds.{list_any-append}
@@ -128,7 +128,7 @@ word-more packages first i p at =
 pub filter_more : (p : ℕ → Bool) (i : ℕ) → filter p (range_with_len 0 (i + 1)) ≡ filter p (range_with_len 0 i) ++ cond (p i) (i ∷ []) []
 filter_more p i = ap (filter p) (range-more i) ∙ filter-append p (range_with_len 0 i) (i ∷ [])
 
-or-false : (a : Bool) → (a || false) ≡ a
+pub or-false : (a : Bool) → (a || false) ≡ a
 or-false true = refl
 or-false false = refl
 
@@ -146,20 +146,3 @@ pub place-dropped : (p : ℕ → Bool) (i : ℕ) (old new : List ℕ) → p i �
     → new ≡ filter p (range_with_len 0 (i + 1))
 place-dropped p i old new h is same =
     same ∙ is ∙ sym (append-nil (filter p (range_with_len 0 i))) ∙ ap (λ b. filter p (range_with_len 0 i) ++ cond b (i ∷ []) []) (sym h) ∙ sym (filter_more p i)
-
--- where one of the places passes, one is kept
-pub kept-within : (p : ℕ → Bool) (n i : ℕ) → i < n → p i ≡ true → 0 < length (filter p (range_with_len 0 n))
-kept-within p zero i l h = omega arith
-kept-within p (suc n) i l h =
-    let more : filter p (range_with_len 0 (suc n)) ≡ filter p (range_with_len 0 n) ++ cond (p n) (n ∷ []) [] =
-    ap (λ m. filter p (range_with_len 0 m)) (let e : suc n ≡ n + 1 = omega arith in e) ∙ filter_more p n in
-    let long : length (filter p (range_with_len 0 (suc n))) ≡ length (filter p (range_with_len 0 n)) + length (cond (p n) (n ∷ []) []) =
-    ap length more ∙ length-append (filter p (range_with_len 0 n)) (cond (p n) (n ∷ []) []) in
-    elim (cases_lt i n) [
-      | inl m ↦ (let before = kept-within p n i m h in omega (arith, long, before))
-      | inr past ↦ (
-          let same : i ≡ n = omega arith in
-          let one : length (cond (p n) (n ∷ []) []) ≡ 1 = ap (λ b. length (cond b (n ∷ []) [])) (ap p (sym same) ∙ h) in
-          omega (arith, long, one)
-          )
-    ]

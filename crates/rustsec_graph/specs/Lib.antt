@@ -3,6 +3,6 @@ pub mod Edges
 pub mod Entries
 pub mod Graph
 pub mod Paths
+pub mod Reverse
 pub mod Search
 pub mod Words
-pub mod Reverse

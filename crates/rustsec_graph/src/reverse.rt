@@ -1,45 +1,45 @@
 //! The packages that depend on each package.
 
-ghost use Rattle.std.specs.Prelude.{◌≡◌, ◌++◌, ◌<◌, ◌==◌, ◌∷◌, [], if◌then◌else◌, IfOk, OnErr, OnOk, length, slice_index_or, ℕ};
+ghost use Rattle.std.specs.Prelude.{◌≡◌, ◌++◌, ◌<◌, ◌==◌, ◌∷◌, [], if◌then◌else◌, IfOk, OnErr, OnOk, false, length, slice_index_or, ℕ};
 ghost use Rattle.std.specs.List.{list_any};
 ghost use Rattle.rustsec_graph.specs.Edges.{dependents};
+ghost use Rattle.rustsec_graph.specs.Reverse.{ends_with, with_last};
 
 use rustsec_values::Items;
 use std::alloc::{AllocError, Global};
 
-/// Returns whether a place is among some.
-fn is_among(places: &[usize], place: usize) -> bool
-    ensures { result ≡ list_any (λ p. p == place) places.now }
+/// Returns whether a list of places ends with a place.
+fn ends_with(places: &[usize], place: usize) -> bool
+    ensures { result ≡ ends_with place places.now }
 {
-    places.iter().any(|other| *other == place)
+    places.last().map_or(false, |last| *last == place)
 }
 
-/// Appends a place to the list at another one, if there is a list.
+/// Appends a place to the list of another place, if there is a list that does not end with it.
 fn push_at(lists: &mut Vec<Items<usize>>, at: usize, place: usize) -> Result<(), AllocError>
     ensures len { length lists.new.items ≡ length lists.old.items }
     ensures ok { OnOk result ((p : ℕ) → p < length lists.old.items → slice_index_or lists.new.items p []
-        ≡ slice_index_or lists.old.items p [] ++ (if at == p then place ∷ [] else [])) }
+        ≡ (if at == p then with_last place (slice_index_or lists.old.items p []) else slice_index_or lists.old.items p [])) }
 {
-    if at < lists.len() {
+    if at < lists.len() && !ends_with(lists[at].as_slice(), place) {
         lists[at].push(place)?;
     }
     Ok(())
 }
 
-/// Appends a place to the list of each of its successors, once.
+/// Appends a place to the list of each of its successors, once. No list ends with the place before.
 fn push_dependent(
     lists: &mut Vec<Items<usize>>,
     place: usize,
     successors: &[usize],
 ) -> Result<(), AllocError>
+    requires { (p : ℕ) → p < length lists.old.items → ends_with place (slice_index_or lists.old.items p []) ≡ false }
     ensures len { length lists.new.items ≡ length lists.old.items }
     ensures ok { OnOk result ((p : ℕ) → p < length lists.old.items → slice_index_or lists.new.items p []
         ≡ slice_index_or lists.old.items p [] ++ (if list_any (λ to. to == p) successors.now then place ∷ [] else [])) }
 {
-    for (index, to) in successors.iter().enumerate() {
-        if !is_among(&successors[..index], *to) {
-            push_at(lists, *to, place)?;
-        }
+    for to in successors {
+        push_at(lists, *to, place)?;
     }
     Ok(())
 }

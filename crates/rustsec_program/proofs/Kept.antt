@@ -10,7 +10,7 @@ use Rattle.rustsec_lock.specs.Lockfile.{IsLockfileRefusal}
 use Rattle.rustsec_lock.specs.Package.{PackageValue}
 use Rattle.rustsec_texts.specs.Ids.{IdValue}
 use Rattle.rustsec_advisory.specs.declared.advisory.Advisory.{Advisory}
-use Rattle.rustsec_database.specs.Kept.{AreOpenedFor, IsKept, KeptValue, bears_on_any}
+use Rattle.rustsec_database.specs.Kept.{AreOpenedFor, IsKept, KeptValue, PassesBearing, bears_on_any}
 use Rattle.rustsec_database.specs.Opened.{AreOpened}
 use Rattle.rustsec_check.specs.Checks.{IsCheckOf}
 use Rattle.rustsec_check.specs.Values.{SubjectValue, YankedValue}
@@ -62,20 +62,21 @@ yanked-kept s all None found h = h
 yanked-kept s all (Some y) found (ys, (are, is)) = (ys, (kept-yanked s all y.packages ys are, is))
 
 pub kept-found : (p : PlanValue) (ids : List IdValue) (k : KeptValue) (l : LoadedValue) (f h : FoundValue) → ids ≡ p.wanted.settings.ignore
-    → ((all : List Advisory) (s : SubjectValue) → IsKept (bears_on_any s.packages) all k → s.advisories ≡ k.advisories
+    → ((all : List Advisory) (s : SubjectValue) (test : Advisory → Bool) → PassesBearing test s.packages → IsKept test all k → s.advisories ≡ k.advisories
     → s.settings.ignore ≡ ids → IsCheckOf s f.check → IsCheckOf (record s { advisories = all }) h.check)
     → h.yanked ≡ f.yanked → IsFound (ground p k.advisories) l f → (all : List Advisory) → IsKept (bears_on_any l.locked.packages) all k
     → IsFound (ground p all) l h
 kept-found p ids k l f h ids_are more same is all kept =
     let s = subject_of (ground p k.advisories) l in
     record {
-      check = more all s kept refl (sym ids_are) is.check;
+      check = more all s (bears_on_any s.packages) (λ a h. h) kept refl (sym ids_are) is.check;
       yanked = subst (AreYankedIf (record s { advisories = all }) l.yanked) (sym same) (yanked-kept s all l.yanked f.yanked is.yanked);
     }
 
 pub all-found : (p : PlanValue) (ids : List IdValue) (k : KeptValue) (l : LoadedValue) (f : FoundValue) (answer : Result FoundValue Failure)
     → ids ≡ p.wanted.settings.ignore
-    → IfOk answer (λ h. (all : List Advisory) (s : SubjectValue) → IsKept (bears_on_any s.packages) all k → s.advisories ≡ k.advisories
+    → IfOk answer (λ h. (all : List Advisory) (s : SubjectValue) (test : Advisory → Bool) → PassesBearing test s.packages → IsKept test all k
+    → s.advisories ≡ k.advisories
     → s.settings.ignore ≡ ids → IsCheckOf s f.check → IsCheckOf (record s { advisories = all }) h.check)
     → IfOk answer (λ h. h.yanked ≡ f.yanked) → IsFound (ground p k.advisories) l f
     → IfOk answer (λ h. (all : List Advisory) → IsKept (bears_on_any l.locked.packages) all k → IsFound (ground p all) l h)

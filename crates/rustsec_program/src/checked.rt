@@ -1,6 +1,6 @@
 //! Checks a lockfile, and writes what is found.
 
-ghost use Rattle.std.specs.Prelude.{◌≡◌, IfErr, IfOk, List, option_map, string_bytes, true};
+ghost use Rattle.std.specs.Prelude.{◌≡◌, Bool, IfErr, IfOk, List, option_map, string_bytes, true};
 ghost use Rattle.std.specs.Option.{option_copied};
 ghost use Rattle.rustsec_folders.specs.Allowed.{AllowSame};
 ghost use Rattle.rustsec_error.specs.Failure.{IsMemory, IsOfKind, IsRefusal};
@@ -8,7 +8,7 @@ ghost use Rattle.rustsec_advisory.specs.declared.advisory.Advisory as given;
 ghost use Rattle.rustsec_check.specs.Checks.{IsCheckOf};
 ghost use Rattle.rustsec_check.specs.Subjects.{subject_view};
 ghost use Rattle.rustsec_check.specs.Values.{SubjectValue};
-ghost use Rattle.rustsec_database.specs.Kept.{IsKept, bears_on_any};
+ghost use Rattle.rustsec_database.specs.Kept.{IsKept, PassesBearing, bears_on_any};
 ghost use Rattle.rustsec_program.specs.Checked.{AreYankedIf, FoundValue, IsCheckedOutput, IsCheckedRefusal, IsFound, IsLockfileOutput, IsOutputFor, IsWrittenText, basis_of, is_empty, places_of, some_yanked_fail, status_of, subject_of};
 ghost use Rattle.rustsec_program.specs.Places.{places_view};
 ghost use Rattle.rustsec_program.specs.Forms.{form_view};
@@ -163,12 +163,12 @@ impl<'a> Found<'a> {
         }
     }
 
-    /// Returns what is found by all advisories under a root. This was found by those in `kept`, which bear on the
-    /// lockfile's packages. `ids` are the ignored IDs.
+    /// Returns what is found by all advisories under a root. This was found by those in `kept`, of which each that bears on
+    /// a package of the lockfile is one. `ids` are the ignored IDs.
     fn with_all_ids(self, alloc: Global, kept: &KeptDatabase, ids: &'a [Id]) -> Result<Found<'a>>
         ensures yanked { IfOk result (λ f. f.yanked ≡ self.entry.yanked) }
-        ensures check { IfOk result (λ f. (all : List given.Advisory) (s : SubjectValue) → IsKept (bears_on_any s.packages) all kept.now
-            → s.advisories ≡ kept.now.advisories → s.settings.ignore ≡ ids.now → IsCheckOf s self.entry.check → IsCheckOf (record s { advisories = all }) f.check) }
+        ensures check { IfOk result (λ f. (all : List given.Advisory) (s : SubjectValue) (test : given.Advisory → Bool) → PassesBearing test s.packages
+            → IsKept test all kept.now → s.advisories ≡ kept.now.advisories → s.settings.ignore ≡ ids.now → IsCheckOf s self.entry.check → IsCheckOf (record s { advisories = all }) f.check) }
         ensures err { IfErr result IsMemory }
     {
         let Found { check, yanked } = self;

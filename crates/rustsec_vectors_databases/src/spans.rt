@@ -1,5 +1,5 @@
 //! Which advisories a query by name and version finds, and which bear on a package: versions at the ends of the span
-//! between which the affected ones are, and requirements that say no end.
+//! between which the affected ones are, and requirements that name no end.
 
 use rustsec_database::{Bearing, Database, SourceFile};
 use rustsec_lock::SourceId;
@@ -44,6 +44,18 @@ const ROWS: &[(&str, &str, bool, bool)] = &[
     (
         "patched = [\">= 2.0.1\", \"^1.2.0\"]",
         "2.1.0",
+        false,
+        false,
+    ),
+    (
+        "patched = [\">= 2.0.1\", \">= 1.2.0\"]",
+        "1.3.0",
+        false,
+        true,
+    ),
+    (
+        "patched = [\">= 1.2.0\", \">= 2.0.1\"]",
+        "1.3.0",
         false,
         false,
     ),

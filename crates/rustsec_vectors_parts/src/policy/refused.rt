@@ -194,6 +194,10 @@ const ENTRIES: &[(&str, &str)] = &[
         "line 3, column 2: key `ignore` in [advisories]: key `reason` in an entry of `ignore`: found table `{ id = \"x\" }`, expected a string",
     ),
     (
+        "[[advisories.ignore]]\nid = \"CVE-2020-1\"\n[advisories.ignore.output]\n[output]\n",
+        "line 3, column 2: key `ignore` in [advisories]: unknown key `output` in an entry of `ignore`, expected `id`, `reason` or `until`",
+    ),
+    (
         "[[advisories.ignore]]\nid = \"CVE-2020-1\"\n[[advisories.ignore]]\n\n  [ advisories . ignore . id ] # FOO\n[[advisories.ignore]]\n",
         "line 5, column 5: key `ignore` in [advisories]: key `id` in an entry of `ignore`: found table `{}`, expected a string",
     ),

@@ -2,9 +2,18 @@ use Rattle.std.proofs.Common.{◌≡◌, ◌∙◌, ◌<◌, ◌++◌, ◌==◌,
 use Rattle.std.specs.Prelude.{slice_index_or}
 use Rattle.std.specs.List.{list_any}
 use Rattle.std.proofs.lemmas.List.{get_or_default}
+use Rattle.rustsec_graph.specs.Edges.{is_successor}
 use Rattle.rustsec_graph.specs.Paths.{successors}
-use Rattle.rustsec_graph.proofs.Reversed.{place-more}
+use Rattle.rustsec_graph.specs.Reverse.{ends_with}
+use Rattle.rustsec_graph.proofs.Reversed.{fresh, place-more}
 use Rattle.rustsec_graph.proofs.reverse.reversed.Goals as goal
+
+pub push_dependent-requires : goal.push_dependent-requires
+push_dependent-requires c = λ p l. (
+    let place = c.loop-place.place in
+    let within : p < length c.args.edges.now = omega (arith, l, c.loop-place.invariant.len) in
+    ap (ends_with place) (c.loop-place.invariant.each p within) ∙ fresh place (is_successor c.args.edges.now p)
+    )
 
 pub loop-place-preserved : goal.loop-place-preserved
 loop-place-preserved c = record {
