@@ -10,6 +10,10 @@ as many readings of lockfiles as its list has paths, measured with rustsec_bench
   opening and reading the file, are not part of the sum. These readings are of a text that was read just before, so they take
   less time, and the sum is a harder measure.
 
+All times are processor times. The speed of a machine may change from one second to the next, so the two calls that a ratio
+compares take turns, and the ratio that tells most is the median of those of all rounds: of the two times of one round.
+Half of these ratios are between the quartiles.
+
 With --counts, the instructions of `check-many` and of that one process instead of times. They repeat from run to run, but
 say nothing about how long memory is waited for.
 
@@ -28,21 +32,36 @@ import timing
 
 DISTINCT = 50
 FEW = 21  # lockfiles of a list whose instructions are counted
-HEAD = ["operation", "size", "best, ms", "median", "most MB", "ratio of best", "of median"]
+ENOUGH = 90.0  # seconds for the rounds of one table
+HEAD = ["operation", "size", "best, ms", "median", "most MB", "ratio of best", "of median", "median of the rounds", "quartiles"]
 
 
 def head(title):
     print(f"\n{title}\n\n| " + " | ".join(HEAD) + " |\n" + "|---" * len(HEAD) + "|", flush=True)
 
 
-def row(name, size, best, middle, memory, beside=None):
-    ratios = [f"{best / beside[0]:.2f}", f"{middle / beside[1]:.2f}"] if beside else ["", ""]
-    cells = [name, str(size), timing.milliseconds(best), timing.milliseconds(middle), memory, *ratios]
+def ratios(times, beside):
+    """The ratios of the best times, of the medians and of the rounds."""
+    rounds = [a / b for a, b in zip(times, beside)]
+    low, middle, high = statistics.quantiles(rounds, n=4)
+    both = min(times) / min(beside), statistics.median(times) / statistics.median(beside)
+    return [f"{it:.2f}" for it in (*both, middle)] + [f"{low:.2f} to {high:.2f}"]
+
+
+def row(name, size, times, memory, beside=None):
+    """A row of a table: times of one kind, by the side of others of the same rounds, if any."""
+    shown = [timing.milliseconds(min(times)), timing.milliseconds(statistics.median(times))]
+    cells = [name, str(size), *shown, memory, *(ratios(times, beside) if beside else [""] * 4)]
     print("| " + " | ".join(cells) + " |", flush=True)
 
 
-def best_and_median(times):
-    return min(times), statistics.median(times)
+def rounds_of(options, calls):
+    """The times of calls that take turns."""
+    return timing.timed(calls, options.runs, timing.processor_seconds, ENOUGH)
+
+
+def peak(call):
+    return f"{timing.peak(*call) / 1024:.1f}"
 
 
 def counted(options, root, lock):
@@ -64,10 +83,9 @@ def single(options, root, lock, policy):
              ("`check`", ["check", root, lock]),
              ("`check` with a policy and a baseline", ["check", root, lock, "--policy", policy, "--baseline", lock])]
     pairs = [(options.ours, [(words, os.devnull)]) for _, words in calls]
-    found = [best_and_median(times) for times in timing.timed(pairs, options.runs)]
+    found = rounds_of(options, pairs)
     for at, (name, _) in enumerate(calls):
-        memory = f"{timing.peak(*pairs[at]) / 1024:.1f}"
-        row(f"{name}; advisories", options.advisories, *found[at], memory, found[0] if at else None)
+        row(f"{name}; advisories", options.advisories, found[at], peak(pairs[at]), found[0] if at else None)
 
 
 def list_of(root, locks, number):
@@ -102,21 +120,20 @@ def many(options, root, locks):
          f"{sum(findings) / len(findings):.1f} findings each:")
     listed = [locks[at % len(locks)] for at in range(options.lockfiles)]
     path = list_of(root, locks, options.lockfiles)
-    calls = [(options.ours, [(["check-many", root], path)]),
-             (options.checks, [(["readings", root, path], os.devnull)]),
-             (options.checks, [(["load", "1", root, locks[0]], os.devnull)]),
+    together = [(options.checks, [(["readings", root, path], os.devnull)]), (options.ours, [(["check-many", root], path)])]
+    readings, ours = rounds_of(options, together)
+    row("one load and the readings, in one process; lockfiles", options.lockfiles, readings, peak(together[0]))
+    row("`check-many`, beside it; lockfiles", options.lockfiles, ours, peak(together[1]), readings)
+    calls = [together[1], (options.checks, [(["load", "1", root, locks[0]], os.devnull)]),
              (options.checks, [(["dependencies", str(listed.count(lock)), lock], os.devnull) for lock in locks]),
              (options.checks, [(["dependencies", "0", lock], os.devnull) for lock in locks])]
-    ours, both, load, reading, start = [best_and_median(times) for times in timing.timed(calls, options.runs)]
-    readings = [a - b for a, b in zip(reading, start)]
-    total = [a + b for a, b in zip(load, readings)]
-    memory = [f"{timing.peak(*call) / 1024:.1f}" for call in calls]
-    row("one load and the readings, in one process; lockfiles", options.lockfiles, *both, memory[1])
-    row("`check-many`, beside it; lockfiles", options.lockfiles, *ours, memory[0], both)
-    row("one load; advisories", options.advisories, *load, memory[2])
-    row("readings of texts in memory; lockfiles", options.lockfiles, *readings, memory[3])
-    row("the sum of both", "", *total, "")
-    row("`check-many`, beside the sum; lockfiles", options.lockfiles, *ours, memory[0], total)
+    ours, load, reading, start = rounds_of(options, calls)
+    texts = [a - b for a, b in zip(reading, start)]
+    total = [a + b for a, b in zip(load, texts)]
+    row("one load; advisories", options.advisories, load, peak(calls[1]))
+    row("readings of texts in memory; lockfiles", options.lockfiles, texts, peak(calls[2]))
+    row("the sum of both", "", total, "")
+    row("`check-many`, beside the sum; lockfiles", options.lockfiles, ours, peak(calls[0]), total)
 
 
 def measure(options):

@@ -17,6 +17,18 @@ def seconds(program, calls):
     return time.perf_counter() - start
 
 
+def processor_seconds(program, calls):
+    """The processor time of the calls: that of the processes themselves and of the system for them."""
+    total = 0.0
+    for words, path in calls:
+        with open(path, "rb") as data:
+            process = subprocess.Popen([program, *words], stdin=data, stdout=subprocess.DEVNULL, stderr=subprocess.DEVNULL)
+            _, _, used = os.wait4(process.pid, 0)
+            process.returncode = 0
+        total += used.ru_utime + used.ru_stime
+    return total
+
+
 def built(folder, name):
     """A C program of this folder, built."""
     path = os.path.join(folder, name)
@@ -54,14 +66,14 @@ def instructions(program, calls):
     return total
 
 
-def timed(pairs, runs):
+def timed(pairs, runs, measure=seconds, enough=ENOUGH):
     """The times of each pair of a program and its calls, the runs taking turns."""
     times, began = [[] for _ in pairs], time.perf_counter()
     for at in range(runs):
-        if at >= 2 and time.perf_counter() - began > ENOUGH:
+        if at >= 2 and time.perf_counter() - began > enough:
             break
         for (program, calls), out in zip(pairs, times):
-            out.append(seconds(program, calls))
+            out.append(measure(program, calls))
     return times
 
 
