@@ -1,5 +1,5 @@
--- A check by the advisories that a test passes, of which each that bears on a package of the lockfile is one, is the check by
--- all of them, once its ignored IDs go by the IDs of all.
+-- A check by the advisories that a test passes, among them each that bears on a package of the lockfile, is the check by all
+-- of them, once its ignored IDs go by the IDs of all.
 use Rattle.std.proofs.Common.{◌≡◌, ◌∙◌, ◌&&◌, ◌||◌, ◌+◌, ◌-◌, ◌++◌, ℕ, Bool, true, false, List, [], ◌∷◌, ap, inl, inr, length, map, nat_eq, not, refl, subst, sym}
 use Rattle.std.proofs.lemmas.Bool.{cases_Bool}
 use Rattle.std.specs.Cmp.{first_so, second_so}
@@ -136,7 +136,7 @@ all-mend ids advisories test (p ∷ ps) any =
     All-cons (MendAlike ids (filter test advisories) advisories) p ps (mends-kept ids advisories test p (passes-first test p ps any))
     (all-mend ids advisories test ps (passes-rest test p ps any))
 
--- ---- the advisories that a test passes, of which each that bears on one of these packages is one
+-- ---- the advisories that a test passes, among them each that bears on one of these packages
 
 -- they give the same pairs
 found-kept : (some all : List Advisory) (test : Advisory → Bool) (packages : List PackageValue) (s : Settings) → PassesBearing test packages

@@ -50,9 +50,9 @@ fn unknown_of<'a>(
 }
 
 impl<'a> Check<'a> {
-    /// Returns this check as a check by all advisories under a root. It was made by those in `kept`, of which each that bears
-    /// on a package of the lockfile is one. Which of the ignored IDs, `ids`, are unused or unknown is decided again, by the
-    /// IDs of all.
+    /// Returns this check as a check by all advisories under a root. It was made by those in `kept`, which has each advisory
+    /// that bears on a package of the lockfile. Which of the ignored IDs, `ids`, are unused or unknown is decided again, by
+    /// the IDs of all.
     ///
     /// # Errors
     ///

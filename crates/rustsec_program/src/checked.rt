@@ -163,8 +163,8 @@ impl<'a> Found<'a> {
         }
     }
 
-    /// Returns what is found by all advisories under a root. This was found by those in `kept`, of which each that bears on
-    /// a package of the lockfile is one. `ids` are the ignored IDs.
+    /// Returns what is found by all advisories under a root. This was found by those in `kept`, which has each advisory that
+    /// bears on a package of the lockfile. `ids` are the ignored IDs.
     fn with_all_ids(self, alloc: Global, kept: &KeptDatabase, ids: &'a [Id]) -> Result<Found<'a>>
         ensures yanked { IfOk result (λ f. f.yanked ≡ self.entry.yanked) }
         ensures check { IfOk result (λ f. (all : List given.Advisory) (s : SubjectValue) (test : given.Advisory → Bool) → PassesBearing test s.packages
