@@ -128,9 +128,9 @@ module _ (ms : Members) (packages : List PackageValue) where
       → edges ≡ map (targets_at cs ms) (range_with_len 0 (length cs)) → edges ≡ edges_of ms packages
   edges-are cs edges is e = e ∙ ap (λ ds. map (targets_at ds ms) (range_with_len 0 (length ds))) is ∙ ap (λ n. map row (range_with_len 0 n)) all-long
 
-  pub unresolved-are : (cs : List Candidate) (counts : List ℕ) → cs ≡ candidates ms packages
-      → counts ≡ map (unresolved_at cs ms) (range_with_len 0 (length cs)) → counts ≡ unresolved ms packages
-  unresolved-are cs counts is e =
+  pub unresolved-are : (cs : List Candidate) (texts : List (List (List ℕ))) → cs ≡ candidates ms packages
+      → texts ≡ map (unresolved_at cs ms) (range_with_len 0 (length cs)) → texts ≡ unresolved ms packages
+  unresolved-are cs texts is e =
       e ∙ ap (λ ds. map (unresolved_at ds ms) (range_with_len 0 (length ds))) is ∙ ap (λ n. map (unresolved_at (candidates ms packages) ms) (range_with_len 0 n)) all-long
 
   pub closed-at : (edges : List (List ℕ)) (roots : List ℕ) → edges ≡ edges_of ms packages → roots ≡ roots_of packages edges → IsClosed edges roots

@@ -1,7 +1,7 @@
 -- The edges between the packages of a lockfile: from each package to those that its dependency entries name.
-use Rattle.std.specs.Prelude.{◌-◌, ◌+◌, ◌++◌, ◌==◌, ◌&&◌, not, ℕ, Bool, List, [], ◌∷◌, Option, Some, None, codes, filter_map, length, map}
+use Rattle.std.specs.Prelude.{◌++◌, ◌==◌, ◌&&◌, not, ℕ, Bool, List, [], ◌∷◌, Option, Some, None, codes, filter_map, length, map, unwrap_or}
 use Rattle.std.specs.List.{filter, list_any}
-use Rattle.toml.specs.Data.{Data, Items, Members, as_array}
+use Rattle.toml.specs.Data.{Data, Items, Members, as_array, as_str}
 use Rattle.rustsec_toml.specs.Fields.{list_of}
 use Rattle.rustsec_lock.specs.Package.{PackageValue}
 use Rattle.rustsec_graph.specs.Candidates.{Candidate, candidates}
@@ -18,14 +18,27 @@ abbrev pub targets_of : List Candidate → Option Data → List ℕ
 targets_of cs None = []
 targets_of cs (Some d) = targets_of_array cs (as_array d)
 
--- how many entries of a list name no place; a value that is not a list counts as one
-abbrev pub unresolved_of_array : List Candidate → Option Items → ℕ
-unresolved_of_array cs None = 1
-unresolved_of_array cs (Some ds) = length (list_of ds) - length (filter_map (named_by cs) (list_of ds))
+-- the text by which a note names an entry
+abbrev pub entry_text : Data → List ℕ
+entry_text d = unwrap_or (as_str d) (codes "(not a string)")
+
+-- a text, unless there is a place
+abbrev pub unless_placed : Option ℕ → List ℕ → Option (List ℕ)
+unless_placed None text = Some text
+unless_placed (Some place) text = None
+
+-- the text of an entry that names no place
+abbrev pub unnamed_by : List Candidate → Data → Option (List ℕ)
+unnamed_by cs d = unless_placed (named_by cs d) (entry_text d)
+
+-- the texts of the entries of a list that name no place, in their order; a value that is not a list is such an entry
+abbrev pub unresolved_of_array : List Candidate → Option Items → List (List ℕ)
+unresolved_of_array cs None = codes "(not a list)" ∷ []
+unresolved_of_array cs (Some ds) = filter_map (unnamed_by cs) (list_of ds)
 
 -- likewise for a value that may be missing, which has no entries
-abbrev pub unresolved_of : List Candidate → Option Data → ℕ
-unresolved_of cs None = 0
+abbrev pub unresolved_of : List Candidate → Option Data → List (List ℕ)
+unresolved_of cs None = []
 unresolved_of cs (Some d) = unresolved_of_array cs (as_array d)
 
 -- the values with the entries of a package: a list at `dependencies`, and one entry at `replace`
@@ -36,24 +49,19 @@ abbrev pub replace_at : Members → ℕ → Option Data
 replace_at = value_at (codes "replace")
 
 -- a list of the value, if any
-abbrev pub as_list : Option ℕ → List ℕ
+abbrev pub as_list : {A : Type 0} → Option A → List A
 as_list None = []
 as_list (Some x) = x ∷ []
-
--- one, if there is no value
-abbrev pub count_missing : Option ℕ → ℕ
-count_missing None = 1
-count_missing (Some x) = 0
 
 -- the place that the entry at `replace` names
 abbrev pub replaced : List Candidate → Option Data → List ℕ
 replaced cs None = []
 replaced cs (Some d) = as_list (named_by cs d)
 
--- how many entries at `replace` name no place
-abbrev pub unreplaced : List Candidate → Option Data → ℕ
-unreplaced cs None = 0
-unreplaced cs (Some d) = count_missing (named_by cs d)
+-- the text of the entry at `replace`, if it names no place
+abbrev pub unreplaced : List Candidate → Option Data → List (List ℕ)
+unreplaced cs None = []
+unreplaced cs (Some d) = as_list (unnamed_by cs d)
 
 -- the places that the entries of a package name, by the values of the array `package`: those at `dependencies`, then the
 -- one at `replace`
@@ -64,20 +72,20 @@ targets_in cs packages place = targets_of cs (value_in (codes "dependencies") pa
 abbrev pub targets_at : List Candidate → Members → ℕ → List ℕ
 targets_at cs ms place = targets_in cs (packages_in ms) place
 
--- how many entries of a package name no place, by the values of the array `package`
-abbrev pub unresolved_in : List Candidate → Option (List Data) → ℕ → ℕ
-unresolved_in cs packages place = unresolved_of cs (value_in (codes "dependencies") packages place) + unreplaced cs (value_in (codes "replace") packages place)
+-- the texts of the entries of a package that name no place, by the values of the array `package`, in the same order
+abbrev pub unresolved_in : List Candidate → Option (List Data) → ℕ → List (List ℕ)
+unresolved_in cs packages place = unresolved_of cs (value_in (codes "dependencies") packages place) ++ unreplaced cs (value_in (codes "replace") packages place)
 
 -- likewise by the document
-abbrev pub unresolved_at : List Candidate → Members → ℕ → ℕ
+abbrev pub unresolved_at : List Candidate → Members → ℕ → List (List ℕ)
 unresolved_at cs ms place = unresolved_in cs (packages_in ms) place
 
 -- for each package the places that its entries name
 abbrev pub edges_of : Members → List PackageValue → List (List ℕ)
 edges_of ms packages = map (targets_at (candidates ms packages) ms) (places (length packages))
 
--- for each package how many of its entries name no package
-abbrev pub unresolved : Members → List PackageValue → List ℕ
+-- for each package the texts of its entries that name no package
+abbrev pub unresolved : Members → List PackageValue → List (List (List ℕ))
 unresolved ms packages = map (unresolved_at (candidates ms packages) ms) (places (length packages))
 
 -- whether a place is a successor of another one

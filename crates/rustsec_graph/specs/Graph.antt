@@ -7,11 +7,11 @@ use Rattle.rustsec_graph.specs.Edges.{edges_of, is_needed, unresolved}
 use Rattle.rustsec_graph.specs.Entries.{places}
 use Rattle.rustsec_graph.specs.Paths.{successors}
 
--- a graph: the places that each package depends on, the roots, and for each package how many of its entries name none
+-- a graph: the places that each package depends on, the roots, and for each package the texts of its entries that name none
 pub record GraphValue : Type 0 where
   pub edges : List (List ℕ)
   pub roots : List ℕ
-  pub unresolved : List ℕ
+  pub unresolved : List (List (List ℕ))
 
 -- whether a package is local: a member of the workspace or a path dependency, which has no source
 abbrev pub is_local : Option PackageValue → Bool

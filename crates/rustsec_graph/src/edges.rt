@@ -7,37 +7,35 @@ ghost use Rattle.rustsec_graph.specs.Edges.{is_needed, targets_at, targets_in, u
 ghost use Rattle.rustsec_graph.specs.Entries.{places};
 ghost use Rattle.rustsec_graph.specs.Graph.{is_local, roots_of};
 
-use crate::entries::{packages_in, resolve, resolve_more, value_in};
+use crate::entries::{Resolution, packages_in, resolve, value_in};
 use crate::index::Index;
 use rustsec_lock::package::Package;
-use rustsec_values::Items;
+use rustsec_values::{Items, Text};
 use std::alloc::{AllocError, Global};
 use toml::{Table, Value};
 
-/// The places that each package depends on, and how many entries of each name no package.
+/// The places that each package depends on, and the texts of the entries of each that name no package.
 pub(crate) struct Resolved {
     pub(crate) edges: Items<Items<usize>>,
-    pub(crate) unresolved: Items<usize>,
+    pub(crate) unresolved: Items<Items<Text>>,
 }
 
-/// Returns the places that the entries of a package name, and how many of its entries name none, by the values of the
-/// array `package`.
+/// Returns what the entries of a package name, by the values of the array `package`.
 fn resolve_at(
     alloc: Global,
     packages: Option<&[Value]>,
     index: &Index<'_>,
     place: usize,
-) -> Result<(Items<usize>, usize), AllocError>
-    ensures targets { IfOk result (λ r. r.0 ≡ targets_in index.now (option_map (λ vs. map view vs.now) packages.entry) place) }
-    ensures unresolved { IfOk result (λ r. r.1 ≡ unresolved_in index.now (option_map (λ vs. map view vs.now) packages.entry) place) }
+) -> Result<Resolution, AllocError>
+    ensures targets { IfOk result (λ r. r.targets ≡ targets_in index.now (option_map (λ vs. map view vs.now) packages.entry) place) }
+    ensures unresolved { IfOk result (λ r. r.unresolved ≡ unresolved_in index.now (option_map (λ vs. map view vs.now) packages.entry) place) }
 {
-    let (targets, unresolved) = resolve(alloc, index, value_in(packages, "dependencies", place))?;
-    resolve_more(
+    let dependencies = value_in(packages, "dependencies", place);
+    resolve(
         alloc,
         index,
+        dependencies,
         value_in(packages, "replace", place),
-        targets,
-        unresolved,
     )
 }
 
@@ -56,7 +54,10 @@ pub(crate) fn resolve_all(
     let mut edges = Items::new(alloc);
     let mut unresolved = Items::new(alloc);
     for place in 0..index.candidates().len() {
-        let (targets, missing) = resolve_at(alloc, packages, index, place)?;
+        let Resolution {
+            targets,
+            unresolved: missing,
+        } = resolve_at(alloc, packages, index, place)?;
         edges.push(targets)?;
         unresolved.push(missing)?;
     }

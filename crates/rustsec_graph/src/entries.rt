@@ -1,10 +1,11 @@
 //! Which package a dependency entry names.
 
-ghost use Rattle.std.specs.Prelude.{◌≡◌, ◌+◌, ◌-◌, ◌++◌, ◌∷◌, [], IfOk, OnOk, filter_map, length, map, option_map};
+ghost use Rattle.std.specs.Prelude.{◌≡◌, ◌++◌, ◌∷◌, [], IfOk, OnOk, filter_map, length, map, option_map};
 ghost use Rattle.std.specs.List.{filter, list_all};
 ghost use Rattle.std.specs.Option.{option_or};
 ghost use Rattle.toml.specs.View.{table_view, view};
-ghost use Rattle.rustsec_graph.specs.Edges.{as_list, replaced, targets_of, unreplaced, unresolved_of};
+ghost use Rattle.toml.specs.Data.{as_array};
+ghost use Rattle.rustsec_graph.specs.Edges.{as_list, entry_text, replaced, targets_of, targets_of_array, unnamed_by, unreplaced, unresolved_of, unresolved_of_array};
 ghost use Rattle.rustsec_graph.specs.Entries.{fits_at, found, is_local_at, is_same_release, named, named_by, next_found, only, only_local, packages_in, release_at, table_at, value_in};
 
 use crate::candidates::Candidate;
@@ -210,69 +211,99 @@ fn named_by(alloc: Global, index: &Index<'_>, value: &Value) -> Result<Option<us
     }
 }
 
-/// Appends a place, if any.
-fn push_if(places: &mut Vec<usize>, place: Option<usize>) -> Result<(), AllocError>
-    ensures { OnOk result (places.new.items ≡ places.old.items ++ as_list place) }
+/// Returns the text by which a note names an entry.
+fn entry_text(alloc: Global, value: &Value) -> Result<Text, AllocError>
+    ensures { IfOk result (λ t. t ≡ entry_text (view value.now)) }
 {
-    if let Some(place) = place {
-        places.push(place)?;
+    match value.as_str() {
+        Some(entry) => Text::from_str(alloc, entry),
+        None => Text::from_str(alloc, "(not a string)"),
     }
-    Ok(())
 }
 
-/// Returns the places that the entries of a list name, in their order.
-fn targets(alloc: Global, index: &Index<'_>, entries: &[Value]) -> Result<Vec<usize>, AllocError>
-    ensures { IfOk result (λ v. v.items ≡ filter_map (λ d. named_by index.now (view d)) entries.now) }
-{
-    let mut targets = Vec::new(alloc);
-    for entry in entries {
-        push_if(&mut targets, named_by(alloc, index, entry)?)?;
-    }
-    Ok(targets)
+/// The places that the entries of a package name, and the texts of those that name none.
+#[derive(Drop)]
+pub(crate) struct Resolution {
+    pub(crate) targets: Items<usize>,
+    pub(crate) unresolved: Items<Text>,
 }
 
-/// Returns the places that the entries of a list name, and how many entries name none.
+impl Resolution {
+    /// Returns that of no entry.
+    fn new(alloc: Global) -> Resolution
+        ensures targets { result.targets ≡ [] }
+        ensures unresolved { result.unresolved ≡ [] }
+    {
+        Resolution {
+            targets: Items::new(alloc),
+            unresolved: Items::new(alloc),
+        }
+    }
+
+    /// Adds the place that an entry names, or its text.
+    fn add(&mut self, alloc: Global, index: &Index<'_>, entry: &Value) -> Result<(), AllocError>
+        ensures targets { OnOk result (self.new.targets ≡ self.old.targets ++ as_list (named_by index.now (view entry.now))) }
+        ensures unresolved { OnOk result (self.new.unresolved ≡ self.old.unresolved ++ as_list (unnamed_by index.now (view entry.now))) }
+    {
+        match named_by(alloc, index, entry)? {
+            Some(place) => self.targets.push(place),
+            None => self.unresolved.push(entry_text(alloc, entry)?),
+        }
+    }
+
+    /// Adds the places that the entries of a list name, and the texts of the others, in their order.
+    fn add_all(
+        &mut self,
+        alloc: Global,
+        index: &Index<'_>,
+        entries: &[Value],
+    ) -> Result<(), AllocError>
+        ensures targets { OnOk result (self.new.targets ≡ self.old.targets ++ filter_map (λ d. named_by index.now (view d)) entries.now) }
+        ensures unresolved { OnOk result (self.new.unresolved ≡ self.old.unresolved ++ filter_map (λ d. unnamed_by index.now (view d)) entries.now) }
+    {
+        for entry in entries {
+            self.add(alloc, index, entry)?;
+        }
+        Ok(())
+    }
+
+    /// Adds the entries of a value. One that is not a list is an entry that names no place.
+    fn add_list(
+        &mut self,
+        alloc: Global,
+        index: &Index<'_>,
+        value: &Value,
+    ) -> Result<(), AllocError>
+        ensures targets { OnOk result (self.new.targets ≡ self.old.targets ++ targets_of_array index.now (as_array (view value.now))) }
+        ensures unresolved { OnOk result (self.new.unresolved ≡ self.old.unresolved ++ unresolved_of_array index.now (as_array (view value.now))) }
+    {
+        match value.as_array() {
+            Some(entries) => self.add_all(alloc, index, entries.as_slice()),
+            None => self.unresolved.push(Text::from_str(alloc, "(not a list)")?),
+        }
+    }
+}
+
+/// Returns what the entries of a package name: those of the first value, and then the second value, where they are there.
 pub(crate) fn resolve(
     alloc: Global,
     index: &Index<'_>,
     dependencies: Option<&Value>,
-) -> Result<(Items<usize>, usize), AllocError>
-    ensures targets { IfOk result (λ r. r.0 ≡ targets_of index.now (option_map (λ d. view d.now) dependencies.entry)) }
-    ensures unresolved { IfOk result (λ r. r.1 ≡ unresolved_of index.now (option_map (λ d. view d.now) dependencies.entry)) }
+    replace: Option<&Value>,
+) -> Result<Resolution, AllocError>
+    ensures targets { IfOk result (λ r. r.targets ≡ targets_of index.now (option_map (λ d. view d.now) dependencies.entry)
+        ++ replaced index.now (option_map (λ d. view d.now) replace.entry)) }
+    ensures unresolved { IfOk result (λ r. r.unresolved ≡ unresolved_of index.now (option_map (λ d. view d.now) dependencies.entry)
+        ++ unreplaced index.now (option_map (λ d. view d.now) replace.entry)) }
 {
-    let Some(value) = dependencies else {
-        return Ok((Items::new(alloc), 0));
-    };
-    let Some(entries) = value.as_array() else {
-        return Ok((Items::new(alloc), 1));
-    };
-    let entries = entries.as_slice();
-    let targets = Items::from(targets(alloc, index, entries)?);
-    let unresolved = entries.len().saturating_sub(targets.len());
-    Ok((targets, unresolved))
-}
-
-/// Returns these places with the one that a further entry names, and the number of unresolved entries with that entry.
-pub(crate) fn resolve_more(
-    alloc: Global,
-    index: &Index<'_>,
-    entry: Option<&Value>,
-    targets: Items<usize>,
-    unresolved: usize,
-) -> Result<(Items<usize>, usize), AllocError>
-    ensures targets { IfOk result (λ r. r.0 ≡ targets ++ replaced index.now (option_map (λ d. view d.now) entry.entry)) }
-    ensures unresolved { IfOk result (λ r. r.1 ≡ unresolved + unreplaced index.now (option_map (λ d. view d.now) entry.entry)) }
-{
-    let Some(value) = entry else {
-        return Ok((targets, unresolved));
-    };
-    let Some(place) = named_by(alloc, index, value)? else {
-        let more = unresolved.checked_add(1).ok_or(AllocError)?;
-        return Ok((targets, more));
-    };
-    let mut targets = targets;
-    targets.push(place)?;
-    Ok((targets, unresolved))
+    let mut found = Resolution::new(alloc);
+    if let Some(value) = dependencies {
+        found.add_list(alloc, index, value)?;
+    }
+    if let Some(value) = replace {
+        found.add(alloc, index, value)?;
+    }
+    Ok(found)
 }
 
 /// Returns the values of the array `package`.

@@ -14,7 +14,7 @@ use crate::reverse::{copied, reversed};
 use crate::search::{Search, path_to, search_from};
 use rustsec_error::Result;
 use rustsec_lock::Lockfile;
-use rustsec_values::Items;
+use rustsec_values::{Items, Text};
 use std::alloc::Global;
 use std::marker::Model;
 use toml::Table;
@@ -26,7 +26,7 @@ pub struct Graph {
     /// The packages that depend on each package.
     dependents: Vec<Items<usize>>,
     roots: Items<usize>,
-    unresolved: Items<usize>,
+    unresolved: Items<Items<Text>>,
     search: Search,
 }
 
@@ -115,8 +115,10 @@ impl Graph {
         self.roots.as_slice()
     }
 
-    /// Returns how many entries of each package are unresolved.
-    pub fn unresolved(&self) -> &[usize]
+    /// Returns for each package the texts of its unresolved entries, in order: those at `dependencies`, and then the one at
+    /// `replace`. That of a value that is not a string is `(not a string)`, and one at `dependencies` that is not a list
+    /// counts as an entry with the text `(not a list)`.
+    pub fn unresolved(&self) -> &[Items<Text>]
         ensures { result.now ≡ self.now.unresolved }
     {
         self.unresolved.as_slice()

@@ -1,6 +1,5 @@
 -- The notes on what a check looks at.
-use Rattle.std.specs.Prelude.{◌++◌, ◌==◌, ◌&&◌, not, ℕ, Bool, true, false, if◌then◌else◌, List, [], ◌∷◌, Option, None, Some, codes, slice_index_or}
-use Rattle.std.specs.Fmt.{decimal}
+use Rattle.std.specs.Prelude.{◌++◌, ◌==◌, ◌&&◌, not, ℕ, Bool, true, false, if◌then◌else◌, List, [], ◌∷◌, Option, None, Some, codes, map, slice_index_or}
 use Rattle.std.specs.List.{enumerate_from, flat_map, list_any}
 use Rattle.semver.specs.Identifiers.{parts_text}
 use Rattle.rustsec_lock.specs.Package.{PackageValue}
@@ -63,16 +62,15 @@ source_notes packages =
     ++ note_if (list_any is_from_sparse packages)
     (codes "some packages are from the sparse index of the default registry, which advisories without a source do not match")
 
--- the note on a package whose dependency entries name no package of the lockfile, or several, by how many do
-unfoldable pub dependency_note : PackageValue → ℕ → List ℕ
-dependency_note p count =
-    p.name ++ (codes " " ++ (parts_text p.version ++ (codes ": dependencies that name no package, or several: " ++ decimal count)))
+-- the note on a dependency entry of a package that names no package of the lockfile, or several
+unfoldable pub dependency_note : PackageValue → List ℕ → List ℕ
+dependency_note p entry =
+    p.name ++ (codes " " ++ (parts_text p.version ++ (codes ": dependency `" ++ (entry ++ codes "` names no package, or several"))))
 
--- the note on the package at a place, if some of its entries do
-abbrev pub dependency_notes_at : List ℕ → ℕ × PackageValue → List (List ℕ)
-dependency_notes_at counts placed =
-    if slice_index_or counts placed.0 0 == 0 then [] else dependency_note placed.1 (slice_index_or counts placed.0 0) ∷ []
+-- the notes on such entries of the package at a place, in their order
+abbrev pub dependency_notes_at : List (List (List ℕ)) → ℕ × PackageValue → List (List ℕ)
+dependency_notes_at entries placed = map (dependency_note placed.1) (slice_index_or entries placed.0 [])
 
 -- the notes on all packages, in order
-abbrev pub dependency_notes : List PackageValue → List ℕ → List (List ℕ)
-dependency_notes packages counts = flat_map (dependency_notes_at counts) (enumerate_from 0 packages)
+abbrev pub dependency_notes : List PackageValue → List (List (List ℕ)) → List (List ℕ)
+dependency_notes packages entries = flat_map (dependency_notes_at entries) (enumerate_from 0 packages)

@@ -1,6 +1,6 @@
 //! Makes the notes on what a check looks at.
 
-ghost use Rattle.std.specs.Prelude.{◌≡◌, ◌++◌, IfOk, OnOk, length, slice_index_or};
+ghost use Rattle.std.specs.Prelude.{◌≡◌, ◌++◌, [], IfOk, OnOk, length, slice_index_or};
 ghost use Rattle.std.specs.List.{list_any};
 ghost use Rattle.std.specs.Option.{option_copied};
 ghost use Rattle.rustsec_program.specs.Checked.{index_notes};
@@ -143,59 +143,59 @@ fn push_source_notes(
     )
 }
 
-/// Returns the note on a package whose dependency entries name no package of the lockfile, or several, by how many do.
+/// Returns the note on a dependency entry of a package that names no package of the lockfile, or several.
 #[tactic(auto, unfolding(crate::specs::Notes::dependency_note))]
-fn dependency_note(alloc: Global, package: &Package, count: usize) -> Result<Text, AllocError>
-    ensures { IfOk result (λ t. t ≡ dependency_note «package».now count) }
+fn dependency_note(alloc: Global, package: &Package, entry: &str) -> Result<Text, AllocError>
+    ensures { IfOk result (λ t. t ≡ dependency_note «package».now entry.now) }
 {
     let version = &package.version;
     let mut note = String::from_str(alloc, package.name.as_str())?;
     write!(
         note,
-        " {version}: dependencies that name no package, or several: {count}"
+        " {version}: dependency `{entry}` names no package, or several"
     )?;
     Ok(Text::from(note))
 }
 
-/// Returns the number at a place, or 0 past the end.
-fn number_at(numbers: &[usize], place: usize) -> usize
-    ensures { result ≡ slice_index_or numbers.now place 0 }
+/// Returns the texts at a place, or none past the end.
+fn texts_at(lists: &[Items<Text>], place: usize) -> &[Text]
+    ensures { result.now ≡ slice_index_or lists.now place [] }
 {
-    match numbers.get(place) {
-        Some(number) => *number,
-        None => 0,
+    match lists.get(place) {
+        Some(texts) => texts.as_slice(),
+        None => &[],
     }
 }
 
-/// Appends the note on the package at a place, if some of its entries name no package, or several.
-fn push_dependency_note(
+/// Appends the notes on the entries of the package at a place that name no package, or several.
+fn push_notes_at(
     alloc: Global,
     notes: &mut Items<Text>,
-    counts: &[usize],
+    unresolved: &[Items<Text>],
     place: usize,
     package: &Package,
 ) -> Result<(), AllocError>
-    ensures { OnOk result (notes.new ≡ notes.old ++ dependency_notes_at counts.now (place, «package».now)) }
+    ensures { OnOk result (notes.new ≡ notes.old ++ dependency_notes_at unresolved.now (place, «package».now)) }
 {
-    let count = number_at(counts, place);
-    if count == 0 {
-        return Ok(());
+    let entries = texts_at(unresolved, place);
+    for entry in entries {
+        let note = dependency_note(alloc, package, entry.as_str())?;
+        notes.push(note)?;
     }
-    let note = dependency_note(alloc, package, count)?;
-    notes.push(note)
+    Ok(())
 }
 
-/// Appends the notes on the packages some of whose entries name no package, or several.
+/// Appends the notes on all entries that name no package, or several.
 fn push_dependency_notes(
     alloc: Global,
     notes: &mut Items<Text>,
     packages: &[Package],
-    counts: &[usize],
+    unresolved: &[Items<Text>],
 ) -> Result<(), AllocError>
-    ensures { OnOk result (notes.new ≡ notes.old ++ dependency_notes packages.now counts.now) }
+    ensures { OnOk result (notes.new ≡ notes.old ++ dependency_notes packages.now unresolved.now) }
 {
     for (place, package) in packages.iter().enumerate() {
-        push_dependency_note(alloc, notes, counts, place, package)?;
+        push_notes_at(alloc, notes, unresolved, place, package)?;
     }
     Ok(())
 }

@@ -4,4 +4,4 @@ use Rattle.rustsec_program.proofs.notes.push_dependency_notes.Given as goal
 
 -- the notes on the packages so far
 abbrev pub invariant-loop-place : goal.invariant-loop-place
-invariant-loop-place l = l.notes ≡ l.fn.notes ++ dependency_notes (take l.place l.packages) l.counts
+invariant-loop-place l = l.notes ≡ l.fn.notes ++ dependency_notes (take l.place l.packages) l.unresolved

@@ -53,7 +53,7 @@ returns-clause-ok c =
     c.in_ok-index.ensures ∙ ap (λ old. map (candidate_of old) c.as_slice-packages.result.now) c.is_old.ensures
     ∙ ap (map (candidate_of (is_old ms))) c.as_slice-packages.ensures in
     let edges = edges-are ms ps c.in_ok-index.index c.in_ok-edges.field-0.edges all c.in_ok-edges.ensures.edges in
-    let counts = unresolved-are ms ps c.in_ok-index.index c.in_ok-edges.field-0.unresolved all c.in_ok-edges.ensures.unresolved in
+    let texts = unresolved-are ms ps c.in_ok-index.index c.in_ok-edges.field-0.unresolved all c.in_ok-edges.ensures.unresolved in
     let roots = c.from.ensures ∙ c.in_ok-roots.ensures ∙ ap (λ qs. roots_of qs es) c.as_slice-packages.ensures
     ∙ ap (roots_of ps) (c.as_slice-edge_lists.ensures ∙ edges) in
-    λ i. record { edges = edges i; roots = roots i; unresolved = counts i }
+    λ i. record { edges = edges i; roots = roots i; unresolved = texts i }
