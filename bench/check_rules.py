@@ -209,9 +209,9 @@ def notes_of_policy(asked):
     return notes + ([IDLE + ", ".join(idle)] if idle else [])
 
 
-def notes_of(case, packages, edges):
+def notes_of(case, packages, is_old):
     """The notes on the policy; what is empty, whether no advisory without a source can match some packages, and which
-    packages have entries that name none or several."""
+    entries name no package, or several."""
     notes = notes_of_policy(case.asked)
     notes += [YANKED_WORD] if "yanked" in case.asked.words_denied else []
     notes += [UNKNOWN.format(kind) for kind in case.asked.warnings or [] if kind not in KINDS]
@@ -220,10 +220,11 @@ def notes_of(case, packages, edges):
     elsewhere = any(package.source and package.source not in DEFAULT_REGISTRIES for package in packages)
     notes += [ELSEWHERE] if elsewhere else []
     notes += [SPARSE_NOTE] if any(package.source == SPARSE for package in packages) else []
-    for package, places in zip(packages, edges):
-        count = len(package.all_entries()) - len(places)
-        if count:
-            notes.append(f"{package.name} {package.version}: dependencies that name no package, or several: {count}")
+    texts = [texts_of(package, is_old) for package in packages]
+    for package in packages:
+        for entry in package.all_entries():
+            if not named(entry, packages, texts):
+                notes.append(f"{package.name} {package.version}: dependency `{entry}` names no package, or several")
     return notes
 
 
@@ -242,7 +243,7 @@ def check(case, lockfile):
         "lockfile": {"dependency-count": len(packages)}, "findings": findings, "ignored": passed,
         "unused-ignores": [i for i in ignored if i in known and i not in used],
         "unknown-ignores": [i for i in ignored if i not in known],
-        "below-threshold": len(everything) - len(findings), "notes": notes_of(case, packages, edges),
+        "below-threshold": len(everything) - len(findings), "notes": notes_of(case, packages, lockfile.is_old),
         "yanked": None,
     }
     return tree, 1 if any(f["denied"] and not f["old"] for f in findings) else 0

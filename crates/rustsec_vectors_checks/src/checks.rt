@@ -190,7 +190,7 @@ const NOTED: &[Row<'static>] = &[
         &["check", "db", "lost"],
         "",
         0,
-        "note: app 0.1.0: dependencies that name no package, or several: 2\n0 vulnerabilities, 0 warnings, 0 ignored; looked at 3 advisories and 3 packages\n",
+        "note: app 0.1.0: dependency `gone` names no package, or several\nnote: app 0.1.0: dependency `twice` names no package, or several\n0 vulnerabilities, 0 warnings, 0 ignored; looked at 3 advisories and 3 packages\n",
     ),
     (
         &["check", "db", "elsewhere"],
