@@ -50,8 +50,8 @@ touches_any packages a = list_any (touches a) packages
 abbrev pub is_about : Advisory → PackageValue → Bool
 is_about a p = pointwise nat_eq a.metadata.«package» p.name
 
--- an advisory bears on a package: it is about it, and the first patched requirement that is `>=` of a release alone does not
--- hold its version, if there is one; where it does, it holds all later ones too
+-- an advisory bears on a package: it is about it, and the first patched requirement that is `>=` of a release alone, if any,
+-- does not hold its version; where it does, it holds all later ones too
 abbrev pub bears_on : Advisory → PackageValue → Bool
 bears_on a p = is_about a p && is_till (span_of a.versions).fixed p.version
 
