@@ -1,10 +1,8 @@
 -- What the words of `osv-database` choose.
 use Rattle.std.proofs.Common.{◌≡◌, ◌∙◌, ℕ, Bool, false, true, List, Bor, None, Some, map, refl}
-use Rattle.std.specs.Prelude.{if◌then◌else◌}
 use Rattle.std.specs.List.{list_all, list_any}
 use Rattle.std.proofs.lemmas.List.Folds.{list_all-map}
 use Rattle.rustsec_program.proofs.OptionWords.{any_map}
-use Rattle.rustsec_osv_database.specs.declared.exported.Choice.{Choice}
 use Rattle.rustsec_database_commands.specs.Osv.{choice_of, is_normalized, is_osv_option, is_skip}
 
 all-options : (words : List (Bor (List ℕ))) (b : Bool) → list_all (λ (w : Bor (List ℕ)). is_osv_option w.now) words ≡ b

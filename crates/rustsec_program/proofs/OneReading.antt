@@ -23,7 +23,7 @@ use Rattle.rustsec_index.specs.declared.yanked.YankedPackages.{YankedPackages}
 use Rattle.rustsec_index.proofs.Once.{yanked-once, yanked-or-refused, yanked-refused-once}
 use Rattle.rustsec_check_output.specs.CheckTree.{refused_tree, tree_line}
 use Rattle.rustsec_commands.specs.Output.{Output, refused_as}
-use Rattle.rustsec_program.specs.Check.{IsGround, IsGroundRefusal, refused}
+use Rattle.rustsec_program.specs.Check.{IsGround, IsGroundRefusal}
 use Rattle.rustsec_program.specs.CheckOptions.{CheckOption, last_value}
 use Rattle.rustsec_program.specs.Checked.{Ground, line, refusal_output}
 use Rattle.rustsec_program.specs.Locked.{AreLoadedAt, IsBaselineAt, IsBaselineRefusal, IsIndexRefusal, IsLoadRefusal, IsLockedAt, IsYankedAt, LoadedValue, LockedValue, Places, unbased, unindexed, unlocked}

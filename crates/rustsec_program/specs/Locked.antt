@@ -1,5 +1,5 @@
 -- The lockfile of a check with the graph of its packages, the older lockfile of its baseline, and which packages are yanked.
-use Rattle.std.specs.Prelude.{◌≡◌, ◌⊎◌, ℕ, List, Option, Some, None}
+use Rattle.std.specs.Prelude.{◌≡◌, ℕ, List, Option, Some, None}
 use Rattle.toml.specs.Data.{Members}
 use Rattle.toml.specs.Parse.{parse_document}
 use Rattle.rustsec_folders.specs.Allowed.{Allowed}

@@ -1,5 +1,5 @@
 use Rattle.std.proofs.Common.{arith}
-use Rattle.rustsec_database_commands.proofs.OptionWords.{after-another, after-word, all-words, no-value, no_word}
+use Rattle.rustsec_database_commands.proofs.OptionWords.{after-another, after-word, all-words, no_word}
 use Rattle.rustsec_database_commands.proofs.options.asked_of.Goals as goal
 
 pub returns-in_default : goal.returns-in_default

@@ -1,5 +1,5 @@
 use Rattle.std.proofs.Common.{inl, inr}
-use Rattle.std.proofs.lemmas.Result.{IfErr-weaker, err_from_is_err_and}
+use Rattle.std.proofs.lemmas.Result.{err_from_is_err_and}
 use Rattle.rustsec_program.proofs.Before.{open-refused-before, opened-before}
 use Rattle.rustsec_program.proofs.Grounds.{is-list, none-listed, paths-in}
 use Rattle.rustsec_program.proofs.many.Prepared.read.Goals as goal
