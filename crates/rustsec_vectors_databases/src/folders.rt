@@ -1,5 +1,6 @@
 //! The source files under a root: over folders in memory, and over those of the disk.
 
+use crate::disk::{make_folder, put, put_others};
 use rustsec_error::ErrorKind;
 use rustsec_fixtures::{Failing, Holds, MemoryFolders, Paths};
 use rustsec_folders::{Folders, RealFolders, SourceFile, source_files};
@@ -273,16 +274,10 @@ fn finds_on_disk<T: Files + AllocGlobal>(
     bytes: &[u8],
     want: &Want<'_>,
 ) -> Result<bool, Fail> {
-    let alloc = rt.alloc();
-    fs::create_dir_all(rt, &format!(in alloc; "{root}/crates/base")?)?;
-    fs::write(rt, &format!(in alloc; "{root}/crates/base/x.md")?, bytes)?;
-    fs::write(
-        rt,
-        &format!(in alloc; "{root}/crates/base/.DS_Store")?,
-        "no",
-    )?;
-    fs::write(rt, &format!(in alloc; "{root}/crates/README")?, "no")?;
-    let found = finds(alloc, &mut RealFolders::new(rt), root, want);
+    make_folder(rt, root, "crates/base")?;
+    put(rt, root, "crates/base/x.md", bytes)?;
+    put_others(rt, root)?;
+    let found = finds(rt.alloc(), &mut RealFolders::new(rt), root, want);
     fs::remove_dir_all(rt, root)?;
     Ok(found)
 }

@@ -9,6 +9,8 @@ mod advisories;
 #[cfg(test)]
 mod databases;
 #[cfg(test)]
+mod disk;
+#[cfg(test)]
 mod folders;
 #[cfg(test)]
 mod functions_by_path;

@@ -1,7 +1,8 @@
 //! Databases of folders: which files are opened, the errors of each, and the same over the disk.
 
 use crate::databases::PLACE;
-use rustsec_database::{Database, Entries, Index};
+use crate::disk::{make_folder, put, put_others};
+use rustsec_database::{Database, Entries, Index, Slot};
 use rustsec_error::ErrorKind;
 use rustsec_fixtures::{Failing, Holds, MemoryFolders, Paths, VALID};
 use rustsec_lock::package::Name;
@@ -162,6 +163,17 @@ fn all_files_are_read(rt: HostRuntime) -> Result<(), Fail> {
     Ok(())
 }
 
+/// Returns how many advisories a root of the disk gives, if all are of crates, or the kind of the refusal.
+fn opened_on_disk<T: Files + AllocGlobal>(
+    rt: &T,
+    root: &str,
+) -> std::result::Result<usize, ErrorKind> {
+    match Database::open(rt, rt.alloc(), root) {
+        Ok(database) => Ok(count_of_crates(&database)),
+        Err(e) => Err(e.kind()),
+    }
+}
+
 /// Returns the kind of the error for a root on the disk, with a file that is not an advisory, followed by one with
 /// these bytes; the folder is removed again.
 fn refused_on_disk<T: Files + AllocGlobal>(
@@ -169,20 +181,12 @@ fn refused_on_disk<T: Files + AllocGlobal>(
     root: &str,
     bytes: &[u8],
 ) -> Result<Option<ErrorKind>, Fail> {
-    let alloc = rt.alloc();
-    fs::create_dir_all(rt, &format!(in alloc; "{root}/crates/base")?)?;
-    fs::write(
-        rt,
-        &format!(in alloc; "{root}/crates/base/a.md")?,
-        "no advisory",
-    )?;
-    fs::write(rt, &format!(in alloc; "{root}/crates/base/b.md")?, bytes)?;
-    let kind = match Database::open(rt, alloc, root) {
-        Ok(_) => None,
-        Err(e) => Some(e.kind()),
-    };
+    make_folder(rt, root, "crates/base")?;
+    put(rt, root, "crates/base/a.md", b"no advisory")?;
+    put(rt, root, "crates/base/b.md", bytes)?;
+    let found = opened_on_disk(rt, root);
     fs::remove_dir_all(rt, root)?;
-    Ok(kind)
+    Ok(found.err())
 }
 
 #[test]
@@ -197,28 +201,44 @@ fn roots_of_the_disk(rt: HostRuntime) -> Result<(), Fail> {
     Ok(())
 }
 
-/// Returns whether an index that is given a slot twice has it once.
-fn index_gives(alloc: Global, name: &str) -> Result<bool, Fail> {
+/// Returns the slot of the valid advisory.
+fn valid_slot(alloc: Global) -> Result<Slot, Fail> {
     let mut entries = Entries::new(alloc);
     let slot = entries.load_text(alloc, PLACE, VALID)?.ok_or("no slot")?;
-    let name = Name::from_str(alloc, name)?;
+    Ok(slot)
+}
+
+/// Returns whether an index that is given a slot twice has it once.
+fn has_it_once(alloc: Global, name: &Name, slot: Slot) -> Result<bool, Fail> {
     let mut index = Index::new(alloc);
-    let fresh = index.insert(alloc, &name, slot)?;
-    let again = index.insert(alloc, &name, slot)?;
-    let found = index.get(&name).ok_or("no slots")?;
-    Ok(fresh && !again && found.len() == 1 && found[0] == slot)
+    let fresh = index.insert(alloc, name, slot)?;
+    let again = index.insert(alloc, name, slot)?;
+    let found = index.get(name).ok_or("no slots")?;
+    Ok(fresh && !again && found == [slot].as_slice())
+}
+
+/// Returns whether an index that is given the slot of the valid advisory twice under a name has it once.
+fn index_gives(alloc: Global, name: &str) -> Result<bool, Fail> {
+    let slot = valid_slot(alloc)?;
+    let name = Name::from_str(alloc, name)?;
+    has_it_once(alloc, &name, slot)
+}
+
+/// Returns whether a file with the valid advisory is loaded.
+fn loads<T: Files + AllocGlobal>(rt: &T, root: &str) -> Result<bool, Fail> {
+    let path = format!(in rt.alloc(); "{root}/{PLACE}")?;
+    let mut entries = Entries::new(rt.alloc());
+    let slot = entries.load_file(rt, rt.alloc(), &path)?;
+    Ok(slot.is_some() && entries.iter().count() == 1)
 }
 
 /// Returns whether a file of the disk with the valid advisory is loaded; the folder is removed again.
 fn loads_file<T: Files + AllocGlobal>(rt: &T, root: &str) -> Result<bool, Fail> {
-    let alloc = rt.alloc();
-    let path = format!(in alloc; "{root}/{PLACE}")?;
-    fs::create_dir_all(rt, &format!(in alloc; "{root}/crates/base")?)?;
-    fs::write(rt, &path, VALID)?;
-    let mut entries = Entries::new(alloc);
-    let slot = entries.load_file(rt, alloc, &path)?;
+    make_folder(rt, root, "crates/base")?;
+    put(rt, root, PLACE, VALID.as_bytes())?;
+    let loads = loads(rt, root)?;
     fs::remove_dir_all(rt, root)?;
-    Ok(slot.is_some() && entries.iter().count() == 1)
+    Ok(loads)
 }
 
 #[test]
@@ -236,23 +256,13 @@ fn found_on_disk<T: Files + AllocGlobal>(
     root: &str,
     with_folder: bool,
 ) -> Result<std::result::Result<usize, ErrorKind>, Fail> {
-    let alloc = rt.alloc();
-    let base = format!(in alloc; "{root}/crates/base")?;
-    fs::create_dir_all(rt, &base)?;
-    fs::write(
-        rt,
-        &format!(in alloc; "{base}/RUSTSEC-2001-2101.md")?,
-        VALID,
-    )?;
-    fs::write(rt, &format!(in alloc; "{base}/.DS_Store")?, "no")?;
-    fs::write(rt, &format!(in alloc; "{root}/crates/README")?, "no")?;
+    make_folder(rt, root, "crates/base")?;
+    put(rt, root, PLACE, VALID.as_bytes())?;
+    put_others(rt, root)?;
     if with_folder {
-        fs::create_dir_all(rt, &format!(in alloc; "{base}/sub")?)?;
+        make_folder(rt, root, "crates/base/sub")?;
     }
-    let found = match Database::open(rt, alloc, root) {
-        Ok(database) => Ok(count_of_crates(&database)),
-        Err(e) => Err(e.kind()),
-    };
+    let found = opened_on_disk(rt, root);
     fs::remove_dir_all(rt, root)?;
     Ok(found)
 }
