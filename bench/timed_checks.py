@@ -43,7 +43,7 @@ def head(title):
 def ratios(times, beside):
     """The ratios of the best times, of the medians and of the rounds."""
     rounds = [a / b for a, b in zip(times, beside)]
-    low, middle, high = statistics.quantiles(rounds, n=4)
+    low, middle, high = statistics.quantiles(rounds, n=4) if len(rounds) > 1 else rounds * 3
     both = min(times) / min(beside), statistics.median(times) / statistics.median(beside)
     return [f"{it:.2f}" for it in (*both, middle)] + [f"{low:.2f} to {high:.2f}"]
 
