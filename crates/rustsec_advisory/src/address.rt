@@ -9,7 +9,7 @@ ghost use Rattle.rustsec_advisory.specs.Addresses.{address_of, unless_no_room};
 ghost use Rattle.rustsec_error.specs.Failure.{IsMemory, IsRefusal};
 
 use crate::plain_address::is_plain;
-use rustsec_error::{Error, ErrorKind, FromText, Result, refused_for};
+use rustsec_error::{Error, ErrorKind, FromText, Result, text_error_with_cause};
 use rustsec_values::{ExactClone, ExactEq, Text};
 use std::alloc::{AllocError, Global};
 use std::convert::AsStr;
@@ -74,7 +74,13 @@ fn parsed(alloc: Global, text: &str) -> Result<Address>
     let reason = reason(alloc, &parsed)?;
     match unless_no_room(parsed)? {
         Some(url) => Ok(read_from(url, text)),
-        None => Err(refused_for(alloc, "not an address", text, "an absolute URL", &reason)),
+        None => Err(text_error_with_cause(
+            alloc,
+            "not an address",
+            text,
+            "an absolute URL",
+            &reason,
+        )),
     }
 }
 

@@ -16,7 +16,7 @@ ghost use Rattle.rustsec_error.specs.Failure.{IsMemory, IsOfKind, IsRefusal, out
 use crate::affected::Affected;
 use crate::front_matter;
 use crate::metadata::Metadata;
-use rustsec_error::{Error, ErrorKind, Result, refused_file};
+use rustsec_error::{Error, ErrorKind, Result, file_error};
 use rustsec_files::path::FilePath;
 use rustsec_folders::{Folders, RealFolders};
 use rustsec_lock::Severity;
@@ -98,7 +98,7 @@ fn late_words(front: &str) -> &'static str {
 
 /// Returns the error for a front matter with this header further below, before which it was added, or the given error
 /// for one without it.
-fn late_header(alloc: Global, front: TablePlace<'_>, error: Error) -> Error
+fn late_header_error(alloc: Global, front: TablePlace<'_>, error: Error) -> Error
     ensures kind { IsOfKind ErrorKind.Parse error → IsOfKind ErrorKind.Parse result }
     ensures memory { IsMemory error → IsMemory result }
 {
@@ -108,7 +108,7 @@ fn late_header(alloc: Global, front: TablePlace<'_>, error: Error) -> Error
     match key_at(alloc, front.text, &["advisory"]) {
         Ok(Some(_)) => {
             let late = Error::new(alloc, ErrorKind::Parse, late_words(front.text));
-            front.refused_at(alloc, "advisory", late)
+            front.with_place(alloc, "advisory", late)
         }
         Ok(None) => error,
         Err(refused) => Error::from(refused),
@@ -127,7 +127,7 @@ pub(crate) fn front_place(front: &str, line: usize) -> TablePlace<'_> {
 }
 
 /// Parses the document of a front matter that begins in this line of a file.
-fn document_of(alloc: Global, front: &str, line: usize) -> Result<Table>
+fn front_document(alloc: Global, front: &str, line: usize) -> Result<Table>
     ensures ok { IfOk result (λ t. parse_document (document_text front.now) ≡ Some (table_view t)) }
     ensures err { IfErr result (IsRefusal ErrorKind.Parse (parse_document (document_text front.now) ≡ None)) }
 {
@@ -135,7 +135,7 @@ fn document_of(alloc: Global, front: &str, line: usize) -> Result<Table>
     let place = front_place(front, line);
     match document(alloc, &text, place, "the front matter") {
         Ok(table) => Ok(table),
-        Err(e) => Err(late_header(alloc, place, e)),
+        Err(e) => Err(late_header_error(alloc, place, e)),
     }
 }
 
@@ -202,7 +202,7 @@ fn parts_in(alloc: Global, text: &str) -> Result<Parts<'_>>
 {
     match Parts::parse(alloc, text) {
         Ok(parts) => Ok(parts),
-        Err(e) => Err(TablePlace::whole(text).refused_from(alloc, missing_from(text), e)),
+        Err(e) => Err(TablePlace::whole(text).with_place_of(alloc, missing_from(text), e)),
     }
 }
 
@@ -218,7 +218,7 @@ pub(crate) fn read_parts(alloc: Global, text: &str, parts: Parts<'_>) -> Result<
     ensures err { IfErr result (IsRefusal ErrorKind.Parse ((a : given.Advisory) → ¬ IsAdvisory text.now a)) }
 {
     let line = first_line(text);
-    let document = document_of(alloc, parts.front_matter, line)?;
+    let document = front_document(alloc, parts.front_matter, line)?;
     let whole = Section {
         table: &document,
         name: "the front matter",
@@ -262,7 +262,7 @@ impl Advisory {
     {
         match Advisory::from_str(alloc, text) {
             Ok(advisory) => Ok(advisory),
-            Err(e) => Err(refused_file(alloc, path, &e)),
+            Err(e) => Err(file_error(alloc, path, &e)),
         }
     }
 

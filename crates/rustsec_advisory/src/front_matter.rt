@@ -36,11 +36,11 @@ fn subject(alloc: Global, section: Section<'_>) -> Result<Subject>
     ensures err { IfErr result (IsRefusal ErrorKind.Parse ((s : subject.Subject) → ¬ IsSubject (table_view section.entry.table.now) s)) }
 {
     Ok(Subject {
-        id: section.text_at(alloc, "id")?,
-        name: section.text_at(alloc, "package")?,
-        date: section.text_at(alloc, "date")?,
-        aliases: section.texts_at(alloc, "aliases")?,
-        related: section.texts_at(alloc, "related")?,
+        id: section.required(alloc, "id")?,
+        name: section.required(alloc, "package")?,
+        date: section.required(alloc, "date")?,
+        aliases: section.list(alloc, "aliases")?,
+        related: section.list(alloc, "related")?,
     })
 }
 
@@ -50,11 +50,11 @@ fn kinds(alloc: Global, section: Section<'_>) -> Result<Kinds>
     ensures err { IfErr result (IsRefusal ErrorKind.Parse ((k : kinds.Kinds) → ¬ AreKinds (table_view section.entry.table.now) k)) }
 {
     Ok(Kinds {
-        collection: section.optional_text_at(alloc, "collection")?,
-        categories: section.texts_at(alloc, "categories")?,
-        keywords: section.texts_at(alloc, "keywords")?,
-        cvss: section.optional_text_at(alloc, "cvss")?,
-        informational: section.optional_text_at(alloc, "informational")?,
+        collection: section.optional(alloc, "collection")?,
+        categories: section.list(alloc, "categories")?,
+        keywords: section.list(alloc, "keywords")?,
+        cvss: section.optional(alloc, "cvss")?,
+        informational: section.optional(alloc, "informational")?,
     })
 }
 
@@ -64,9 +64,9 @@ fn origin(alloc: Global, section: Section<'_>) -> Result<Origin>
     ensures err { IfErr result (IsRefusal ErrorKind.Parse ((o : origin.Origin) → ¬ IsOrigin (table_view section.entry.table.now) o)) }
 {
     Ok(Origin {
-        references: section.texts_at(alloc, "references")?,
-        source: section.optional_text_at(alloc, "source")?,
-        url: section.optional_text_at(alloc, "url")?,
+        references: section.list(alloc, "references")?,
+        source: section.optional(alloc, "source")?,
+        url: section.optional(alloc, "url")?,
     })
 }
 
@@ -76,8 +76,8 @@ fn terms(alloc: Global, section: Section<'_>) -> Result<Terms>
     ensures err { IfErr result (IsRefusal ErrorKind.Parse ((t : terms.Terms) → ¬ AreTerms (table_view section.entry.table.now) t)) }
 {
     Ok(Terms {
-        withdrawn: section.optional_text_at(alloc, "withdrawn")?,
-        license: section.text_or(alloc, "license", License::default())?,
+        withdrawn: section.optional(alloc, "withdrawn")?,
+        license: section.or_default(alloc, "license", License::default())?,
         expect_deleted: section.bool_or_false(alloc, "expect-deleted")?,
     })
 }
@@ -92,7 +92,12 @@ fn no_text_at(alloc: Global, section: Section<'_>, key: &str) -> Result<()>
     };
     match value.as_str() {
         Some("") => Ok(()),
-        _ => Err(section.unexpected(alloc, key, value, "no text, as the Markdown below gives it")),
+        _ => Err(section.unexpected_error(
+            alloc,
+            key,
+            value,
+            "no text, as the Markdown below gives it",
+        )),
     }
 }
 
@@ -160,15 +165,15 @@ fn list_at_fault(alloc: Global, section: Section<'_>) -> Result<FaultyList> {
 }
 
 /// Adds the place of a list of requirements, or of a requirement in it, to an error.
-fn placed_in_list(alloc: Global, place: TablePlace<'_>, list: FaultyList, error: Error) -> Error
+fn with_list_place(alloc: Global, place: TablePlace<'_>, list: FaultyList, error: Error) -> Error
     ensures kind { IsOfKind error.kind result }
     ensures memory { IsMemory error → IsMemory result }
 {
     match list.position {
         Some(position) => place
             .at_element(position)
-            .refused_at(alloc, list.key, error),
-        None => place.refused_at(alloc, list.key, error),
+            .with_place(alloc, list.key, error),
+        None => place.with_place(alloc, list.key, error),
     }
 }
 
@@ -177,7 +182,7 @@ const LISTS: &str =
     "requirements of one interval each, of which no unaffected one overlaps another";
 
 /// Turns an error about lists of requirements into the error of the list at fault, in the table that holds them.
-fn as_parse(alloc: Global, section: Section<'_>, error: Error) -> Error
+fn list_error(alloc: Global, section: Section<'_>, error: Error) -> Error
     ensures memory { error ≡ out_of_memory → result ≡ out_of_memory }
     ensures kind { IsOfKind ErrorKind.Parse result }
 {
@@ -193,7 +198,7 @@ fn as_parse(alloc: Global, section: Section<'_>, error: Error) -> Error
         Ok(message) => Error::with_cause(alloc, ErrorKind::Parse, &message, error.cause()),
         Err(refused) => Error::from(refused),
     };
-    placed_in_list(alloc, section.place, list, error)
+    with_list_place(alloc, section.place, list, error)
 }
 
 /// Reads the lists of the table `versions`.
@@ -205,7 +210,7 @@ pub fn versions(alloc: Global, section: Section<'_>) -> Result<Versions>
     let unaffected = optional_requirements_at(alloc, section, "unaffected")?;
     match Versions::new(alloc, patched, unaffected) {
         Ok(versions) => Ok(versions),
-        Err(e) => Err(as_parse(alloc, section, e)),
+        Err(e) => Err(list_error(alloc, section, e)),
     }
 }
 
@@ -223,7 +228,7 @@ fn function_path(alloc: Global, section: Section<'_>, key: &str) -> Result<Funct
     ensures ok { IfOk result (λ p. path_of key.now ≡ Some p) }
     ensures err { IfErr result (IsRefusal ErrorKind.Parse (path_of key.now ≡ None)) }
 {
-    section.read(alloc, key, key)
+    section.parse_str(alloc, key, key)
 }
 
 /// Reads the functions of a table into a map. `section` is for messages.
@@ -266,7 +271,7 @@ fn functions_at(alloc: Global, section: Section<'_>, key: &str) -> Result<Functi
     };
     match value.as_table() {
         Some(inner) => functions(alloc, functions_section(section, inner), inner),
-        None => Err(section.unexpected(alloc, key, value, "a table")),
+        None => Err(section.unexpected_error(alloc, key, value, "a table")),
     }
 }
 
@@ -275,8 +280,8 @@ fn affected_in(alloc: Global, section: Section<'_>) -> Result<Affected>
     ensures ok { IfOk result (IsAffected (table_view section.entry.table.now)) }
     ensures err { IfErr result (IsRefusal ErrorKind.Parse ((a : affected.Affected) → ¬ IsAffected (table_view section.entry.table.now) a)) }
 {
-    let arch = section.texts_at(alloc, "arch")?;
-    let os = section.texts_at(alloc, "os")?;
+    let arch = section.list(alloc, "arch")?;
+    let os = section.list(alloc, "os")?;
     let functions = functions_at(alloc, section, "functions")?;
     Ok(Affected {
         arch,
@@ -295,7 +300,7 @@ pub fn affected_at(alloc: Global, section: Section<'_>, key: &str) -> Result<Opt
         return Ok(None);
     };
     let Some(table) = value.as_table() else {
-        return Err(section.unexpected(alloc, key, value, "a table"));
+        return Err(section.unexpected_error(alloc, key, value, "a table"));
     };
     let affected = affected_in(
         alloc,

@@ -20,7 +20,7 @@ ghost use Rattle.rustsec_error.specs.declared.error.ErrorKind.TheVariants as fai
 
 use crate::advisory::{self, Advisory};
 use crate::lint_rules;
-use rustsec_error::{Result, refused_file, refused_text};
+use rustsec_error::{Result, file_error, text_error};
 use rustsec_files::path::FilePath;
 use rustsec_folders::{Folders, RealFolders};
 use rustsec_texts::Parts;
@@ -385,8 +385,8 @@ impl Linter {
         ensures names { IfErr result (λ e. F.refuses folders.old path.now e ⊎ IsOfFile path.now e) }
     {
         if !FilePath::of(path).is_markdown() {
-            let other = refused_text(alloc, "not a Markdown file", path, "the extension `md`");
-            return Err(refused_file(alloc, path, &other));
+            let other = text_error(alloc, "not a Markdown file", path, "the extension `md`");
+            return Err(file_error(alloc, path, &other));
         }
         folders.read(alloc, path)
     }
@@ -399,7 +399,7 @@ impl Linter {
     {
         match Linter::lint_string(alloc, text, Some(FilePath::of(path).is_draft())) {
             Ok(linter) => Ok(linter),
-            Err(e) => Err(refused_file(alloc, path, &e)),
+            Err(e) => Err(file_error(alloc, path, &e)),
         }
     }
 

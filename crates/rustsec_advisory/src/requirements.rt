@@ -23,7 +23,7 @@ fn requirement_at(alloc: Global, section: Section<'_>, key: &str, text: &str) ->
 {
     match read_requirement(alloc, text) {
         Ok(req) => Ok(req),
-        Err(e) => Err(section.refused_at(alloc, key, &e)),
+        Err(e) => Err(section.with_key(alloc, key, &e)),
     }
 }
 
@@ -39,7 +39,7 @@ fn requirement_in(
 {
     match value.as_str() {
         Some(text) => requirement_at(alloc, section, key, text),
-        None => Err(section.unexpected(alloc, key, value, "a string")),
+        None => Err(section.unexpected_error(alloc, key, value, "a string")),
     }
 }
 
@@ -75,7 +75,7 @@ pub fn requirements(
 {
     match value.as_array() {
         Some(array) => requirements_in(alloc, section, key, array),
-        None => Err(section.unexpected(alloc, key, value, "an array of strings")),
+        None => Err(section.unexpected_error(alloc, key, value, "an array of strings")),
     }
 }
 
@@ -86,7 +86,7 @@ pub fn requirements_at(alloc: Global, section: Section<'_>, key: &str) -> Result
 {
     match section.get(key) {
         Some(value) => requirements(alloc, section, key, value),
-        None => Err(section.missing(alloc, key)),
+        None => Err(section.missing_error(alloc, key)),
     }
 }
 

@@ -7,7 +7,7 @@ use Rattle.std.specs.Cmp.Lexicographic.{bytes_decides, pointwise}
 use Rattle.std.specs.List.{All, enumerate_from, filter, filter_map, flat_map, list_any}
 use Rattle.std.proofs.lemmas.List.Elements.{All-cons, All-filter, All-head, All-nil, All-same, All-tail, All-weaker, filter_agree}
 use Rattle.rustsec_versions.specs.acceptance.Lists.{affected}
-use Rattle.rustsec_versions.specs.ranges.Ranges.{is_from, is_till}
+use Rattle.rustsec_versions.specs.ranges.Ranges.{is_from, is_until}
 use Rattle.rustsec_lock.specs.Package.{PackageValue}
 use Rattle.rustsec_texts.specs.IdOrder.{id_eq}
 use Rattle.rustsec_texts.specs.Ids.{IdValue}
@@ -48,7 +48,7 @@ named-about a p h = (bytes_decides a.metadata.«package» p.name).1 (sym ((bytes
 -- an advisory that is about a package and affects its version bears on it
 affecting-bears : (a : Advisory) (p : PackageValue) → is_about a p ≡ true → affected a.versions p.version ≡ true → bears_on a p ≡ true
 affecting-bears a p about affects =
-    both _ _ about (second_so (is_from (span_of a.versions).introduced p.version) (is_till (span_of a.versions).fixed p.version) (in-span a.versions p.version affects))
+    both _ _ about (second_so (is_from (span_of a.versions).introduced p.version) (is_until (span_of a.versions).fixed p.version) (in-span a.versions p.version affects))
 
 -- so does one that a query finds for it
 found-bears : (q : Asked) (p : PackageValue) (a : Advisory) → finds q p a ≡ true → bears_on a p ≡ true
@@ -64,8 +64,8 @@ counting-about p a h = named-about a p (selected-named (about p) a h)
 -- if it does not bear on it, it affects no version from the locked one on
 counting-settled : (p : PackageValue) (a : Advisory) → selects (about p) a ≡ true → bears_on a p ≡ false → IsSettled p.version a
 counting-settled p a h is w at =
-    let not_till : is_till (span_of a.versions).fixed p.version ≡ false =
-    ap (λ b. b && is_till (span_of a.versions).fixed p.version) (sym (counting-about p a h)) ∙ is in
+    let not_till : is_until (span_of a.versions).fixed p.version ≡ false =
+    ap (λ b. b && is_until (span_of a.versions).fixed p.version) (sym (counting-about p a h)) ∙ is in
     past-span a.versions p.version w not_till at
 
 -- ---- one package

@@ -4,7 +4,7 @@ use Rattle.std.proofs.lemmas.Bool.{cases_Bool}
 use Rattle.semver.specs.Parse.{Parts}
 use Rattle.rustsec_versions.specs.acceptance.Lists.{Lists, affected}
 use Rattle.rustsec_versions.specs.order.Precedence.{IsVersion, is_at_most}
-use Rattle.rustsec_versions.specs.ranges.Ranges.{Range, in_range, in_ranges, is_from, is_till}
+use Rattle.rustsec_versions.specs.ranges.Ranges.{Range, in_range, in_ranges, is_from, is_until}
 use Rattle.rustsec_versions.proofs.lemmas.order.PrecedenceLaws.{at_most-trans, below-weak, not_at_most}
 use Rattle.rustsec_check.specs.LeastFree.{HaveValidStarts, IsLeastFree, IsValidStart, is_affected}
 use Rattle.rustsec_check.specs.Moving.{MovesIn, NoneMoves, later}
@@ -45,7 +45,7 @@ module _ (v : Parts) where
 -- ---- one range
 
 module _ (all : List Lists) (v : Parts) (answer : Option Parts) (r : Range) where
-  pub moves-at : (found : Parts) → IsLeastFree all (later r.introduced v) (Some found) → is_till r.fixed found ≡ true → is_till answer found ≡ true
+  pub moves-at : (found : Parts) → IsLeastFree all (later r.introduced v) (Some found) → is_until r.fixed found ≡ true → is_until answer found ≡ true
       → MovesIn all v answer r
   moves-at found free till under =
       let (valid, low, is_free) = free.some found refl in
@@ -54,17 +54,17 @@ module _ (all : List Lists) (v : Parts) (answer : Option Parts) (r : Range) wher
         valid = valid;
         from = at_most-trans v (later r.introduced v) found (later-from v r.introduced) low;
         below = under;
-        inside = both (is_from r.introduced found) (is_till r.fixed found) (from-up r.introduced (later r.introduced v) found (later-up v r.introduced) low) till;
+        inside = both (is_from r.introduced found) (is_until r.fixed found) (from-up r.introduced (later r.introduced v) found (later-up v r.introduced) low) till;
         is_free = is_free;
       }
 
   reached : (m : MovesIn all v answer r) → is_at_most (later r.introduced v) m.at ≡ true
-  reached m = later-least v r.introduced m.at m.from (both-first (is_from r.introduced m.at) (is_till r.fixed m.at) m.inside)
+  reached m = later-least v r.introduced m.at m.from (both-first (is_from r.introduced m.at) (is_until r.fixed m.at) m.inside)
 
-  pub not-past : (found : Parts) → IsLeastFree all (later r.introduced v) (Some found) → MovesIn all v answer r → (is_till r.fixed found ≡ true) × (is_till answer found ≡ true)
+  pub not-past : (found : Parts) → IsLeastFree all (later r.introduced v) (Some found) → MovesIn all v answer r → (is_until r.fixed found ≡ true) × (is_until answer found ≡ true)
   not-past found free m =
       let low : is_at_most found m.at ≡ true = free.least found refl m.at m.valid (reached m) m.is_free in
-      (till-down r.fixed found m.at low (both-second (is_from r.introduced m.at) (is_till r.fixed m.at) m.inside), till-down answer found m.at low m.below)
+      (till-down r.fixed found m.at low (both-second (is_from r.introduced m.at) (is_until r.fixed m.at) m.inside), till-down answer found m.at low m.below)
 
   pub never-moves : IsLeastFree all (later r.introduced v) None → ¬ MovesIn all v answer r
   never-moves free m = cc (sym m.is_free ∙ free.none refl m.at m.valid (reached m))
@@ -76,7 +76,7 @@ module _ (all : List Lists) (v : Parts) (answer : Option Parts) where
   none-more [] r none not = (not, tt)
   none-more (s ∷ rs) r none not = (none.0, none-more rs r none.1 not)
 
-  none-holds : (rs : List Range) (m : Parts) → NoneMoves all v answer rs → IsVersion m → is_at_most v m ≡ true → is_till answer m ≡ true → is_affected all m ≡ false
+  none-holds : (rs : List Range) (m : Parts) → NoneMoves all v answer rs → IsVersion m → is_at_most v m ≡ true → is_until answer m ≡ true → is_affected all m ≡ false
       → in_ranges rs m ≡ false
   none-holds [] m none valid low under is_free = refl
   none-holds (r ∷ rs) m none valid low under is_free = elim (cases_Bool (in_range r m)) [

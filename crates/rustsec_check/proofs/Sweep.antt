@@ -5,7 +5,7 @@ use Rattle.std.proofs.lemmas.Bool.{cases_Bool}
 use Rattle.semver.specs.Parse.{Parts}
 use Rattle.rustsec_versions.specs.acceptance.Lists.{Lists}
 use Rattle.rustsec_versions.specs.order.Precedence.{IsVersion, is_at_most, is_below}
-use Rattle.rustsec_versions.specs.ranges.Ranges.{Range, in_range, in_ranges, is_from, is_till}
+use Rattle.rustsec_versions.specs.ranges.Ranges.{Range, in_range, in_ranges, is_from, is_until}
 use Rattle.rustsec_versions.proofs.lemmas.order.PrecedenceLaws.{at_most-below, at_most-not_below, at_most-trans, below-weak, not_below}
 use Rattle.rustsec_check.specs.LeastFree.{AreRangesOfAll, HaveValidFixes, IsLeastFree, IsValidFix, holding, is_affected}
 
@@ -100,14 +100,14 @@ from-up None found u h k = refl
 from-up (Some introduced) found u h k = at_most-trans introduced found u h k
 
 -- a version from here up to the fix of a range that holds this one is held too
-held-up : (rs : List Range) (r : Range) (found u : Parts) → holding rs found ≡ Some r → is_at_most found u ≡ true → is_till r.fixed u ≡ true
+held-up : (rs : List Range) (r : Range) (found u : Parts) → holding rs found ≡ Some r → is_at_most found u ≡ true → is_until r.fixed u ≡ true
     → in_ranges rs u ≡ true
 held-up rs r found u h low high =
     let inside = found-holds (λ s. in_range s found) rs r h in
-    found-any (λ s. in_range s found) rs r (λ s. in_range s u) h (both (is_from r.introduced u) (is_till r.fixed u) (from-up r.introduced found u (both-first (is_from r.introduced found) (is_till r.fixed found) inside) low) high)
+    found-any (λ s. in_range s found) rs r (λ s. in_range s u) h (both (is_from r.introduced u) (is_until r.fixed u) (from-up r.introduced found u (both-first (is_from r.introduced found) (is_until r.fixed found) inside) low) high)
 
 any-way : (rs : List Range) (v : Parts) (r : Range) (found u : Parts) → IsUpTo rs v found → holding rs found ≡ Some r → IsVersion u
-    → is_at_most v u ≡ true → is_till r.fixed u ≡ true → in_ranges rs u ≡ true
+    → is_at_most v u ≡ true → is_until r.fixed u ≡ true → in_ranges rs u ≡ true
 any-way rs v r found u so h valid low high = elim (cases_Bool (is_below u found)) [
   | inl below ↦ so.held u valid low below
   | inr other ↦ held-up rs r found u h (not_below u found other) high
@@ -124,7 +124,7 @@ first-held rs v r found so h = elim so.way [
 pub up : (rs : List Range) (v : Parts) (r : Range) (found fixed : Parts) → HaveValidFixes rs → IsUpTo rs v found → holding rs found ≡ Some r
     → r.fixed ≡ Some fixed → IsUpTo rs v fixed
 up rs v r found fixed valid so h is =
-    let inside = both-second (is_from r.introduced found) (is_till r.fixed found) (found-holds (λ s. in_range s found) rs r h) in
+    let inside = both-second (is_from r.introduced found) (is_until r.fixed found) (found-holds (λ s. in_range s found) rs r h) in
     let below : is_below found fixed ≡ true = rw is at inside in
     let good : IsVersion fixed × (fixed.4 ≡ []) = rw is at (found-valid (λ s. in_range s found) rs r valid h) in
     record {
@@ -188,9 +188,9 @@ never all rs v found r answer of so first h is none = rw none (record {
 -- how many ranges end above a version
 abbrev pub left : List Range → Parts → ℕ
 left [] v = 0
-left (r ∷ rs) v = cond (is_till r.fixed v) 1 0 + left rs v
+left (r ∷ rs) v = cond (is_until r.fixed v) 1 0 + left rs v
 
-pub till-down : (fixed : Option Parts) (v w : Parts) → is_at_most v w ≡ true → is_till fixed w ≡ true → is_till fixed v ≡ true
+pub till-down : (fixed : Option Parts) (v w : Parts) → is_at_most v w ≡ true → is_until fixed w ≡ true → is_until fixed v ≡ true
 till-down None v w low h = refl
 till-down (Some fixed) v w low h = at_most-below v w fixed low h
 
@@ -205,7 +205,7 @@ fewer-head false false h = omega arith
 not-more : (rs : List Range) (v w : Parts) → is_at_most v w ≡ true → left rs w ≤ left rs v
 not-more [] v w low = omega arith
 not-more (r ∷ rs) v w low =
-    let head = fewer-head (is_till r.fixed v) (is_till r.fixed w) (till-down r.fixed v w low) in
+    let head = fewer-head (is_until r.fixed v) (is_until r.fixed w) (till-down r.fixed v w low) in
     let rest = not-more rs v w low in
     omega (arith, head, rest)
 
@@ -213,22 +213,22 @@ fewer-here : (a b : Bool) (m n : ℕ) → a ≡ true → b ≡ false → m ≤ n
 fewer-here a b m n h k l = rw (h, k) (omega (arith, l))
 
 -- fewer are left above the fix of a range that holds a version
-pub fewer : (rs : List Range) (p : Range → Bool) (r : Range) (v w : Parts) → find p rs ≡ Some r → is_till r.fixed v ≡ true → is_till r.fixed w ≡ false
+pub fewer : (rs : List Range) (p : Range → Bool) (r : Range) (v w : Parts) → find p rs ≡ Some r → is_until r.fixed v ≡ true → is_until r.fixed w ≡ false
     → is_at_most v w ≡ true → left rs w < left rs v
 fewer [] p r v w h ends ended low = cc h
 fewer (s ∷ rs) p r v w h ends ended low = elim (cases_Bool (p s)) [
   | inl here ↦
       let e : Some s ≡ Some r = rw here at h in
       let same : s ≡ r = cc e in
-      fewer-here (is_till s.fixed v) (is_till s.fixed w) _ _ (rw same ends) (rw same ended) (not-more rs v w low)
+      fewer-here (is_until s.fixed v) (is_until s.fixed w) _ _ (rw same ends) (rw same ended) (not-more rs v w low)
   | inr other ↦
-      let head = fewer-head (is_till s.fixed v) (is_till s.fixed w) (till-down s.fixed v w low) in
+      let head = fewer-head (is_until s.fixed v) (is_until s.fixed w) (till-down s.fixed v w low) in
       let rest = fewer rs p r v w (rw other at h) ends ended low in
       omega (arith, head, rest)
 ]
 
 pub fewer-left : (rs : List Range) (r : Range) (found fixed : Parts) → holding rs found ≡ Some r → r.fixed ≡ Some fixed → left rs fixed < left rs found
 fewer-left rs r found fixed h is =
-    let inside = both-second (is_from r.introduced found) (is_till r.fixed found) (found-holds (λ s. in_range s found) rs r h) in
+    let inside = both-second (is_from r.introduced found) (is_until r.fixed found) (found-holds (λ s. in_range s found) rs r h) in
     let below : is_below found fixed ≡ true = rw is at inside in
     fewer rs (λ s. in_range s found) r found fixed h inside (rw is (at_most-not_below fixed fixed (at_most-refl fixed))) (below-weak found fixed below)

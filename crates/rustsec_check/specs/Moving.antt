@@ -3,7 +3,7 @@ use Rattle.std.specs.Prelude.{◌≡◌, if◌then◌else◌, true, false, List,
 use Rattle.semver.specs.Parse.{Parts}
 use Rattle.rustsec_versions.specs.acceptance.Lists.{Lists}
 use Rattle.rustsec_versions.specs.order.Precedence.{IsVersion, is_at_most}
-use Rattle.rustsec_versions.specs.ranges.Ranges.{Range, in_range, is_till}
+use Rattle.rustsec_versions.specs.ranges.Ranges.{Range, in_range, is_until}
 use Rattle.rustsec_check.specs.LeastFree.{is_affected}
 
 -- the later one of a version and of where a range begins
@@ -17,7 +17,7 @@ pub record MovesIn (in_force : List Lists) (v : Parts) (answer : Option Parts) (
   pub at : Parts
   pub valid : IsVersion at
   pub from : is_at_most v at ≡ true
-  pub below : is_till answer at ≡ true
+  pub below : is_until answer at ≡ true
   pub inside : in_range r at ≡ true
   pub is_free : is_affected in_force at ≡ false
 

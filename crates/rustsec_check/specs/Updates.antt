@@ -5,7 +5,7 @@ use Rattle.semver.specs.Parse.{Parts}
 use Rattle.rustsec_versions.specs.Equality.{lists_eq}
 use Rattle.rustsec_versions.specs.acceptance.Lists.{Lists, affected}
 use Rattle.rustsec_versions.specs.order.Precedence.{IsVersion, is_at_most}
-use Rattle.rustsec_versions.specs.ranges.Ranges.{is_till}
+use Rattle.rustsec_versions.specs.ranges.Ranges.{is_until}
 use Rattle.rustsec_lock.specs.Package.{PackageValue}
 use Rattle.rustsec_texts.specs.Ids.{IdValue}
 use Rattle.rustsec_advisory.specs.declared.advisory.Advisory.{Advisory}
@@ -45,7 +45,7 @@ pub record Moves (in_force : List Lists) (v : Parts) (answer : Option Parts) (ls
   pub at : Parts
   pub valid : IsVersion at
   pub from : is_at_most v at ≡ true
-  pub below : is_till answer at ≡ true
+  pub below : is_until answer at ≡ true
   pub held : affected ls at ≡ true
   pub is_free : is_affected in_force at ≡ false
 

@@ -6,12 +6,12 @@ ghost use Rattle.semver.specs.Identifiers.{parts_of};
 ghost use Rattle.rustsec_error.specs.Failure.{IsMemory};
 ghost use Rattle.rustsec_versions.specs.acceptance.Lists.{Lists};
 ghost use Rattle.rustsec_versions.specs.order.Precedence.{IsVersion};
-ghost use Rattle.rustsec_versions.specs.ranges.Ranges.{is_till};
+ghost use Rattle.rustsec_versions.specs.ranges.Ranges.{is_until};
 ghost use Rattle.rustsec_check.specs.LeastFree.{AreRangesOfAll, IsValidStart};
 ghost use Rattle.rustsec_check.specs.Moving.{MovesIn, later};
 ghost use Rattle.rustsec_check.specs.Updates.{Moves};
 
-use crate::ranges::is_till;
+use crate::ranges::is_until;
 use crate::update::sweep;
 use rustsec_error::Result;
 use rustsec_versions::{OsvRange, Versions, ranges_for_advisory};
@@ -42,9 +42,9 @@ fn later<'a>(introduced: &'a Option<Version>, version: &'a Version) -> &'a Versi
 impl Answer<'_> {
     /// Returns whether a version is below the answer; each one is if there is no answer.
     fn is_above(&self, version: &Version) -> bool
-        ensures { result ≡ is_till (option_map parts_of self.now.least_free.now) (parts_of version.now) }
+        ensures { result ≡ is_until (option_map parts_of self.now.least_free.now) (parts_of version.now) }
     {
-        is_till(self.least_free, version)
+        is_until(self.least_free, version)
     }
 
     /// Returns whether a range holds a version, not below the one that is asked about and below the answer, that no range in
@@ -55,7 +55,7 @@ impl Answer<'_> {
     {
         let start = later(&range.introduced, self.version);
         match sweep(self.in_force, start) {
-            Some(found) => is_till(&range.fixed, found) && self.is_above(found),
+            Some(found) => is_until(&range.fixed, found) && self.is_above(found),
             None => false,
         }
     }

@@ -5,7 +5,7 @@ ghost use Rattle.std.specs.Option.{option_copied};
 ghost use Rattle.semver.specs.Identifiers.{parts_of};
 ghost use Rattle.rustsec_error.specs.Failure.{IsMemory};
 ghost use Rattle.rustsec_versions.specs.acceptance.Lists.{Lists};
-ghost use Rattle.rustsec_versions.specs.ranges.Ranges.{in_range, is_from, is_till};
+ghost use Rattle.rustsec_versions.specs.ranges.Ranges.{in_range, is_from, is_until};
 ghost use Rattle.rustsec_check.specs.LeastFree.{AreRangesOfAll, holding};
 
 use rustsec_error::Result;
@@ -24,8 +24,8 @@ fn is_from(introduced: &Option<Version>, version: &Version) -> bool
 }
 
 /// Returns whether a version is below where a range ends, in precedence.
-pub(crate) fn is_till(fixed: &Option<Version>, version: &Version) -> bool
-    ensures { result ≡ is_till (option_map parts_of fixed.now) (parts_of version.now) }
+pub(crate) fn is_until(fixed: &Option<Version>, version: &Version) -> bool
+    ensures { result ≡ is_until (option_map parts_of fixed.now) (parts_of version.now) }
 {
     match fixed {
         Some(fixed) => version.cmp_precedence(fixed).is_lt(),
@@ -37,7 +37,7 @@ pub(crate) fn is_till(fixed: &Option<Version>, version: &Version) -> bool
 fn is_in(range: &OsvRange, version: &Version) -> bool
     ensures { result ≡ in_range range.now (parts_of version.now) }
 {
-    is_from(&range.introduced, version) && is_till(&range.fixed, version)
+    is_from(&range.introduced, version) && is_until(&range.fixed, version)
 }
 
 /// Returns the first range that holds a version, if any.

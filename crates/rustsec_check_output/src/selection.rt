@@ -5,7 +5,7 @@ ghost use Rattle.std.specs.List.{filter, list_any};
 ghost use Rattle.rustsec_check_output.specs.CheckText.{is_at};
 
 use crate::rank::{Rank, Ranked};
-use rustsec_values::Test;
+use rustsec_values::Predicate;
 use std::alloc::{AllocError, Global};
 
 /// The test whether a finding is about the package at a place.
@@ -14,12 +14,12 @@ pub(crate) struct At {
     pub(crate) place: usize,
 }
 
-impl<'a> Test<Ranked<'a>> for At {
+impl<'a> Predicate<Ranked<'a>> for At {
     ghost use Rattle.rustsec_check_output.specs.CheckText.{is_at};
 
-    ghost passes = { λ test f. is_at test.place f };
+    ghost holds = { λ test f. is_at test.place f };
 
-    fn passes(&self, finding: &Ranked<'a>) -> bool {
+    fn holds(&self, finding: &Ranked<'a>) -> bool {
         finding.place() == self.place
     }
 }
@@ -30,12 +30,12 @@ pub(crate) struct Of {
     pub(crate) rank: Rank,
 }
 
-impl<'a> Test<Ranked<'a>> for Of {
+impl<'a> Predicate<Ranked<'a>> for Of {
     ghost use Rattle.rustsec_check_output.specs.CheckText.{is_of};
 
-    ghost passes = { λ test f. is_of test.rank f };
+    ghost holds = { λ test f. is_of test.rank f };
 
-    fn passes(&self, finding: &Ranked<'a>) -> bool {
+    fn holds(&self, finding: &Ranked<'a>) -> bool {
         finding.is_of(self.rank)
     }
 }
@@ -46,27 +46,27 @@ pub(crate) struct Above {
     pub(crate) rank: Rank,
 }
 
-impl<'a> Test<Ranked<'a>> for Above {
+impl<'a> Predicate<Ranked<'a>> for Above {
     ghost use Rattle.rustsec_check_output.specs.CheckText.{is_above};
 
-    ghost passes = { λ test f. is_above test.rank f };
+    ghost holds = { λ test f. is_above test.rank f };
 
-    fn passes(&self, finding: &Ranked<'a>) -> bool {
+    fn holds(&self, finding: &Ranked<'a>) -> bool {
         finding.is_above(self.rank)
     }
 }
 
 /// Returns the findings that pass a test, in order.
-pub(crate) fn selected<'a, T: Test<Ranked<'a>>>(
+pub(crate) fn selected<'a, T: Predicate<Ranked<'a>>>(
     alloc: Global,
     findings: &[Ranked<'a>],
     test: &T,
 ) -> Result<Vec<Ranked<'a>>, AllocError>
-    ensures { IfOk result (λ v. v.items ≡ filter (T.passes test.now) findings.now) }
+    ensures { IfOk result (λ v. v.items ≡ filter (T.holds test.now) findings.now) }
 {
     let mut found = Vec::new(alloc);
     for finding in findings {
-        if test.passes(finding) {
+        if test.holds(finding) {
             found.push(finding.copy())?;
         }
     }

@@ -5,7 +5,7 @@ ghost use Rattle.rustsec_commands.specs.Output.{refused, refused_as};
 ghost use Rattle.rustsec_error.specs.declared.error.ErrorKind.TheVariants as failure;
 
 use crate::output::Output;
-use rustsec_error::{Error, ErrorKind, refused_file};
+use rustsec_error::{Error, ErrorKind, file_error};
 use rustsec_shown::push_shown;
 use std::alloc::{AllocError, Global};
 
@@ -54,6 +54,6 @@ pub(crate) fn file_refusal_output(
     if error.kind() == ErrorKind::Io {
         return Ok(output);
     }
-    let named = refused_file(alloc, path, error);
+    let named = file_error(alloc, path, error);
     Ok(output.with_note(why(alloc, &named).ok()))
 }

@@ -9,7 +9,7 @@ ghost use Rattle.rustsec_commands.specs.Output.{malformed, tree_line, usage};
 
 use crate::fault::Fault;
 use crate::input::Malformed;
-use rustsec_error::refused_text;
+use rustsec_error::text_error;
 use rustsec_shown::push_shown;
 use serde_json::Value;
 use std::alloc::{AllocError, Global};
@@ -109,7 +109,7 @@ fn line_note(alloc: Global, found: Malformed<'_>) -> Result<String, AllocError> 
     let text = str::from_utf8(found.line).unwrap_or("bytes that are no UTF-8");
     push_shown(
         &mut note,
-        refused_text(alloc, "malformed", text, LINES).message(),
+        text_error(alloc, "malformed", text, LINES).message(),
     )?;
     note.push('\n')?;
     Ok(note)

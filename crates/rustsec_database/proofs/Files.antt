@@ -9,7 +9,7 @@ use Rattle.rustsec_error.specs.Failure.{Failure, IsMemory, IsOfKind}
 use Rattle.rustsec_error.specs.Refusals.{of_file}
 use Rattle.rustsec_error.specs.declared.error.ErrorKind.TheVariants as kind
 use Rattle.rustsec_advisory.specs.declared.advisory.Advisory.{Advisory}
-use Rattle.rustsec_database.specs.Filing.{IsFiled}
+use Rattle.rustsec_database.specs.Placement.{IsFiled}
 use Rattle.rustsec_database.specs.Loaded.{AreFiled, AreLoaded, HaveOwnIds, IsAdded, IsAtFault, IsFault, IsFirstFault, has_id, is_known, is_stored}
 use Rattle.rustsec_folders.specs.declared.source_file.SourceFile.{SourceFile}
 use Rattle.rustsec_database.proofs.Places.{is-false}

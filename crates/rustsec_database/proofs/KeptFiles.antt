@@ -13,7 +13,7 @@ use Rattle.rustsec_advisory.specs.declared.advisory.Advisory.{Advisory}
 use Rattle.rustsec_folders.specs.Allowed.{Allowed, AllowSame}
 use Rattle.rustsec_folders.specs.Listed.{IsFile, Pairwise, Paths}
 use Rattle.rustsec_folders.specs.declared.source_file.SourceFile.{SourceFile}
-use Rattle.rustsec_database.specs.Filing.{IsFiled, IsMisfiled}
+use Rattle.rustsec_database.specs.Placement.{IsFiled, IsMisfiled}
 use Rattle.rustsec_database.specs.Kept.{AreOpenedFor, HaveIdsAmong, IsKept, IsKeptLoadOf, IsKeptWith, KeptValue}
 use Rattle.rustsec_database.specs.Latest.{later}
 use Rattle.rustsec_database.specs.Loaded.{AreLoaded, IsAtFault, IsFault, IsFirstFault, has_id, is_known, is_stored}

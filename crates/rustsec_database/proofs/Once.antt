@@ -13,7 +13,7 @@ use Rattle.rustsec_advisory.specs.declared.advisory.Advisory.{Advisory}
 use Rattle.rustsec_folders.specs.Allowed.{Allowed, AnswersOnce}
 use Rattle.rustsec_folders.specs.declared.source_file.SourceFile.{SourceFile}
 use Rattle.rustsec_folders.proofs.Once.{listed-once, listed-or-error}
-use Rattle.rustsec_database.specs.Filing.{IsFiled, IsMisfiled, placed_in, kind_of, path_verdict}
+use Rattle.rustsec_database.specs.Placement.{IsFiled, IsMisfiled, placed_in, kind_of, path_verdict}
 use Rattle.rustsec_database.specs.Loaded.{AreFiled, AreLoaded, HaveOwnIds, IsAtFault, IsFirstFault, has_id, is_known, is_stored}
 use Rattle.rustsec_database.specs.Opened.{AreOpened, IsOpenRefusal}
 

@@ -16,7 +16,7 @@ use Rattle.rustsec_values.specs.Reading.{only_if}
 use Rattle.rustsec_versions.specs.acceptance.Lists.{Lists, affected}
 use Rattle.rustsec_versions.specs.interval.Interval.{Interval, exclusive, holds, inclusive, unbounded}
 use Rattle.rustsec_versions.specs.order.Precedence.{is_at_most, is_below}
-use Rattle.rustsec_versions.specs.ranges.Ranges.{in_range, is_from, is_till}
+use Rattle.rustsec_versions.specs.ranges.Ranges.{in_range, is_from, is_until}
 use Rattle.rustsec_versions.specs.requirement.Requirement.{admitted, base_version, fits, interval_of, names_version, of_one}
 use Rattle.rustsec_versions.proofs.lemmas.order.PrecedenceLaws.{at_most-trans, not_at_most, not_below}
 use Rattle.rustsec_versions.proofs.lemmas.requirement.Sound.{and-first, and-second, only_if-true, some-same}
@@ -171,7 +171,7 @@ ended ls x v is at = unaffected ls v (in-front ls.patched ls.unaffected v (first
 unstarted : (ls : Lists) (x v : Parts) → first_start ls.unaffected ≡ Some x → is_below v x ≡ true → affected ls v ≡ false
 unstarted ls x v is at = unaffected ls v (at-back ls.patched ls.unaffected v (first-start-holds ls.unaffected x v is at))
 
-till-span : (ls : Lists) (v : Parts) (o : Option Parts) → first_end ls.patched ≡ o → affected ls v ≡ true → is_till o v ≡ true
+till-span : (ls : Lists) (v : Parts) (o : Option Parts) → first_end ls.patched ≡ o → affected ls v ≡ true → is_until o v ≡ true
 till-span ls v None is h = refl
 till-span ls v (Some x) is h = elim (cases_Bool (is_below v x)) [
   | inl below ↦ below
@@ -190,12 +190,12 @@ pub in-span : (ls : Lists) (v : Parts) → affected ls v ≡ true → in_range (
 unfolding span_of
 in-span ls v h = both _ _ (from-span ls v (first_start ls.unaffected) refl h) (till-span ls v (first_end ls.patched) refl h)
 
-past : (ls : Lists) (v w : Parts) (o : Option Parts) → first_end ls.patched ≡ o → is_till o v ≡ false → is_at_most v w ≡ true → affected ls w ≡ false
+past : (ls : Lists) (v w : Parts) (o : Option Parts) → first_end ls.patched ≡ o → is_until o v ≡ false → is_at_most v w ≡ true → affected ls w ≡ false
 past ls v w None is h at = cc h
 past ls v w (Some x) is h at = ended ls x w is (at_most-trans x v w (not_below v x h) at)
 
 -- from a version on that is not below the end of the span no version is affected
-pub past-span : (ls : Lists) (v w : Parts) → is_till (span_of ls).fixed v ≡ false → is_at_most v w ≡ true → affected ls w ≡ false
+pub past-span : (ls : Lists) (v w : Parts) → is_until (span_of ls).fixed v ≡ false → is_at_most v w ≡ true → affected ls w ≡ false
 unfolding span_of
 past-span ls v w h at = past ls v w (first_end ls.patched) refl h at
 

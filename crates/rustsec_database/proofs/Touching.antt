@@ -4,7 +4,7 @@ use Rattle.std.proofs.lemmas.List.{length-take-le, take_more}
 use Rattle.std.specs.Cmp.Lexicographic.{bytes_decides, pointwise}
 use Rattle.std.specs.List.{cons_option, filter, filter_map, list_any, slice_get}
 use Rattle.rustsec_versions.specs.acceptance.Lists.{affected}
-use Rattle.rustsec_versions.specs.ranges.Ranges.{is_till}
+use Rattle.rustsec_versions.specs.ranges.Ranges.{is_until}
 use Rattle.rustsec_lock.specs.Package.{PackageValue}
 use Rattle.rustsec_advisory.specs.declared.advisory.Advisory.{Advisory}
 use Rattle.rustsec_database.specs.Kept.{bears_on_any, touches_any}
@@ -82,4 +82,4 @@ touched packages a slots are = named-any packages (λ p. affected a.versions p.v
 -- and it bears on one of them exactly if it bears on one of its name
 pub borne : (packages : List PackageValue) (a : Advisory) (slots : List ℕ) → slots ≡ places_from (is_named a.metadata.«package») 0 packages
     → list_any (bears_at (span_of a.versions).fixed packages) slots ≡ bears_on_any packages a
-borne packages a slots are = named-any packages (λ p. is_till (span_of a.versions).fixed p.version) a.metadata.«package» slots are
+borne packages a slots are = named-any packages (λ p. is_until (span_of a.versions).fixed p.version) a.metadata.«package» slots are

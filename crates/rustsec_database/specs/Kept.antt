@@ -4,7 +4,7 @@ use Rattle.std.specs.Cmp.Lexicographic.{pointwise}
 use Rattle.std.specs.List.{filter, list_any}
 use Rattle.rustsec_error.specs.Failure.{Failure, IsMemory}
 use Rattle.rustsec_versions.specs.acceptance.Lists.{affected}
-use Rattle.rustsec_versions.specs.ranges.Ranges.{is_till}
+use Rattle.rustsec_versions.specs.ranges.Ranges.{is_until}
 use Rattle.rustsec_lock.specs.Package.{PackageValue}
 use Rattle.rustsec_texts.specs.IdOrder.{id_eq}
 use Rattle.rustsec_texts.specs.Ids.{IdValue}
@@ -53,7 +53,7 @@ is_about a p = pointwise nat_eq a.metadata.«package» p.name
 -- an advisory bears on a package: it is about it, and the first patched requirement that is `>=` of a release alone, if any,
 -- does not hold its version; where it does, it holds all later ones too
 abbrev pub bears_on : Advisory → PackageValue → Bool
-bears_on a p = is_about a p && is_till (span_of a.versions).fixed p.version
+bears_on a p = is_about a p && is_until (span_of a.versions).fixed p.version
 
 -- an advisory bears on one of some packages
 abbrev pub bears_on_any : List PackageValue → Advisory → Bool

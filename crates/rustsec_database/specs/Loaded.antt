@@ -7,7 +7,7 @@ use Rattle.rustsec_error.specs.declared.error.ErrorKind.TheVariants as kind
 use Rattle.rustsec_texts.specs.IdOrder.{id_eq}
 use Rattle.rustsec_texts.specs.Ids.{IdValue, is_placeholder}
 use Rattle.rustsec_advisory.specs.declared.advisory.Advisory.{Advisory}
-use Rattle.rustsec_database.specs.Filing.{IsFiled, IsMisfiled}
+use Rattle.rustsec_database.specs.Placement.{IsFiled, IsMisfiled}
 use Rattle.rustsec_folders.specs.declared.source_file.SourceFile.{SourceFile}
 
 -- an advisory is stored unless its ID is the placeholder

@@ -8,7 +8,7 @@ use Rattle.std.specs.Option.{option_eq}
 use denote.Enum.Bare.{sameb}
 use Rattle.semver.specs.Parse.{Parts}
 use Rattle.rustsec_versions.specs.acceptance.Lists.{Lists, affected}
-use Rattle.rustsec_versions.specs.ranges.Ranges.{is_till}
+use Rattle.rustsec_versions.specs.ranges.Ranges.{is_until}
 use Rattle.rustsec_lock.specs.Package.{PackageValue}
 use Rattle.rustsec_texts.specs.IdOrder.{id_eq}
 use Rattle.rustsec_texts.specs.Ids.{IdValue}
@@ -63,4 +63,4 @@ affects_at versions packages place = holds_at (λ (p : PackageValue). affected v
 
 -- whether there is a package at a place, and its version is below where a span ends
 abbrev pub bears_at : Option Parts → List PackageValue → ℕ → Bool
-bears_at fixed packages place = holds_at (λ (p : PackageValue). is_till fixed p.version) (slice_get packages place)
+bears_at fixed packages place = holds_at (λ (p : PackageValue). is_until fixed p.version) (slice_get packages place)

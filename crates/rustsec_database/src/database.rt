@@ -29,7 +29,7 @@ use rustsec_lock::Lockfile;
 use rustsec_lock::package::{Name, Package};
 use rustsec_query::{Query, Vulnerability};
 use rustsec_texts::{Collection, Id};
-use rustsec_values::Test;
+use rustsec_values::Predicate;
 use semver::Version;
 use std::alloc::{AllocError, Global};
 use std::marker::Model;
@@ -104,22 +104,22 @@ impl<'a> Screen<'a> {
 
 /// Returns the advisories in some slots that pass a test, in the order of the slots. Only those whose span holds the
 /// version of the screen may pass.
-fn matching<'a, T: Test<Advisory>>(
+fn matching<'a, T: Predicate<Advisory>>(
     alloc: Global,
     entries: &'a Entries,
     screen: &Screen<'_>,
     slots: &[Slot],
     test: &T,
 ) -> std::result::Result<Vec<&'a Advisory>, AllocError>
-    requires { (place : ℕ) (a : given.Advisory) → Some a ≡ slice_get entries.now place → T.passes test.now a ≡ true
+    requires { (place : ℕ) (a : given.Advisory) → Some a ≡ slice_get entries.now place → T.holds test.now a ≡ true
         → is_near screen.now.0 screen.now.1 place ≡ true }
-    ensures { IfOk result (λ v. map (λ a. a.now) v.items ≡ filter (T.passes test.now) (at_places slots.now entries.now)) }
+    ensures { IfOk result (λ v. map (λ a. a.now) v.items ≡ filter (T.holds test.now) (at_places slots.now entries.now)) }
 {
     let mut found = Vec::new(alloc);
     for slot in slots {
         if screen.is_near(*slot) {
             if let Some(advisory) = entries.get(*slot) {
-                if test.passes(advisory) {
+                if test.holds(advisory) {
                     found.push(advisory)?;
                 }
             }
@@ -129,17 +129,17 @@ fn matching<'a, T: Test<Advisory>>(
 }
 
 /// Returns the advisories that pass a test, in the order in which they were loaded.
-fn all_matching<'a, T: Test<Advisory>>(
+fn all_matching<'a, T: Predicate<Advisory>>(
     alloc: Global,
     entries: &'a Entries,
     test: &T,
 ) -> std::result::Result<Vec<&'a Advisory>, AllocError>
-    ensures { IfOk result (λ v. map (λ a. a.now) v.items ≡ filter (T.passes test.now) entries.now) }
+    ensures { IfOk result (λ v. map (λ a. a.now) v.items ≡ filter (T.holds test.now) entries.now) }
 {
     entries
         .as_slice()
         .iter()
-        .filter(|advisory| test.passes(advisory))
+        .filter(|advisory| test.holds(advisory))
         .collect(alloc)
 }
 
@@ -233,16 +233,16 @@ impl Database {
 
     /// Uses the index to find the advisories that pass a test, in the order in which they were loaded. Only advisories of
     /// this collection and this package name that affect this version may pass the test.
-    fn indexed<T: Test<Advisory>>(
+    fn indexed<T: Predicate<Advisory>>(
         &self,
         alloc: Global,
         sought: Sought<'_>,
         test: &T,
     ) -> std::result::Result<Vec<&Advisory>, AllocError>
-        requires under { (a : given.Advisory) → T.passes test.now a ≡ true → is_under sought.collection sought.name.now a ≡ true }
-        requires affects { (a : given.Advisory) → T.passes test.now a ≡ true
+        requires under { (a : given.Advisory) → T.holds test.now a ≡ true → is_under sought.collection sought.name.now a ≡ true }
+        requires affects { (a : given.Advisory) → T.holds test.now a ≡ true
             → if_there (affected a.versions) (option_map (λ v. parts_of v.now) sought.version) ≡ true }
-        ensures { IfOk result (λ v. map (λ a. a.now) v.items ≡ filter (T.passes test.now) self.now) }
+        ensures { IfOk result (λ v. map (λ a. a.now) v.items ≡ filter (T.holds test.now) self.now) }
     {
         let screen = self.screen(sought.version);
         let slots = self.slots(sought.collection, sought.name);

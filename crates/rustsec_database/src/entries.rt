@@ -13,10 +13,10 @@ ghost use Rattle.rustsec_texts.specs.IdOrder.{id_eq};
 ghost use Rattle.rustsec_database.specs.Loaded.{IsAdded, IsAtFault, IsFault, IsOnlyWithId, has_id, is_known};
 ghost use Rattle.rustsec_database.specs.Opened.{IsAddedAt, IsFaultAt};
 
-use crate::filing::filed;
+use crate::placement::load_placed;
 use crate::slot::Slot;
 use rustsec_advisory::Advisory;
-use rustsec_error::{Error, ErrorKind, Result, refused_file};
+use rustsec_error::{Error, ErrorKind, Result, file_error};
 use rustsec_folders::{Folders, RealFolders};
 use rustsec_texts::Id;
 use rustsec_values::exact_copy;
@@ -48,7 +48,7 @@ impl Model for Entries {
 }
 
 /// Makes the error for a file whose ID is that of a stored advisory.
-pub(crate) fn duplicate(alloc: Global, id: &Id) -> Error
+pub(crate) fn duplicate_error(alloc: Global, id: &Id) -> Error
     ensures { IsOfKind ErrorKind.Parse result }
 {
     match format!(in alloc; "the ID `{id}` stands in an earlier file, expected a new one") {
@@ -103,7 +103,7 @@ impl Entries {
         let slot = Slot::new(self.advisories.as_slice().len());
         self.advisories.reserve(1)?;
         if !put_new(&mut self.slots, id, slot)? {
-            return Err(duplicate(alloc, &advisory.metadata.id));
+            return Err(duplicate_error(alloc, &advisory.metadata.id));
         }
         // There is room, so this is not refused.
         self.advisories.push(advisory).map_err(|_| AllocError)?;
@@ -117,7 +117,7 @@ impl Entries {
         ensures kept { OnErr result (self.new ≡ self.old) }
         ensures err { IfErr result (λ e. IsAtFault self.old path.now text.now e.kind ⊎ IsMemory e) }
     {
-        let advisory = filed(alloc, path, text)?;
+        let advisory = load_placed(alloc, path, text)?;
         if advisory.metadata.id.is_placeholder() {
             return Ok(None);
         }
@@ -147,7 +147,7 @@ impl Entries {
     {
         match self.add(alloc, path, text) {
             Ok(slot) => Ok(slot),
-            Err(e) => Err(refused_file(alloc, path, &e)),
+            Err(e) => Err(file_error(alloc, path, &e)),
         }
     }
 

@@ -13,13 +13,13 @@ ghost use Rattle.rustsec_database.specs.Latest.{later};
 ghost use Rattle.rustsec_database.specs.Loaded.{IsAtFault, IsFault, is_known};
 ghost use Rattle.rustsec_database.specs.Opened.{AreRead, IsReadRefusal};
 
-use crate::entries::{Entries, duplicate};
-use crate::filing::filed;
+use crate::entries::{Entries, duplicate_error};
+use crate::placement::load_placed;
 use rustsec_advisory::Advisory;
-use rustsec_error::{Result, refused_file};
+use rustsec_error::{Result, file_error};
 use rustsec_folders::Folders;
 use rustsec_texts::{Date, Id};
-use rustsec_values::{Items, Test, Text, exact_copy};
+use rustsec_values::{Items, Predicate, Text, exact_copy};
 use std::alloc::{AllocError, Global};
 use std::collections::HashSet;
 use std::marker::Model;
@@ -49,17 +49,17 @@ fn later(latest: Option<Date>, date: &Date) -> std::result::Result<Option<Date>,
 }
 
 /// Stores an advisory if it passes a test. No stored one has its ID.
-fn store_if<T: Test<Advisory>>(
+fn store_if<T: Predicate<Advisory>>(
     alloc: Global,
     entries: Entries,
     advisory: Advisory,
     test: &T,
 ) -> Result<Entries>
     requires { is_known entries advisory ≡ false }
-    ensures ok { IfOk result (λ more. more ≡ (if T.passes test.now advisory then entries ++ advisory ∷ [] else entries)) }
+    ensures ok { IfOk result (λ more. more ≡ (if T.holds test.now advisory then entries ++ advisory ∷ [] else entries)) }
     ensures err { IfErr result IsMemory }
 {
-    if test.passes(&advisory) {
+    if test.holds(&advisory) {
         entries.with_advisory(alloc, advisory)
     } else {
         Ok(entries)
@@ -98,19 +98,19 @@ impl Keeping {
 
     /// Adds the advisory of a file, unless its ID is the placeholder: its ID, its date if it is the latest,
     /// and the advisory itself if it passes a test.
-    fn added<T: Test<Advisory>>(
+    fn added<T: Predicate<Advisory>>(
         self,
         alloc: Global,
         path: &str,
         text: &str,
         test: &T,
     ) -> Result<Keeping>
-        ensures ok { IfOk result (λ k. (all : List given.Advisory) → IsKept (T.passes test.now) all self
-            → IsKeptWith (T.passes test.now) all path.now text.now k) }
-        ensures err { IfErr result (λ e. (all : List given.Advisory) → IsKept (T.passes test.now) all self
+        ensures ok { IfOk result (λ k. (all : List given.Advisory) → IsKept (T.holds test.now) all self
+            → IsKeptWith (T.holds test.now) all path.now text.now k) }
+        ensures err { IfErr result (λ e. (all : List given.Advisory) → IsKept (T.holds test.now) all self
             → IsAtFault all path.now text.now e.kind ⊎ IsMemory e) }
     {
-        let advisory = filed(alloc, path, text)?;
+        let advisory = load_placed(alloc, path, text)?;
         if advisory.metadata.id.is_placeholder() {
             return Ok(self);
         }
@@ -121,7 +121,7 @@ impl Keeping {
         } = self;
         let fresh = add_id(&mut ids, &advisory.metadata.id)?;
         if !fresh {
-            return Err(duplicate(alloc, &advisory.metadata.id));
+            return Err(duplicate_error(alloc, &advisory.metadata.id));
         }
         let last_date = later(last_date, &advisory.metadata.date)?;
         let entries = store_if(alloc, entries, advisory, test)?;
@@ -133,36 +133,36 @@ impl Keeping {
     }
 
     /// Loads one more file, with this path and this text, and returns what is kept.
-    fn with_file<T: Test<Advisory>>(
+    fn with_file<T: Predicate<Advisory>>(
         self,
         alloc: Global,
         path: &str,
         text: &str,
         test: &T,
     ) -> Result<Keeping>
-        ensures ok { IfOk result (λ k. (all : List given.Advisory) → IsKept (T.passes test.now) all self
-            → IsKeptWith (T.passes test.now) all path.now text.now k) }
-        ensures err { IfErr result (λ e. (all : List given.Advisory) → IsKept (T.passes test.now) all self
+        ensures ok { IfOk result (λ k. (all : List given.Advisory) → IsKept (T.holds test.now) all self
+            → IsKeptWith (T.holds test.now) all path.now text.now k) }
+        ensures err { IfErr result (λ e. (all : List given.Advisory) → IsKept (T.holds test.now) all self
             → IsFault all path.now text.now e) }
     {
         match self.added(alloc, path, text, test) {
             Ok(kept) => Ok(kept),
-            Err(e) => Err(refused_file(alloc, path, &e)),
+            Err(e) => Err(file_error(alloc, path, &e)),
         }
     }
 }
 
 /// Loads one more file after the files before it. If `before` is an error, that error is returned and
 /// the file is not loaded.
-fn keep_next<T: Test<Advisory>>(
+fn keep_next<T: Predicate<Advisory>>(
     alloc: Global,
     before: Result<Keeping>,
     path: &str,
     text: &str,
     test: &T,
 ) -> Result<Keeping>
-    ensures { (files : List SourceFile) → IsKeptLoadOf (T.passes test.now) files before
-        → IsKeptLoadOf (T.passes test.now) (files ++ record { path = path.now; text = text.now } ∷ []) result }
+    ensures { (files : List SourceFile) → IsKeptLoadOf (T.holds test.now) files before
+        → IsKeptLoadOf (T.holds test.now) (files ++ record { path = path.now; text = text.now } ∷ []) result }
 {
     let kept = before?;
     kept.with_file(alloc, path, text, test)
@@ -170,13 +170,13 @@ fn keep_next<T: Test<Advisory>>(
 
 /// Loads the files at some paths. Files after one at fault are read too. One text is held at a time, and a path until its
 /// file is loaded.
-pub(crate) fn keep_paths<F: Folders, T: Test<Advisory>>(
+pub(crate) fn keep_paths<F: Folders, T: Predicate<Advisory>>(
     alloc: Global,
     folders: &mut F,
     paths: Items<Text>,
     test: &T,
 ) -> Result<Keeping>
-    ensures ok { IfOk result (λ k. (all : List given.Advisory) × (AreRead (F.allowed folders.old) paths all × IsKept (T.passes test.now) all k)) }
+    ensures ok { IfOk result (λ k. (all : List given.Advisory) × (AreRead (F.allowed folders.old) paths all × IsKept (T.holds test.now) all k)) }
     ensures err { IfErr result (IsReadRefusal (F.allowed folders.old) paths) }
     ensures same { AllowSame (F.allowed folders.old) (F.allowed folders.new) }
 {

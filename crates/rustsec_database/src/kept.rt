@@ -14,7 +14,7 @@ use rustsec_advisory::Advisory;
 use rustsec_error::Result;
 use rustsec_folders::{Folders, source_paths};
 use rustsec_texts::{Date, Id};
-use rustsec_values::Test;
+use rustsec_values::Predicate;
 use std::alloc::Global;
 use std::collections::HashSet;
 use std::marker::Model;
@@ -103,13 +103,13 @@ impl KeptDatabase {
     /// # Errors
     ///
     /// As `Database::open_with`.
-    pub fn open_with<F: Folders, T: Test<Advisory>>(
+    pub fn open_with<F: Folders, T: Predicate<Advisory>>(
         alloc: Global,
         folders: &mut F,
         root: &str,
         test: &T,
     ) -> Result<KeptDatabase>
-        ensures ok { IfOk result (AreOpenedFor (F.allowed folders.old) root.now (T.passes test.now)) }
+        ensures ok { IfOk result (AreOpenedFor (F.allowed folders.old) root.now (T.holds test.now)) }
         ensures err { IfErr result (IsOpenRefusal (F.allowed folders.old) root.now) }
         ensures same { AllowSame (F.allowed folders.old) (F.allowed folders.new) }
     {

@@ -3,7 +3,6 @@
 
 mod database;
 mod entries;
-pub mod filing;
 mod index;
 mod indexes;
 mod keeping;
@@ -12,6 +11,7 @@ mod locked;
 mod matches;
 mod open;
 mod pair;
+pub mod placement;
 mod slot;
 mod span;
 

@@ -12,7 +12,7 @@ use crate::span::{Span, span_of};
 use rustsec_advisory::Advisory;
 use rustsec_error::Result;
 use rustsec_lock::package::{Name, Package};
-use rustsec_values::Test;
+use rustsec_values::Predicate;
 use rustsec_versions::Versions;
 use std::alloc::Global;
 use std::marker::Model;
@@ -100,12 +100,12 @@ impl<'a> Locked<'a> {
     }
 }
 
-impl<'a> Test<Advisory> for Locked<'a> {
+impl<'a> Predicate<Advisory> for Locked<'a> {
     ghost use Rattle.rustsec_database.specs.Kept.{touches_any};
 
-    ghost passes = { λ packages a. touches_any packages a };
+    ghost holds = { λ packages a. touches_any packages a };
 
-    fn passes(&self, advisory: &Advisory) -> bool {
+    fn holds(&self, advisory: &Advisory) -> bool {
         let slots = self.slots(&advisory.metadata.package);
         affects_some(&advisory.versions, self.packages, slots)
     }
@@ -116,7 +116,7 @@ fn bears_at(span: &Span, packages: &[Package], slot: Slot) -> bool
     ensures { result ≡ bears_at span.now.fixed packages.now slot }
 {
     match packages.get(slot.place()) {
-        Some(package) => span.is_till(&package.version),
+        Some(package) => span.is_until(&package.version),
         None => false,
     }
 }
@@ -161,12 +161,12 @@ impl<'a> Bearing<'a> {
     }
 }
 
-impl<'a> Test<Advisory> for Bearing<'a> {
+impl<'a> Predicate<Advisory> for Bearing<'a> {
     ghost use Rattle.rustsec_database.specs.Kept.{bears_on_any};
 
-    ghost passes = { λ packages a. bears_on_any packages a };
+    ghost holds = { λ packages a. bears_on_any packages a };
 
-    fn passes(&self, advisory: &Advisory) -> bool {
+    fn holds(&self, advisory: &Advisory) -> bool {
         let named = self.locked.slots(&advisory.metadata.package);
         let span = span_of(&advisory.versions);
         bears_on_some(&span, self.locked.packages(), named)

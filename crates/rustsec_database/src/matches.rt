@@ -3,7 +3,7 @@
 use rustsec_advisory::Advisory;
 use rustsec_lock::package::Package;
 use rustsec_query::Query;
-use rustsec_values::Test;
+use rustsec_values::Predicate;
 
 /// The test whether an advisory matches a query.
 #[derive(Drop)]
@@ -11,12 +11,12 @@ pub(crate) struct Matches<'a> {
     pub(crate) query: &'a Query,
 }
 
-impl<'a> Test<Advisory> for Matches<'a> {
+impl<'a> Predicate<Advisory> for Matches<'a> {
     ghost use Rattle.rustsec_query.specs.Selects.{selects};
 
-    ghost passes = { λ test a. selects test.query.now a };
+    ghost holds = { λ test a. selects test.query.now a };
 
-    fn passes(&self, advisory: &Advisory) -> bool {
+    fn holds(&self, advisory: &Advisory) -> bool {
         self.query.matches(advisory)
     }
 }
@@ -28,13 +28,13 @@ pub(crate) struct MatchesPackage<'a> {
     pub(crate) package: &'a Package,
 }
 
-impl<'a> Test<Advisory> for MatchesPackage<'a> {
+impl<'a> Predicate<Advisory> for MatchesPackage<'a> {
     ghost use Rattle.rustsec_query.specs.Query.{of_package};
     ghost use Rattle.rustsec_query.specs.Selects.{selects};
 
-    ghost passes = { λ test a. selects (of_package test.query.now test.«package».now) a };
+    ghost holds = { λ test a. selects (of_package test.query.now test.«package».now) a };
 
-    fn passes(&self, advisory: &Advisory) -> bool {
+    fn holds(&self, advisory: &Advisory) -> bool {
         self.query.matches_package(self.package, advisory)
     }
 }

@@ -3,7 +3,7 @@
 ghost use Rattle.std.specs.Prelude.{◌≡◌, ◌&&◌, [], IfOk, map, true};
 ghost use Rattle.semver.specs.Identifiers.{comparator_view, parts_of};
 ghost use Rattle.rustsec_versions.specs.Views.{comparators_of};
-ghost use Rattle.rustsec_versions.specs.ranges.Ranges.{in_range, is_from, is_till};
+ghost use Rattle.rustsec_versions.specs.ranges.Ranges.{in_range, is_from, is_until};
 ghost use Rattle.rustsec_versions.specs.requirement.Requirement.{fits};
 ghost use Rattle.rustsec_database.specs.Spans.{end_by, first_end, first_start, release_of, span_of, spans_of, start_by};
 
@@ -167,8 +167,8 @@ impl Span {
     }
 
     /// Returns whether a version is below where the span ends.
-    pub(crate) fn is_till(&self, version: &Version) -> bool
-        ensures { result ≡ is_till self.now.fixed (parts_of version.now) }
+    pub(crate) fn is_until(&self, version: &Version) -> bool
+        ensures { result ≡ is_until self.now.fixed (parts_of version.now) }
     {
         match &self.fixed {
             Some(release) => version.cmp_precedence(&release.version()).is_lt(),
@@ -180,6 +180,6 @@ impl Span {
     pub(crate) fn holds(&self, version: &Version) -> bool
         ensures { result ≡ in_range self.now (parts_of version.now) }
     {
-        self.is_from(version) && self.is_till(version)
+        self.is_from(version) && self.is_until(version)
     }
 }

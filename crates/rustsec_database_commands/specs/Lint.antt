@@ -1,6 +1,6 @@
 -- The output of `lint-database`.
 use Rattle.std.specs.Prelude.{◌≡◌, ◌==◌, ℕ, Bool, List, [], ◌∷◌, Option, Some, None, codes, if◌then◌else◌, length}
-use Rattle.rustsec_values.specs.ClosedTables.{value_named}
+use Rattle.rustsec_values.specs.ClosedTables.{from_name}
 use Rattle.rustsec_folders.specs.Allowed.{Allowed}
 use Rattle.rustsec_folders.specs.Listed.{Paths}
 use Rattle.rustsec_error.specs.declared.error.ErrorKind.TheVariants as kind
@@ -27,7 +27,7 @@ forms = form.Text ∷ form.Json ∷ []
 -- the form of a name, and text without one; `None` if the name is unknown
 abbrev pub form_named : Option (List ℕ) → Option Form
 form_named None = Some form.Text
-form_named (Some name) = value_named form_name forms name
+form_named (Some name) = from_name form_name forms name
 
 -- ---- the files
 

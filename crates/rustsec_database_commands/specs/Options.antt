@@ -2,7 +2,7 @@
 use Rattle.std.specs.Prelude.{ℕ, Bool, true, false, List, [], ◌∷◌, Option, Some, None, codes, option_map}
 use Rattle.std.specs.List.{fold, list_any}
 use Rattle.std.specs.Str.{bytes_eq}
-use Rattle.rustsec_values.specs.ClosedTables.{value_named}
+use Rattle.rustsec_values.specs.ClosedTables.{from_name}
 use Rattle.rustsec_values.specs.Reading.{◌>>=◌}
 use Rattle.rustsec_database_commands.specs.declared.options.Flag.{Flag}
 use Rattle.rustsec_database_commands.specs.declared.options.Flag.TheVariants as flag
@@ -18,7 +18,7 @@ abbrev pub flags : List Flag
 flags = flag.Upstream ∷ flag.Progress ∷ []
 
 abbrev pub flag_of : List ℕ → Option Flag
-flag_of = value_named flag_name flags
+flag_of = from_name flag_name flags
 
 -- whether a word is the option with a value: the word after it
 abbrev pub is_format : List ℕ → Bool

@@ -1,11 +1,11 @@
 -- Options word by word, for the function that reads them: what a contract sees of what is asked for, and what one more word adds.
 use Rattle.std.specs.Prelude.{ℕ, Bool, true, false, List, [], ◌∷◌, Option, Some, None, option_map}
 use Rattle.rustsec_database_commands.specs.Options.{AskedValue, LintOption, flag_of, format, is_format, set}
-use Rattle.rustsec_database_commands.specs.declared.options.Asked as declared
+use Rattle.rustsec_database_commands.specs.declared.options.LintInput as declared
 use Rattle.rustsec_database_commands.specs.declared.options.Flag.{Flag}
 use Rattle.rustsec_database_commands.specs.declared.options.Flag.TheVariants as flag
 
-abbrev pub asked_view : declared.Asked → AskedValue
+abbrev pub asked_view : declared.LintInput → AskedValue
 asked_view a = record { format = option_map (λ t. t.now) a.format; upstream = a.upstream; progress = a.progress }
 
 -- the option that a word ends, if it ends one, and whether `--format` still awaits its value; `None` if the word is not an option

@@ -4,8 +4,8 @@ ghost use Rattle.std.specs.Prelude.{◌≡◌, IfErr, IfOk, None, Some, option_m
 ghost use Rattle.rustsec_error.specs.Failure.{IsRefusal};
 ghost use Rattle.rustsec_database_commands.specs.Lint.{form_named};
 
-use rustsec_error::{ErrorKind, Result, refused_text};
-use rustsec_values::{Named, value_named};
+use rustsec_error::{ErrorKind, Result, text_error};
+use rustsec_values::{ClosedEnum, from_name};
 use std::alloc::Global;
 
 /// The form of an output.
@@ -17,7 +17,7 @@ pub enum Form {
     Json,
 }
 
-impl Named for Form {
+impl ClosedEnum for Form {
     ghost use Rattle.rustsec_database_commands.specs.Lint.{form_name, forms};
 
     ghost name_of = { form_name };
@@ -48,8 +48,8 @@ pub fn form_named(alloc: Global, name: Option<&str>) -> Result<Form>
     let Some(name) = name else {
         return Ok(Form::Text);
     };
-    match value_named(name) {
+    match from_name(name) {
         Some(form) => Ok(form),
-        None => Err(refused_text(alloc, "unknown word", name, "`text` or `json`")),
+        None => Err(text_error(alloc, "unknown word", name, "`text` or `json`")),
     }
 }

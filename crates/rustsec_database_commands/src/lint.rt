@@ -14,7 +14,7 @@ ghost use Rattle.rustsec_database_commands.specs.Steps.{asked_view};
 use crate::form::{Form, form_named};
 use crate::misuse;
 use crate::notes::Notes;
-use crate::options::{Asked, asked_of};
+use crate::options::{LintInput, asked_of};
 use rustsec_commands::error_output::refusal_output;
 use rustsec_commands::output::{Output, usage_output};
 use rustsec_error::{ErrorKind, Result};
@@ -101,7 +101,7 @@ fn lint_asked<F: Folders, N: Write>(
     alloc: Global,
     folders: &mut F,
     root: &str,
-    asked: Asked<'_>,
+    asked: LintInput<'_>,
     notes: &mut N,
 ) -> Result<Output>
     ensures ok { IfOk result (IsLintedBy (F.allowed folders.old) root.now (Some (asked_view asked.entry))) }

@@ -4,7 +4,7 @@ use crate::options::Flag;
 use crate::usage::PAGE;
 use rustsec_policy::nearest_word;
 use rustsec_shown::push_shown;
-use rustsec_values::value_named;
+use rustsec_values::from_name;
 use std::alloc::{AllocError, Global};
 
 /// The names of the options.
@@ -18,7 +18,7 @@ fn wrong_word<'a>(words: &[&'a str]) -> Option<&'a str> {
             awaits = None;
         } else if *word == "--format" {
             awaits = Some(*word);
-        } else if value_named::<Flag>(word).is_none() {
+        } else if from_name::<Flag>(word).is_none() {
             return Some(*word);
         }
     }

@@ -1,7 +1,7 @@
 //! Notes on the files of a database, for a person.
 
 use rustsec_commands::error_output::why;
-use rustsec_error::{Error, ErrorKind, refused_file};
+use rustsec_error::{Error, ErrorKind, file_error};
 use rustsec_lint_database::{Step, Watcher};
 use rustsec_shown::push_shown;
 use std::alloc::{AllocError, Global};
@@ -20,7 +20,7 @@ fn add_refusal(
     if error.kind() == ErrorKind::Io {
         return note.push_str(&why(alloc, error)?);
     }
-    let named = refused_file(alloc, path, error);
+    let named = file_error(alloc, path, error);
     note.push_str(&why(alloc, &named)?)
 }
 

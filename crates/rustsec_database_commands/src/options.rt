@@ -4,7 +4,7 @@ ghost use Rattle.std.specs.Prelude.{◌≡◌, map, option_map};
 ghost use Rattle.rustsec_database_commands.specs.Options.{asked_of};
 ghost use Rattle.rustsec_database_commands.specs.Steps.{asked_after, asked_view, with_flag, with_format};
 
-use rustsec_values::{Named, value_named};
+use rustsec_values::{ClosedEnum, from_name};
 
 /// An option without a value.
 #[derive(Clone, Copy, PartialEq, Eq, Debug)]
@@ -15,7 +15,7 @@ pub enum Flag {
     Progress,
 }
 
-impl Named for Flag {
+impl ClosedEnum for Flag {
     ghost use Rattle.rustsec_database_commands.specs.Options.{flag_name, flags};
 
     ghost name_of = { flag_name };
@@ -36,7 +36,7 @@ impl Named for Flag {
 
 /// What options ask for.
 #[derive(Clone, Copy, Debug)]
-pub struct Asked<'a> {
+pub struct LintInput<'a> {
     /// The name of the form, if any.
     pub format: Option<&'a str>,
     /// Whether what the Rust crate refuses is a fault.
@@ -46,21 +46,21 @@ pub struct Asked<'a> {
 }
 
 /// Returns what is asked for with one flag more.
-fn with_flag(asked: Asked<'_>, flag: Flag) -> Asked<'_>
+fn with_flag(asked: LintInput<'_>, flag: Flag) -> LintInput<'_>
     ensures { asked_view result ≡ with_flag (asked_view asked.entry) flag }
 {
-    let Asked {
+    let LintInput {
         format,
         upstream,
         progress,
     } = asked;
     match flag {
-        Flag::Upstream => Asked {
+        Flag::Upstream => LintInput {
             format,
             upstream: true,
             progress,
         },
-        Flag::Progress => Asked {
+        Flag::Progress => LintInput {
             format,
             upstream,
             progress: true,
@@ -69,10 +69,10 @@ fn with_flag(asked: Asked<'_>, flag: Flag) -> Asked<'_>
 }
 
 /// Returns what is asked for with the name of a form.
-fn with_format<'a>(asked: Asked<'a>, name: &'a str) -> Asked<'a>
+fn with_format<'a>(asked: LintInput<'a>, name: &'a str) -> LintInput<'a>
     ensures { asked_view result ≡ with_format (asked_view asked.entry) name.now }
 {
-    Asked {
+    LintInput {
         format: Some(name),
         upstream: asked.upstream,
         progress: asked.progress,
@@ -81,13 +81,13 @@ fn with_format<'a>(asked: Asked<'a>, name: &'a str) -> Asked<'a>
 
 /// Returns what is asked for after one more word, and whether `--format` still awaits its value. A word that is not an
 /// option gives `None`.
-fn step<'a>(asked: Asked<'a>, awaits: bool, word: &'a str) -> Option<(Asked<'a>, bool)>
+fn step<'a>(asked: LintInput<'a>, awaits: bool, word: &'a str) -> Option<(LintInput<'a>, bool)>
     ensures { option_map (λ s. (asked_view s.0, s.1)) result ≡ asked_after (asked_view asked.entry) awaits word.now }
 {
     if awaits {
         return Some((with_format(asked, word), false));
     }
-    if let Some(flag) = value_named::<Flag>(word) {
+    if let Some(flag) = from_name::<Flag>(word) {
         return Some((with_flag(asked, flag), false));
     }
     if word == "--format" {
@@ -97,10 +97,10 @@ fn step<'a>(asked: Asked<'a>, awaits: bool, word: &'a str) -> Option<(Asked<'a>,
 }
 
 /// Returns what words ask for. A word that is not an option, or `--format` without its value at the end, gives `None`.
-pub fn asked_of<'a>(words: &[&'a str]) -> Option<Asked<'a>>
+pub fn asked_of<'a>(words: &[&'a str]) -> Option<LintInput<'a>>
     ensures { option_map asked_view result ≡ asked_of (map (λ w. w.now) words.now) }
 {
-    let mut asked = Asked {
+    let mut asked = LintInput {
         format: None,
         upstream: false,
         progress: false,

@@ -17,7 +17,7 @@ use std::alloc::{AllocError, Global};
 
 /// A question about a database: its root, and the texts of a name and a version.
 #[derive(Clone, Copy)]
-pub struct Question<'a> {
+pub struct QueryInput<'a> {
     /// The root of the database.
     pub root: &'a str,
     /// The name of a package.
@@ -51,7 +51,7 @@ fn answer_root<F: Folders>(
 pub fn query_osv<F: Folders>(
     alloc: Global,
     folders: &mut F,
-    question: Question<'_>,
+    question: QueryInput<'_>,
 ) -> std::result::Result<Output, AllocError>
     ensures ok { IfOk result (IsQueryOutput (F.allowed folders.old) question.entry.root.now question.entry.name.now question.entry.version.now) }
     ensures same { AllowSame (F.allowed folders.old) (F.allowed folders.new) }

@@ -4,7 +4,7 @@ ghost use Rattle.std.specs.Prelude.{◌≡◌, map, option_map};
 ghost use Rattle.rustsec_database_commands.specs.Commands.{command_view};
 ghost use Rattle.rustsec_database_commands.specs.Words.{command_of, lint_of, osv_of, query_of, stats_of};
 
-use crate::osv_query::Question;
+use crate::osv_query::QueryInput;
 
 /// A command, with the words after its name.
 #[derive(Clone, Copy)]
@@ -16,7 +16,7 @@ pub enum Command<'a> {
     /// The documents of the database under a root, with the time of the last change and options.
     OsvDatabase(&'a str, &'a str, &'a [&'a str]),
     /// The documents of the advisories that affect a version of a package.
-    QueryOsv(Question<'a>),
+    QueryOsv(QueryInput<'a>),
     /// The name of a command with too few words after it.
     Short,
 }
@@ -69,7 +69,7 @@ fn query_of<'a>(words: &'a [&'a str]) -> Command<'a>
     ensures { command_view result ≡ query_of (map (λ w. w.now) words.now) }
 {
     match words {
-        [root, name, version] => Command::QueryOsv(Question {
+        [root, name, version] => Command::QueryOsv(QueryInput {
             root,
             name,
             version,

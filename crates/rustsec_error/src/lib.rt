@@ -7,4 +7,4 @@ mod refusal;
 
 pub use crate::error::{Error, ErrorKind, Result};
 pub use crate::from_text::FromText;
-pub use crate::refusal::{refused_at, refused_file, refused_for, refused_text};
+pub use crate::refusal::{file_error, text_error, text_error_with_cause, with_place};

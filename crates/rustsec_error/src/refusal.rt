@@ -13,7 +13,7 @@ const SHOWN: usize = 60;
 
 /// Returns the error for a refused text. Its message says what is wrong, shows the text's first 60 bytes, cut between
 /// two characters, and says what was expected.
-pub fn refused_text(alloc: Global, wrong: &str, found: &str, expected: &str) -> Error
+pub fn text_error(alloc: Global, wrong: &str, found: &str, expected: &str) -> Error
     ensures kind { IsOfKind ErrorKind.Parse result }
     ensures shows { IsRefusal ErrorKind.Parse (ShowsText wrong.now found.now expected.now result) result }
 {
@@ -24,12 +24,18 @@ pub fn refused_text(alloc: Global, wrong: &str, found: &str, expected: &str) -> 
     }
 }
 
-/// Returns the error for a refused text, as `refused_text` does, with a parser's reason as its cause.
-pub fn refused_for(alloc: Global, wrong: &str, found: &str, expected: &str, why: &str) -> Error
+/// Returns the error for a refused text, as `text_error` does, with a parser's reason as its cause.
+pub fn text_error_with_cause(
+    alloc: Global,
+    wrong: &str,
+    found: &str,
+    expected: &str,
+    why: &str,
+) -> Error
     ensures kind { IsOfKind ErrorKind.Parse result }
     ensures shows { IsRefusal ErrorKind.Parse (ShowsReason why.now wrong.now found.now expected.now result) result }
 {
-    let refusal = refused_text(alloc, wrong, found, expected);
+    let refusal = text_error(alloc, wrong, found, expected);
     if refusal.kind() == ErrorKind::OutOfMemory {
         return refusal;
     }
@@ -37,7 +43,7 @@ pub fn refused_for(alloc: Global, wrong: &str, found: &str, expected: &str, why:
 }
 
 /// Adds the place of an error before its message. Out of memory stays as it is.
-pub fn refused_at(alloc: Global, place: &str, error: &Error) -> Error
+pub fn with_place(alloc: Global, place: &str, error: &Error) -> Error
     ensures kind { IsOfKind error.now.kind result }
     ensures memory { IsMemory error.now → IsMemory result }
     ensures message { (result ≡ at_place place.now error.now) ⊎ IsMemory result }
@@ -65,7 +71,7 @@ fn whole_message(alloc: Global, error: &Error) -> std::result::Result<String, Al
 
 /// Returns the error of a file from the error of its text: its message names the path, and its cause is the message
 /// and the cause of the given error. Out of memory stays as it is.
-pub fn refused_file(alloc: Global, path: &str, error: &Error) -> Error
+pub fn file_error(alloc: Global, path: &str, error: &Error) -> Error
     ensures kind { IsOfKind error.now.kind result }
     ensures memory { IsMemory error.now → IsMemory result }
     ensures message { (result ≡ of_file path.now error.now) ⊎ IsMemory result }

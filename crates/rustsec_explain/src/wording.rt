@@ -12,7 +12,7 @@ use rustsec_advisory::Advisory;
 use rustsec_error::Result;
 use rustsec_lock::package::Package;
 use rustsec_report::Settings;
-use rustsec_values::Named;
+use rustsec_values::ClosedEnum;
 use rustsec_versions::requirement_text;
 use semver::{Version, VersionReq};
 use std::alloc::{AllocError, Global};
@@ -25,7 +25,10 @@ fn push_quoted(text: &mut String, name: &str) -> std::result::Result<(), AllocEr
 }
 
 /// Appends the names of some values, each after a comma and between backquotes.
-fn push_further<T: Named>(text: &mut String, values: &[T]) -> std::result::Result<(), AllocError>
+fn push_further<T: ClosedEnum>(
+    text: &mut String,
+    values: &[T],
+) -> std::result::Result<(), AllocError>
     ensures { OnOk result (string_bytes text.new ≡ string_bytes text.old ++ further_names T.name_of values.now) }
 {
     for value in values {
@@ -36,7 +39,10 @@ fn push_further<T: Named>(text: &mut String, values: &[T]) -> std::result::Resul
 }
 
 /// Returns the names of some values, each between backquotes, joined by commas.
-fn quoted_names<T: Named>(alloc: Global, values: &[T]) -> std::result::Result<String, AllocError>
+fn quoted_names<T: ClosedEnum>(
+    alloc: Global,
+    values: &[T],
+) -> std::result::Result<String, AllocError>
     ensures { IfOk result (λ t. string_bytes t ≡ quoted_names T.name_of values.now) }
 {
     let mut names = String::new(alloc);
@@ -147,7 +153,7 @@ fn below_threshold(
 }
 
 /// Returns the text of other platforms than those that are asked for.
-fn other_platform<T: Named>(
+fn other_platform<T: ClosedEnum>(
     alloc: Global,
     plural: &str,
     listed: &[T],

@@ -53,7 +53,7 @@ fn is_out_of_memory(error: &io::Error) -> bool
 }
 
 /// Returns the failure with this message, which memory may be refused for, and this cause.
-fn io_failure(alloc: Global, message: std::result::Result<String, AllocError>, why: &str) -> Error
+fn io_error(alloc: Global, message: std::result::Result<String, AllocError>, why: &str) -> Error
     ensures ok { IfOk message (λ s. (result ≡ io_failure (string_bytes s) why.now) ⊎ (result ≡ out_of_memory)) }
     ensures err { IfErr message (λ _. result ≡ out_of_memory) }
 {
@@ -65,22 +65,22 @@ fn io_failure(alloc: Global, message: std::result::Result<String, AllocError>, w
 
 /// Returns the failure of a file that was found and cannot be read, for this reason. The message names
 /// the path, the cause is the reason.
-pub fn failure(alloc: Global, path: &str, why: &str) -> Error
+pub fn read_error(alloc: Global, path: &str, why: &str) -> Error
     ensures exact { (result ≡ io_failure (read_message path.now) why.now) ⊎ (result ≡ out_of_memory) }
     ensures kind { IsOfKind ErrorKind.Io result }
     ensures names { IsIoFailure (read_message path.now) result }
 {
-    io_failure(alloc, format!(in alloc; "couldn't read {path}"), why)
+    io_error(alloc, format!(in alloc; "couldn't read {path}"), why)
 }
 
 /// Returns the failure of a path that cannot be opened or listed, for this reason. The message names the
 /// path, the cause is the reason.
-pub fn open_failure(alloc: Global, path: &str, why: &str) -> Error
+pub fn open_error(alloc: Global, path: &str, why: &str) -> Error
     ensures exact { (result ≡ io_failure (open_message path.now) why.now) ⊎ (result ≡ out_of_memory) }
     ensures kind { IsOfKind ErrorKind.Io result }
     ensures names { IsIoFailure (open_message path.now) result }
 {
-    io_failure(alloc, format!(in alloc; "couldn't open {path}"), why)
+    io_error(alloc, format!(in alloc; "couldn't open {path}"), why)
 }
 
 /// Returns what an error says. For an error of memory it returns `OutOfMemory`.
@@ -97,26 +97,26 @@ fn reason(alloc: Global, error: &io::Error) -> Result<String>
 
 /// Returns the failure of a file that was found and cannot be read, for this error. An error of memory
 /// stays that.
-fn failed(alloc: Global, path: &str, error: io::Error) -> Error
+fn read_error_from(alloc: Global, path: &str, error: io::Error) -> Error
     ensures memory { error_kind error ≡ IoErrorKind.OutOfMemory → result ≡ out_of_memory }
     ensures kind { IsOfKind ErrorKind.Io result }
     ensures names { IsIoFailure (read_message path.now) result }
 {
     match reason(alloc, &error) {
-        Ok(why) => failure(alloc, path, &why),
+        Ok(why) => read_error(alloc, path, &why),
         Err(refused) => refused,
     }
 }
 
 /// Returns the failure of a path that cannot be opened or listed, for this error. An error of memory
 /// stays that.
-fn open_failed(alloc: Global, path: &str, error: io::Error) -> Error
+fn open_error_from(alloc: Global, path: &str, error: io::Error) -> Error
     ensures memory { error_kind error ≡ IoErrorKind.OutOfMemory → result ≡ out_of_memory }
     ensures kind { IsOfKind ErrorKind.Io result }
     ensures names { IsIoFailure (open_message path.now) result }
 {
     match reason(alloc, &error) {
-        Ok(why) => open_failure(alloc, path, &why),
+        Ok(why) => open_error(alloc, path, &why),
         Err(refused) => refused,
     }
 }
@@ -135,7 +135,7 @@ pub fn read_answer<T>(alloc: Global, answer: io::Result<T>, path: &str) -> Resul
 {
     match answer {
         Ok(value) => Ok(value),
-        Err(e) => Err(failed(alloc, path, e)),
+        Err(e) => Err(read_error_from(alloc, path, e)),
     }
 }
 
@@ -153,17 +153,17 @@ pub fn open_answer<T>(alloc: Global, answer: io::Result<T>, path: &str) -> Resul
 {
     match answer {
         Ok(value) => Ok(value),
-        Err(e) => Err(open_failed(alloc, path, e)),
+        Err(e) => Err(open_error_from(alloc, path, e)),
     }
 }
 
 /// Returns the failure of a file whose bytes are not UTF-8 from an offset on.
-fn not_utf8(alloc: Global, path: &str, offset: usize) -> Error
+fn not_utf8_error(alloc: Global, path: &str, offset: usize) -> Error
     ensures exact { (result ≡ io_failure (read_message path.now) (not_utf8_from offset)) ⊎ (result ≡ out_of_memory) }
     ensures names { IsIoFailure (read_message path.now) result }
 {
     match format!(in alloc; "it is not UTF-8 from byte offset {offset} on") {
-        Ok(place) => failure(alloc, path, &place),
+        Ok(place) => read_error(alloc, path, &place),
         Err(refused) => Error::from(refused),
     }
 }
@@ -185,7 +185,7 @@ pub fn text_of_bytes(alloc: Global, bytes: Vec<u8>, path: &str) -> Result<String
 {
     match String::from_utf8(bytes) {
         Ok(text) => Ok(text),
-        Err(e) => Err(not_utf8(alloc, path, e.utf8_error().valid_up_to())),
+        Err(e) => Err(not_utf8_error(alloc, path, e.utf8_error().valid_up_to())),
     }
 }
 
@@ -234,7 +234,7 @@ fn expect_regular(alloc: Global, metadata: &Metadata, path: &str) -> Result<()>
     if metadata.is_file() {
         Ok(())
     } else {
-        Err(failure(alloc, path, "it is not a regular file"))
+        Err(read_error(alloc, path, "it is not a regular file"))
     }
 }
 

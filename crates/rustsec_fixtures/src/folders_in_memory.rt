@@ -102,7 +102,7 @@ fn held_at<'a>(paths: Paths<'a>, path: &str) -> Option<&'a Holds<'a>>
 }
 
 /// Returns the failure of a call: out of memory, or else an I/O error.
-fn failure(alloc: Global, kind: ErrorKind) -> Error
+fn call_error(alloc: Global, kind: ErrorKind) -> Error
     ensures { IsOfKind ErrorKind.Io result }
 {
     if kind == ErrorKind::OutOfMemory {
@@ -140,7 +140,7 @@ fn listed(alloc: Global, held: Option<&Holds<'_>>) -> Result<Items<FolderEntry>>
 {
     match held {
         Some(Holds::Entries(rows)) => entries(alloc, rows),
-        _ => Err(failure(alloc, ErrorKind::Io)),
+        _ => Err(call_error(alloc, ErrorKind::Io)),
     }
 }
 
@@ -151,7 +151,7 @@ fn read(alloc: Global, held: Option<&Holds<'_>>) -> Result<Text>
 {
     match held {
         Some(Holds::Text(text)) => Ok(Text::from_str(alloc, text)?),
-        _ => Err(failure(alloc, ErrorKind::Io)),
+        _ => Err(call_error(alloc, ErrorKind::Io)),
     }
 }
 
@@ -162,14 +162,14 @@ impl<'a> Folders for MemoryFolders<'a> {
 
     fn list(&mut self, alloc: Global, path: &str) -> Result<Items<FolderEntry>> {
         if self.fails_now() {
-            return Err(failure(alloc, self.failing.kind));
+            return Err(call_error(alloc, self.failing.kind));
         }
         listed(alloc, self.held_now(path))
     }
 
     fn read(&mut self, alloc: Global, path: &str) -> Result<Text> {
         if self.fails_now() {
-            return Err(failure(alloc, self.failing.kind));
+            return Err(call_error(alloc, self.failing.kind));
         }
         read(alloc, self.held_now(path))
     }

@@ -9,7 +9,7 @@ ghost use Rattle.rustsec_error.specs.Failure.{IsRefusal};
 use crate::entry::FolderEntry;
 use crate::folders::Folders;
 use rustsec_error::{ErrorKind, Result};
-use rustsec_values::{Items, Test, Text};
+use rustsec_values::{Items, Predicate, Text};
 use std::alloc::{AllocError, Global};
 
 /// Returns the path of a name in a folder.
@@ -33,12 +33,12 @@ fn begins_with_dot(name: &str) -> bool
 /// The test of entries whose names begin with no dot.
 struct Shown;
 
-impl Test<FolderEntry> for Shown {
+impl Predicate<FolderEntry> for Shown {
     ghost use Rattle.rustsec_folders.specs.Names.{is_shown};
 
-    ghost passes = { λ _ entry. is_shown entry };
+    ghost holds = { λ _ entry. is_shown entry };
 
-    fn passes(&self, entry: &FolderEntry) -> bool {
+    fn holds(&self, entry: &FolderEntry) -> bool {
         !begins_with_dot(entry.name.as_str())
     }
 }
@@ -46,12 +46,12 @@ impl Test<FolderEntry> for Shown {
 /// The test of names that begin with no dot.
 struct ShownName;
 
-impl Test<Text> for ShownName {
+impl Predicate<Text> for ShownName {
     ghost use Rattle.rustsec_folders.specs.Names.{is_shown_name};
 
-    ghost passes = { λ _ name. is_shown_name name };
+    ghost holds = { λ _ name. is_shown_name name };
 
-    fn passes(&self, name: &Text) -> bool {
+    fn holds(&self, name: &Text) -> bool {
         !begins_with_dot(name.as_str())
     }
 }
@@ -59,12 +59,12 @@ impl Test<Text> for ShownName {
 /// The test of entries that are folders.
 struct IsFolder;
 
-impl Test<FolderEntry> for IsFolder {
+impl Predicate<FolderEntry> for IsFolder {
     ghost use Rattle.rustsec_folders.specs.Names.{is_folder};
 
-    ghost passes = { λ _ entry. is_folder entry };
+    ghost holds = { λ _ entry. is_folder entry };
 
-    fn passes(&self, entry: &FolderEntry) -> bool {
+    fn holds(&self, entry: &FolderEntry) -> bool {
         entry.folder
     }
 }

@@ -99,12 +99,12 @@ fn not_utf8_reason(
 }
 
 /// Returns the failure of a folder whose listing is not UTF-8 from an offset on.
-fn not_utf8_failure(alloc: Global, path: &str, listing: &[u8], offset: usize) -> Error
+fn not_utf8_error(alloc: Global, path: &str, listing: &[u8], offset: usize) -> Error
     ensures exact { (result ≡ io_failure (read_message path.now) (name_not_utf8_in listing.now offset)) ⊎ (result ≡ out_of_memory) }
     ensures names { IsIoFailure (read_message path.now) result }
 {
     match not_utf8_reason(alloc, listing, offset) {
-        Ok(why) => reading::failure(alloc, path, &why),
+        Ok(why) => reading::read_error(alloc, path, &why),
         Err(refused) => Error::from(refused),
     }
 }
@@ -121,7 +121,7 @@ fn listing_text(alloc: Global, bytes: Vec<u8>, path: &str) -> Result<String>
         Ok(text) => Ok(text),
         Err(e) => {
             let offset = e.utf8_error().valid_up_to();
-            Err(not_utf8_failure(alloc, path, e.as_bytes(), offset))
+            Err(not_utf8_error(alloc, path, e.as_bytes(), offset))
         }
     }
 }

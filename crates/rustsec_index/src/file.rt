@@ -199,7 +199,7 @@ fn damage_message(
 }
 
 /// Returns the error for a damaged file.
-fn damage(alloc: Global, form: IndexForm, file: &SourceFile, left: usize) -> Error
+fn damage_error(alloc: Global, form: IndexForm, file: &SourceFile, left: usize) -> Error
     ensures { (result ≡ damage form file.now.path file.now.text left) ⊎ IsMemory result }
 {
     match damage_message(alloc, form, file, left) {
@@ -227,10 +227,10 @@ pub fn versions_in(
 {
     let text = file.text.as_str();
     let Some(entries) = entries_of(form, text) else {
-        return Err(damage(alloc, form, file, text.len()));
+        return Err(damage_error(alloc, form, file, text.len()));
     };
     match listed(alloc, form, entries, name)? {
         Ok(versions) => Ok(versions),
-        Err(left) => Err(damage(alloc, form, file, left)),
+        Err(left) => Err(damage_error(alloc, form, file, left)),
     }
 }

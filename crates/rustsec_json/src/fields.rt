@@ -8,7 +8,7 @@ ghost use Rattle.rustsec_json.specs.Fields.{defaulted, every, optional, required
 ghost use Rattle.rustsec_error.specs.Failure.{IsRefusal};
 
 use crate::read::FromTree;
-use crate::refusal::{at_key, missing, unexpected};
+use crate::refusal::{missing_error, unexpected_error, with_key};
 use rustsec_error::{ErrorKind, Result};
 use rustsec_values::Items;
 use serde_json::{Map, Value};
@@ -26,7 +26,7 @@ pub fn fields_of(alloc: Global, tree: &Value) -> Result<&Map<String, Value>>
 {
     match tree.as_object() {
         Some(fields) => Ok(fields),
-        None => Err(unexpected(alloc, tree, "an object")),
+        None => Err(unexpected_error(alloc, tree, "an object")),
     }
 }
 
@@ -47,11 +47,11 @@ pub fn required_at<T: FromTree>(alloc: Global, fields: &Map<String, Value>, key:
     ensures err { IfErr result (IsRefusal ErrorKind.Parse (required T.reads key.now (members_view fields.now.entries) ≡ None)) }
 {
     let Some(tree) = member(fields, key) else {
-        return Err(missing(alloc, key));
+        return Err(missing_error(alloc, key));
     };
     match T::from_tree(alloc, tree) {
         Ok(value) => Ok(value),
-        Err(e) => Err(at_key(alloc, key, &e)),
+        Err(e) => Err(with_key(alloc, key, &e)),
     }
 }
 
@@ -75,7 +75,7 @@ pub fn optional_at<T: FromTree>(
     };
     match Option::<T>::from_tree(alloc, tree) {
         Ok(value) => Ok(value),
-        Err(e) => Err(at_key(alloc, key, &e)),
+        Err(e) => Err(with_key(alloc, key, &e)),
     }
 }
 
@@ -98,6 +98,6 @@ pub fn list_at<T: FromTree>(
     };
     match Items::<T>::from_tree(alloc, tree) {
         Ok(values) => Ok(values),
-        Err(e) => Err(at_key(alloc, key, &e)),
+        Err(e) => Err(with_key(alloc, key, &e)),
     }
 }

@@ -12,4 +12,4 @@ pub use crate::fields::{fields_of, list_at, member, optional_at, required_at};
 pub use crate::make::ToTree;
 pub use crate::object::{put_at, put_if};
 pub use crate::read::FromTree;
-pub use crate::refusal::{at_index, at_key, refused, unexpected};
+pub use crate::refusal::{parse_error, unexpected_error, with_index, with_key};

@@ -7,7 +7,7 @@ ghost use Rattle.rustsec_json.specs.Fields.{list_of, or_null, text};
 ghost use Rattle.rustsec_values.specs.Reading.{read_all};
 ghost use Rattle.rustsec_error.specs.Failure.{IsRefusal};
 
-use crate::refusal::{at_index, unexpected};
+use crate::refusal::{unexpected_error, with_index};
 use rustsec_error::{ErrorKind, FromText, Result};
 use rustsec_values::Items;
 use serde_json::Value;
@@ -34,7 +34,7 @@ fn element<T: FromTree>(alloc: Global, tree: &Value, index: usize) -> Result<T>
 {
     match T::from_tree(alloc, tree) {
         Ok(value) => Ok(value),
-        Err(e) => Err(at_index(alloc, index, &e)),
+        Err(e) => Err(with_index(alloc, index, &e)),
     }
 }
 
@@ -60,7 +60,7 @@ pub(crate) fn read_text<T: FromText>(alloc: Global, tree: &Value) -> Result<T>
 {
     match tree.as_str() {
         Some(text) => T::from_text(alloc, text),
-        None => Err(unexpected(alloc, tree, "a string")),
+        None => Err(unexpected_error(alloc, tree, "a string")),
     }
 }
 
@@ -72,7 +72,7 @@ impl<T: FromTree> FromTree for Items<T> {
     fn from_tree(alloc: Global, tree: &Value) -> Result<Items<T>> {
         match tree.as_array() {
             Some(trees) => list(alloc, trees),
-            None => Err(unexpected(alloc, tree, "a list")),
+            None => Err(unexpected_error(alloc, tree, "a list")),
         }
     }
 }

@@ -3,7 +3,7 @@
 
 ghost use Rattle.rustsec_error.specs.Failure.{IsMemory, IsOfKind};
 
-use rustsec_error::{Error, ErrorKind, refused_text};
+use rustsec_error::{Error, ErrorKind, text_error};
 use rustsec_values::beginning_of;
 use serde_json::Value;
 use std::alloc::{AllocError, Global};
@@ -14,18 +14,18 @@ use std::fmt::Formatter;
 const SHOWN: usize = 100;
 
 /// Returns a `Parse` error about a tree.
-pub fn refused(alloc: Global, message: &str) -> Error
+pub fn parse_error(alloc: Global, message: &str) -> Error
     ensures { IsOfKind ErrorKind.Parse result }
 {
     Error::new(alloc, ErrorKind::Parse, message)
 }
 
 /// Returns the error for an object without a required key.
-pub(crate) fn missing(alloc: Global, key: &str) -> Error
+pub(crate) fn missing_error(alloc: Global, key: &str) -> Error
     ensures { IsOfKind ErrorKind.Parse result }
 {
     match format!(in alloc; "key `{key}` is missing") {
-        Ok(message) => refused(alloc, &message),
+        Ok(message) => parse_error(alloc, &message),
         Err(e) => Error::from(e),
     }
 }
@@ -79,11 +79,11 @@ fn beginning_of_tree(alloc: Global, tree: &Value) -> Result<String, AllocError> 
 }
 
 /// Returns the error for a tree that is not of the expected kind. Its message shows the beginning of the tree's text.
-pub fn unexpected(alloc: Global, tree: &Value, expected: &str) -> Error
+pub fn unexpected_error(alloc: Global, tree: &Value, expected: &str) -> Error
     ensures { IsOfKind ErrorKind.Parse result }
 {
     match beginning_of_tree(alloc, tree) {
-        Ok(text) => refused_text(alloc, found(tree), &text, expected),
+        Ok(text) => text_error(alloc, found(tree), &text, expected),
         Err(refused) => Error::from(refused),
     }
 }
@@ -98,7 +98,7 @@ fn below(alloc: Global, step: &str, message: &str) -> Result<String, AllocError>
 }
 
 /// Adds a step before the path to the value that an error is about. Its cause stays.
-fn at_step(alloc: Global, step: &str, error: &Error) -> Error
+fn with_step(alloc: Global, step: &str, error: &Error) -> Error
     ensures kind { IsOfKind error.now.kind result }
     ensures memory { IsMemory error.now → IsMemory result }
 {
@@ -112,20 +112,20 @@ fn at_step(alloc: Global, step: &str, error: &Error) -> Error
 }
 
 /// Adds a key before the path to the value that an error is about, as in `affected[0].ranges`. Its cause stays.
-pub fn at_key(alloc: Global, key: &str, error: &Error) -> Error
+pub fn with_key(alloc: Global, key: &str, error: &Error) -> Error
     ensures kind { IsOfKind error.now.kind result }
     ensures memory { IsMemory error.now → IsMemory result }
 {
-    at_step(alloc, key, error)
+    with_step(alloc, key, error)
 }
 
 /// Adds the position in a list, from 0 on, before the path to the value that an error is about. Its cause stays.
-pub fn at_index(alloc: Global, index: usize, error: &Error) -> Error
+pub fn with_index(alloc: Global, index: usize, error: &Error) -> Error
     ensures kind { IsOfKind error.now.kind result }
     ensures memory { IsMemory error.now → IsMemory result }
 {
     match format!(in alloc; "[{index}]") {
-        Ok(step) => at_step(alloc, &step, error),
+        Ok(step) => with_step(alloc, &step, error),
         Err(refused) => Error::from(refused),
     }
 }

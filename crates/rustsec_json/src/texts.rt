@@ -5,7 +5,7 @@ ghost use Rattle.rustsec_json.specs.Fields.{text};
 
 use crate::make::ToTree;
 use crate::read::{FromTree, read_text};
-use crate::refusal::unexpected;
+use crate::refusal::unexpected_error;
 use rustsec_advisory::Address;
 use rustsec_error::Result;
 use rustsec_lock::package::Name;
@@ -37,7 +37,7 @@ impl FromTree for Text {
     fn from_tree(alloc: Global, tree: &Value) -> Result<Text> {
         match tree.as_str() {
             Some(text) => Ok(Text::from_str(alloc, text)?),
-            None => Err(unexpected(alloc, tree, "a string")),
+            None => Err(unexpected_error(alloc, tree, "a string")),
         }
     }
 }

@@ -4,7 +4,7 @@ use Rattle.std.specs.Prelude.{◌↔◌, ◌&&◌, Err, Result, if◌then◌else
 use Rattle.rustsec_texts.specs.declared.collection.Collection.{Collection}
 use Rattle.rustsec_advisory.specs.declared.advisory.Advisory.{Advisory}
 use Rattle.rustsec_files.specs.Paths.{is_markdown}
-use Rattle.rustsec_database.specs.Filing.{agreed, agrees, collection_at, is_in_folder, is_named}
+use Rattle.rustsec_database.specs.Placement.{agreed, agrees, collection_at, is_in_folder, is_named}
 use Rattle.rustsec_lint_database.specs.Placement.{HasNone, collection_remarks}
 use Rattle.rustsec_lint_database.specs.Remarks.{unless}
 use Rattle.rustsec_lint_database.specs.declared.remark.Remark.{Remark}

@@ -4,7 +4,7 @@ use Rattle.rustsec_files.specs.Paths.{is_markdown}
 use Rattle.rustsec_texts.specs.Collections.{collection_name}
 use Rattle.rustsec_texts.specs.declared.collection.Collection.{Collection}
 use Rattle.rustsec_advisory.specs.declared.advisory.Advisory.{Advisory}
-use Rattle.rustsec_database.specs.Filing.{agrees, collection_at, is_in_folder, is_named, path_verdict}
+use Rattle.rustsec_database.specs.Placement.{agrees, collection_at, is_in_folder, is_named, path_verdict}
 use Rattle.rustsec_lint_database.specs.Remarks.{remark, unless}
 use Rattle.rustsec_lint_database.specs.declared.remark.Remark.{Remark}
 use Rattle.rustsec_lint_database.specs.declared.remark.RemarkKind.TheVariants as kind

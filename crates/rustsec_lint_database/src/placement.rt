@@ -2,12 +2,12 @@
 
 ghost use Rattle.std.specs.Prelude.{◌≡◌, ◌&&◌, ◌++◌, IfOk, OnOk, string_bytes};
 ghost use Rattle.rustsec_files.specs.Paths.{is_markdown};
-ghost use Rattle.rustsec_database.specs.Filing.{is_named};
+ghost use Rattle.rustsec_database.specs.Placement.{is_named};
 ghost use Rattle.rustsec_lint_database.specs.Placement.{collection_remarks, folder_remarks, name_remarks, placement_remarks};
 
 use crate::remark::{Remark, RemarkKind, push_remark};
 use rustsec_advisory::Advisory;
-use rustsec_database::filing;
+use rustsec_database::placement;
 use rustsec_files::path::FilePath;
 use rustsec_texts::Collection;
 use rustsec_values::Items;
@@ -32,7 +32,7 @@ pub(crate) fn between(
 fn is_named_after(file: &FilePath<'_>, id: &str) -> bool
     ensures { result ≡ (is_markdown file.now.path.now && is_named file.now.path.now id.now) }
 {
-    file.is_markdown() && filing::is_named(file, id)
+    file.is_markdown() && placement::is_named(file, id)
 }
 
 /// Appends the remark on the file's name.
@@ -62,7 +62,7 @@ pub(crate) fn push_folder(
     ensures { OnOk result (remarks.new ≡ remarks.old ++ folder_remarks file.now.path.now advisory.now) }
 {
     let package = advisory.metadata.package.as_str();
-    if filing::is_in_folder(file, package) {
+    if placement::is_in_folder(file, package) {
         return Ok(());
     }
     let text = between(
@@ -91,7 +91,7 @@ pub(crate) fn push_collection(
             String::from_str(alloc, text)?,
         );
     };
-    if filing::agrees(named, collection) {
+    if placement::agrees(named, collection) {
         return Ok(());
     }
     let name = collection.as_str();
@@ -116,5 +116,5 @@ pub(crate) fn push_placement(
     push_name(alloc, remarks, file, advisory)?;
     push_folder(alloc, remarks, file, advisory)?;
     let named = advisory.metadata.collection;
-    push_collection(alloc, remarks, named, filing::collection_at(file))
+    push_collection(alloc, remarks, named, placement::collection_at(file))
 }

@@ -9,7 +9,7 @@ use crate::remark::{Remark, RemarkKind};
 use crate::upstream::upstream_notes;
 use rustsec_advisory::linter::{self, Linter};
 use rustsec_advisory::{lint_error_line, placed_errors};
-use rustsec_database::filing;
+use rustsec_database::placement;
 use rustsec_edition::FoundForm;
 use rustsec_files::path::FilePath;
 use rustsec_values::{Items, Text};
@@ -85,7 +85,12 @@ fn push_place(
     push_remarks(alloc, words, package, folder.as_slice())?;
     let mut collection = Items::new(alloc);
     let named = advisory.metadata.collection;
-    push_collection(alloc, &mut collection, named, filing::collection_at(file))?;
+    push_collection(
+        alloc,
+        &mut collection,
+        named,
+        placement::collection_at(file),
+    )?;
     let key = KeyIn::advisory(text, "collection");
     push_remarks(alloc, words, key, collection.as_slice())
 }

@@ -12,7 +12,7 @@ use Rattle.std.specs.Str.Pattern.{FindsTextPrefix, StripsPrefix}
 use Rattle.std.specs.declared.iter.Take.{Take}
 use denote.Ref.{Bor}
 use Rattle.rustsec_values.specs.Reading.{only_if}
-use Rattle.rustsec_lock.specs.Cvss.{base_of, after_prefix, given, lone, metrics_of, parts_of}
+use Rattle.rustsec_lock.specs.Cvss.{base_of, after_prefix, metric_letter, lone, metrics_of, parts_of}
 
 pub after_prefix_from_strip : (p s : List ℕ) (r : Option (Bor (List ℕ)))
     → MatchOption r (FindsTextPrefix p s None) (λ x. StripsPrefix (FindsTextPrefix p) s x.now)
@@ -55,8 +55,8 @@ found_past name parts k h = ap (λ ps. filter_map (after_prefix name) (map (λ p
 
 -- all that was found, when no part is left
 pub given_at_end : (name : List ℕ) (parts : List (Bor (List ℕ))) (k : ℕ) (r : Option (Bor (List ℕ))) → length parts ≤ k
-    → listed r ++ found_from name parts k ≡ found_from name parts 0 → option_map (λ t. t.now) r ≡ given name (map (λ p. p.now) parts)
-unfolding given
+    → listed r ++ found_from name parts k ≡ found_from name parts 0 → option_map (λ t. t.now) r ≡ metric_letter name (map (λ p. p.now) parts)
+unfolding metric_letter
 given_at_end name parts k r h e =
     let all : listed r ≡ found_from name parts 0 = sym (append-nil (listed r)) ∙ (ap (λ xs. listed r ++ xs) (sym (found_past name parts k h)) ∙ e) in
     sym (lone_listed r) ∙ ap lone all
@@ -67,15 +67,15 @@ two_are_none x y rest = refl
 -- a second part that begins with the name
 pub given_twice : (name : List ℕ) (parts : List (Bor (List ℕ))) (k : ℕ) (d x : Bor (List ℕ)) (v : List ℕ) → k < length parts
     → after_prefix name (get_or parts k d).now ≡ Some v
-    → listed (Some x) ++ found_from name parts k ≡ found_from name parts 0 → None ≡ given name (map (λ p. p.now) parts)
-unfolding given
+    → listed (Some x) ++ found_from name parts k ≡ found_from name parts 0 → None ≡ metric_letter name (map (λ p. p.now) parts)
+unfolding metric_letter
 given_twice name parts k d x v h found e =
     sym (two_are_none x.now v (found_from name parts (k + 1)))
     ∙ (ap (λ xs. lone (x.now ∷ xs)) (sym (found_more name parts k d (Some v) h found)) ∙ ap lone e)
 
 pub given_again : (name : List ℕ) (parts : List (Bor (List ℕ))) (k : ℕ) (d : Bor (List ℕ)) (r : Option (Bor (List ℕ))) (v : List ℕ)
     → k < length parts → Some v ≡ after_prefix name (get_or parts k d).now → true ≡ is_some r
-    → listed r ++ found_from name parts k ≡ found_from name parts 0 → None ≡ given name (map (λ p. p.now) parts)
+    → listed r ++ found_from name parts k ≡ found_from name parts 0 → None ≡ metric_letter name (map (λ p. p.now) parts)
 given_again name parts k d None v h found some e = cc some
 given_again name parts k d (Some x) v h found some e = given_twice name parts k d x v h (sym found) e
 

@@ -1,5 +1,5 @@
 pub mod Arrays
-pub mod CvssAgain
+pub mod CvssRoundTrip
 pub mod CvssParts
 pub mod ScoreSteps
 pub mod ScoreTable

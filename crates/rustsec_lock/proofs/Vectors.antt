@@ -4,7 +4,7 @@ use Rattle.std.proofs.lemmas.List.Sorted.{length_permutation}
 use Rattle.rustsec_values.specs.Reading.{◌>>=◌, only_if}
 use Rattle.rustsec_versions.proofs.lemmas.ranges.RangeEnds.{one-IsPermutation}
 use Rattle.rustsec_versions.proofs.lemmas.lists.Shuffled.{IsPermutation-filter_map}
-use Rattle.rustsec_lock.specs.Cvss.{base_of, after_prefix, cvss_of, given, lone, metrics_of, or_else, parts_of}
+use Rattle.rustsec_lock.specs.Cvss.{base_of, after_prefix, cvss_of, metric_letter, lone, metrics_of, or_else, parts_of}
 use Rattle.rustsec_lock.specs.declared.cvss.Cvss.{Cvss}
 use Rattle.rustsec_lock.specs.declared.cvss.Cvss.TheVariants as cvss
 
@@ -16,22 +16,22 @@ lone-permuted (x ∷ w ∷ xs) [] h = absurd (omega (arith, length_permutation (
 lone-permuted (x ∷ w ∷ xs) (y ∷ []) h = absurd (omega (arith, length_permutation (x ∷ w ∷ xs) (y ∷ []) h))
 lone-permuted (x ∷ w ∷ xs) (y ∷ z ∷ ys) h = refl
 
-given-permuted : (name : List ℕ) (ps qs : List (List ℕ)) → IsPermutation ps qs → given name ps ≡ given name qs
-unfolding given
-given-permuted name ps qs h = lone-permuted _ _ (IsPermutation-filter_map (after_prefix name) ps qs h)
+metric_letter-permuted : (name : List ℕ) (ps qs : List (List ℕ)) → IsPermutation ps qs → metric_letter name ps ≡ metric_letter name qs
+unfolding metric_letter
+metric_letter-permuted name ps qs h = lone-permuted _ _ (IsPermutation-filter_map (after_prefix name) ps qs h)
 
 -- parts in another order give the same metrics
 pub metrics_of-permuted : (minor : ℕ) (ps qs : List (List ℕ)) → IsPermutation ps qs → metrics_of minor ps ≡ metrics_of minor qs
 metrics_of-permuted minor ps qs h =
     rw (
-      given-permuted (codes "AV:") ps qs h,
-      given-permuted (codes "AC:") ps qs h,
-      given-permuted (codes "PR:") ps qs h,
-      given-permuted (codes "UI:") ps qs h,
-      given-permuted (codes "S:") ps qs h,
-      given-permuted (codes "C:") ps qs h,
-      given-permuted (codes "I:") ps qs h,
-      given-permuted (codes "A:") ps qs h,
+      metric_letter-permuted (codes "AV:") ps qs h,
+      metric_letter-permuted (codes "AC:") ps qs h,
+      metric_letter-permuted (codes "PR:") ps qs h,
+      metric_letter-permuted (codes "UI:") ps qs h,
+      metric_letter-permuted (codes "S:") ps qs h,
+      metric_letter-permuted (codes "C:") ps qs h,
+      metric_letter-permuted (codes "I:") ps qs h,
+      metric_letter-permuted (codes "A:") ps qs h,
     ) refl
 
 -- so do texts whose parts are in another order

@@ -3,7 +3,7 @@
 use Rattle.std.specs.Prelude.{ℕ, ◌==◌, ◌++◌, List, [], ◌∷◌, drop, filter_map, length, nat_eq, Option, Some, None, option_map, if◌then◌else◌, codes}
 use Rattle.std.specs.Fmt.{decimal}
 use Rattle.std.specs.List.{slice_split, starts_with}
-use Rattle.rustsec_values.specs.ClosedTables.{value_named}
+use Rattle.rustsec_values.specs.ClosedTables.{from_name}
 use Rattle.rustsec_values.specs.Reading.{◌>>=◌, only_if}
 use Rattle.rustsec_lock.specs.declared.cvss.Cvss.{Cvss}
 use Rattle.rustsec_lock.specs.declared.cvss.Cvss.TheVariants as cvss
@@ -23,29 +23,29 @@ lone (x ∷ []) = Some x
 lone (x ∷ y ∷ rest) = None
 
 -- the text after a metric's name in the only part that begins with it
-unfoldable pub given : List ℕ → List (List ℕ) → Option (List ℕ)
-given name parts = lone (filter_map (after_prefix name) parts)
+unfoldable pub metric_letter : List ℕ → List (List ℕ) → Option (List ℕ)
+metric_letter name parts = lone (filter_map (after_prefix name) parts)
 
 -- the parts of a text between its slashes
 abbrev pub parts_of : List ℕ → List (List ℕ)
 parts_of text = slice_split (λ b. b == 47) text
 
 -- the value whose letter follows a metric's name in the only part that begins with it
-abbrev pub metric : {A : Type 0} → (A → List ℕ) → List A → List ℕ → List (List ℕ) → Option A
-metric letter values name parts = given name parts >>= value_named letter values
+abbrev pub parse_metric : {A : Type 0} → (A → List ℕ) → List A → List ℕ → List (List ℕ) → Option A
+parse_metric letter values name parts = metric_letter name parts >>= from_name letter values
 
 -- the base metrics that eight parts give: for each metric exactly one part begins with its name and a colon, and one
 -- of its letters follows
 abbrev pub metrics_of : ℕ → List (List ℕ) → Option Base
 metrics_of minor parts =
-    metric attack_vector_letter attack_vector_values (codes "AV:") parts >>= λ av.
-    metric attack_complexity_letter attack_complexity_values (codes "AC:") parts >>= λ ac.
-    metric privileges_required_letter privileges_required_values (codes "PR:") parts >>= λ pr.
-    metric user_interaction_letter user_interaction_values (codes "UI:") parts >>= λ ui.
-    metric scope_letter scope_values (codes "S:") parts >>= λ s.
-    metric confidentiality_letter confidentiality_values (codes "C:") parts >>= λ c.
-    metric integrity_letter integrity_values (codes "I:") parts >>= λ i.
-    metric availability_letter availability_values (codes "A:") parts >>= λ a.
+    parse_metric attack_vector_letter attack_vector_values (codes "AV:") parts >>= λ av.
+    parse_metric attack_complexity_letter attack_complexity_values (codes "AC:") parts >>= λ ac.
+    parse_metric privileges_required_letter privileges_required_values (codes "PR:") parts >>= λ pr.
+    parse_metric user_interaction_letter user_interaction_values (codes "UI:") parts >>= λ ui.
+    parse_metric scope_letter scope_values (codes "S:") parts >>= λ s.
+    parse_metric confidentiality_letter confidentiality_values (codes "C:") parts >>= λ c.
+    parse_metric integrity_letter integrity_values (codes "I:") parts >>= λ i.
+    parse_metric availability_letter availability_values (codes "A:") parts >>= λ a.
     Some (record { minor_version = minor; av = av; ac = ac; pr = pr; ui = ui; s = s; c = c; i = i; a = a })
 
 -- the base metrics of the text after a vector's version

@@ -1,6 +1,6 @@
 -- The names of platforms: two closed tables, whose rows are exact texts.
 use Rattle.std.specs.Prelude.{ℕ, List, [], ◌∷◌, Option, codes}
-use Rattle.rustsec_values.specs.ClosedTables.{value_named}
+use Rattle.rustsec_values.specs.ClosedTables.{from_name}
 use Rattle.rustsec_lock.specs.declared.platforms.Arch.{Arch}
 use Rattle.rustsec_lock.specs.declared.platforms.Arch.TheVariants as arch
 use Rattle.rustsec_lock.specs.declared.platforms.OS.{OS}
@@ -88,8 +88,8 @@ systems =
 
 -- the architecture of a name
 abbrev pub arch_of : List ℕ → Option Arch
-arch_of = value_named arch_text arches
+arch_of = from_name arch_text arches
 
 -- the system of a name
 abbrev pub os_of : List ℕ → Option OS
-os_of = value_named os_text systems
+os_of = from_name os_text systems

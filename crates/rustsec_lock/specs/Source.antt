@@ -4,7 +4,7 @@ use Rattle.std.specs.Cmp.Lexicographic.{pointwise}
 use Rattle.std.specs.List.{after_first, before_first, position_or_len}
 use Rattle.rustsec_lock.specs.declared.source.SourceKind.{SourceKind}
 use Rattle.rustsec_lock.specs.declared.source.SourceKind.TheVariants as kind
-use Rattle.rustsec_values.specs.ClosedTables.{value_named}
+use Rattle.rustsec_values.specs.ClosedTables.{from_name}
 use Rattle.rustsec_values.specs.Reading.{◌>>=◌, only_if}
 
 -- a source: its kind, and all that follows the first `+` of its text
@@ -27,7 +27,7 @@ kinds = kind.Registry ∷ kind.SparseRegistry ∷ kind.Git ∷ kind.Path ∷ kin
 
 -- the kind of a word
 abbrev pub kind_of : List ℕ → Option SourceKind
-kind_of = value_named kind_word kinds
+kind_of = from_name kind_word kinds
 
 -- whether a byte is a plus sign
 abbrev pub is_plus : ℕ → Bool

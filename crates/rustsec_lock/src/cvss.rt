@@ -4,12 +4,12 @@ ghost use Rattle.std.specs.Prelude.{◌≡◌, ◌==◌, ℕ, List, OnErr, Some,
 ghost use Rattle.std.specs.Fmt.{DisplaysOnOk};
 ghost use Rattle.rustsec_error.specs.Failure.{IsMemory, IsRefusal};
 ghost use Rattle.rustsec_lock.specs.declared.cvss.Cvss.TheVariants as cvss;
-ghost use Rattle.rustsec_lock.specs.Cvss.{base_of, base_text, after_prefix, cvss_of, cvss_severity, cvss_text, given, metric, metrics_of, parts_of};
+ghost use Rattle.rustsec_lock.specs.Cvss.{base_of, base_text, after_prefix, cvss_of, cvss_severity, cvss_text, metric_letter, parse_metric, metrics_of, parts_of};
 
 use crate::metrics::Base;
 use crate::severity::Severity;
-use rustsec_error::{ErrorKind, FromText, Result, refused_text};
-use rustsec_values::{ExactClone, ExactEq, Named, Text, value_named};
+use rustsec_error::{ErrorKind, FromText, Result, text_error};
+use rustsec_values::{ClosedEnum, ExactClone, ExactEq, Text, from_name};
 use std::alloc::{AllocError, Global};
 use std::fmt;
 
@@ -32,8 +32,8 @@ fn after_prefix<'a>(beginning: &str, text: &'a str) -> Option<&'a str>
 }
 
 /// Returns the text after a metric's name in the only part that begins with it.
-fn given<'a>(name: &str, parts: &[&'a str]) -> Option<&'a str>
-    ensures { option_map (λ t. t.now) result ≡ given name.now (map (λ p. p.now) parts.now) }
+fn metric_letter<'a>(name: &str, parts: &[&'a str]) -> Option<&'a str>
+    ensures { option_map (λ t. t.now) result ≡ metric_letter name.now (map (λ p. p.now) parts.now) }
 {
     let mut found = None;
     for part in parts {
@@ -48,10 +48,10 @@ fn given<'a>(name: &str, parts: &[&'a str]) -> Option<&'a str>
 }
 
 /// Returns the value whose letter follows a metric's name in the only part that begins with it.
-fn metric<T: Named>(name: &str, parts: &[&str]) -> Option<T>
-    ensures { result ≡ metric T.name_of T.values name.now (map (λ p. p.now) parts.now) }
+fn parse_metric<T: ClosedEnum>(name: &str, parts: &[&str]) -> Option<T>
+    ensures { result ≡ parse_metric T.name_of T.values name.now (map (λ p. p.now) parts.now) }
 {
-    value_named(given(name, parts)?)
+    from_name(metric_letter(name, parts)?)
 }
 
 /// Returns the metrics of the parts of a vector.
@@ -61,14 +61,14 @@ fn metrics(minor_version: usize, parts: &[&str]) -> Option<Base>
 {
     Some(Base {
         minor_version,
-        av: metric("AV:", parts)?,
-        ac: metric("AC:", parts)?,
-        pr: metric("PR:", parts)?,
-        ui: metric("UI:", parts)?,
-        s: metric("S:", parts)?,
-        c: metric("C:", parts)?,
-        i: metric("I:", parts)?,
-        a: metric("A:", parts)?,
+        av: parse_metric("AV:", parts)?,
+        ac: parse_metric("AC:", parts)?,
+        pr: parse_metric("PR:", parts)?,
+        ui: parse_metric("UI:", parts)?,
+        s: parse_metric("S:", parts)?,
+        c: parse_metric("C:", parts)?,
+        i: parse_metric("I:", parts)?,
+        a: parse_metric("A:", parts)?,
     })
 }
 
@@ -91,7 +91,7 @@ fn base(alloc: Global, minor_version: usize, text: &str) -> Result<Base>
             return Ok(base);
         }
     }
-    Err(refused_text(
+    Err(text_error(
         alloc,
         "malformed CVSS vector",
         text,
@@ -123,7 +123,7 @@ impl Cvss {
             let text = Text::from_str(alloc, text)?;
             return Ok(Cvss::CvssV40(text));
         }
-        Err(refused_text(
+        Err(text_error(
             alloc,
             "malformed CVSS vector",
             text,

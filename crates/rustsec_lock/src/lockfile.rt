@@ -14,7 +14,7 @@ ghost use Rattle.rustsec_lock.specs.Source.{source_id_of};
 use crate::names::Name;
 use crate::packages::Package;
 use crate::source::SourceId;
-use rustsec_error::{Error, ErrorKind, Result, refused_at, refused_file, refused_text};
+use rustsec_error::{Error, ErrorKind, Result, file_error, text_error, with_place};
 use rustsec_folders::{Folders, RealFolders};
 use rustsec_toml::{Section, TablePlace, document};
 use rustsec_values::{ExactClone, ExactEq, Items, Text, beginning_of};
@@ -32,7 +32,7 @@ fn version_in(alloc: Global, section: Section<'_>, text: &str) -> Result<Version
 {
     match read_version(alloc, text, text) {
         Ok(version) => Ok(version),
-        Err(e) => Err(section.refused_at(alloc, "version", &e)),
+        Err(e) => Err(section.with_key(alloc, "version", &e)),
     }
 }
 
@@ -43,7 +43,7 @@ fn source_in(alloc: Global, section: Section<'_>, text: Option<&str>) -> Result<
 {
     match text {
         Some(text) => {
-            let source = section.read(alloc, "source", text)?;
+            let source = section.parse_str(alloc, "source", text)?;
             Ok(Some(source))
         }
         None => Ok(None),
@@ -60,7 +60,7 @@ fn package_in(alloc: Global, table: &Table, place: TablePlace<'_>) -> Result<Pac
         name: "[[package]]",
         place,
     };
-    let name: Name = section.read(alloc, "name", section.string_at(alloc, "name")?)?;
+    let name: Name = section.parse_str(alloc, "name", section.string_at(alloc, "name")?)?;
     let version = version_in(alloc, section, section.string_at(alloc, "version")?)?;
     let source = source_in(alloc, section, section.optional_string_at(alloc, "source")?)?;
     let checksum = Text::from_option(alloc, section.optional_string_at(alloc, "checksum")?)?;
@@ -80,8 +80,8 @@ fn package_of(alloc: Global, value: &Value, place: TablePlace<'_>) -> Result<Pac
     match value.as_table() {
         Some(table) => package_in(alloc, table, place),
         None => {
-            let error = refused_text(alloc, "not a package: found", value.type_str(), "a table");
-            Err(place.refused_at(alloc, "", error))
+            let error = text_error(alloc, "not a package: found", value.type_str(), "a table");
+            Err(place.with_place(alloc, "", error))
         }
     }
 }
@@ -99,12 +99,12 @@ fn place_of(alloc: Global, index: usize, value: &Value) -> std::result::Result<S
 }
 
 /// Adds the place of a package before the message of an error about it.
-fn in_package(alloc: Global, index: usize, value: &Value, error: &Error) -> Error
+fn with_package(alloc: Global, index: usize, value: &Value, error: &Error) -> Error
     ensures kind { IsOfKind error.now.kind result }
     ensures memory { IsMemory error.now → IsMemory result }
 {
     match place_of(alloc, index, value) {
-        Ok(place) => refused_at(alloc, &place, error),
+        Ok(place) => with_place(alloc, &place, error),
         Err(refused) => Error::from(refused),
     }
 }
@@ -136,7 +136,7 @@ fn add_package(
             packages.push(package)?;
             Ok(())
         }
-        Err(e) => Err(in_package(alloc, packages.len(), value, &e)),
+        Err(e) => Err(with_package(alloc, packages.len(), value, &e)),
     }
 }
 
@@ -225,7 +225,7 @@ impl Lockfile {
     {
         match Lockfile::from_str(alloc, text) {
             Ok(lockfile) => Ok(lockfile),
-            Err(e) => Err(refused_file(alloc, path, &e)),
+            Err(e) => Err(file_error(alloc, path, &e)),
         }
     }
 

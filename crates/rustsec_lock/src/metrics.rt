@@ -1,6 +1,6 @@
 //! The base metrics of CVSS 3, and the letters of their values (CVSS 3.1, sections 2 and 6).
 
-use rustsec_values::{ExactClone, ExactEq, Named};
+use rustsec_values::{ClosedEnum, ExactClone, ExactEq};
 
 /// How close an attacker must be: CVSS 3.1, section 2.1.1.
 #[derive(Clone, Copy, Debug, PartialEq, Eq)]
@@ -15,7 +15,7 @@ pub enum AttackVector {
     Physical,
 }
 
-impl Named for AttackVector {
+impl ClosedEnum for AttackVector {
     ghost use Rattle.rustsec_lock.specs.Metrics.{attack_vector_letter, attack_vector_values};
 
     ghost name_of = { attack_vector_letter };
@@ -62,7 +62,7 @@ pub enum AttackComplexity {
     High,
 }
 
-impl Named for AttackComplexity {
+impl ClosedEnum for AttackComplexity {
     ghost use Rattle.rustsec_lock.specs.Metrics.{attack_complexity_letter, attack_complexity_values};
 
     ghost name_of = { attack_complexity_letter };
@@ -104,7 +104,7 @@ pub enum PrivilegesRequired {
     High,
 }
 
-impl Named for PrivilegesRequired {
+impl ClosedEnum for PrivilegesRequired {
     ghost use Rattle.rustsec_lock.specs.Metrics.{privileges_required_letter, privileges_required_values};
 
     ghost name_of = { privileges_required_letter };
@@ -149,7 +149,7 @@ pub enum UserInteraction {
     Required,
 }
 
-impl Named for UserInteraction {
+impl ClosedEnum for UserInteraction {
     ghost use Rattle.rustsec_lock.specs.Metrics.{user_interaction_letter, user_interaction_values};
 
     ghost name_of = { user_interaction_letter };
@@ -189,7 +189,7 @@ pub enum Scope {
     Changed,
 }
 
-impl Named for Scope {
+impl ClosedEnum for Scope {
     ghost use Rattle.rustsec_lock.specs.Metrics.{scope_letter, scope_values};
 
     ghost name_of = { scope_letter };
@@ -231,7 +231,7 @@ pub enum Confidentiality {
     High,
 }
 
-impl Named for Confidentiality {
+impl ClosedEnum for Confidentiality {
     ghost use Rattle.rustsec_lock.specs.Metrics.{confidentiality_letter, confidentiality_values};
 
     ghost name_of = { confidentiality_letter };
@@ -278,7 +278,7 @@ pub enum Integrity {
     High,
 }
 
-impl Named for Integrity {
+impl ClosedEnum for Integrity {
     ghost use Rattle.rustsec_lock.specs.Metrics.{integrity_letter, integrity_values};
 
     ghost name_of = { integrity_letter };
@@ -321,7 +321,7 @@ pub enum Availability {
     High,
 }
 
-impl Named for Availability {
+impl ClosedEnum for Availability {
     ghost use Rattle.rustsec_lock.specs.Metrics.{availability_letter, availability_values};
 
     ghost name_of = { availability_letter };

@@ -4,7 +4,7 @@ ghost use Rattle.std.specs.Prelude.{◌≡◌, ◌<◌, IfErr, IfOk, None, Some,
 ghost use Rattle.rustsec_error.specs.Failure.{IsMemory, IsRefusal};
 ghost use Rattle.rustsec_lock.specs.Names.{name_cmp, name_of};
 
-use rustsec_error::{ErrorKind, FromText, Result, refused_text};
+use rustsec_error::{ErrorKind, FromText, Result, text_error};
 use rustsec_values::{ExactClone, ExactEq, StatedOrder, Text};
 use std::alloc::Global;
 use std::convert::AsStr;
@@ -41,7 +41,7 @@ impl Name {
         ensures err { IfErr result (IsRefusal ErrorKind.Parse (name_of text.now ≡ None)) }
     {
         if text.is_empty() {
-            return Err(refused_text(alloc, "malformed name", text, "a text that is not empty"));
+            return Err(text_error(alloc, "malformed name", text, "a text that is not empty"));
         }
         let text = Text::from_str(alloc, text)?;
         Ok(Name { text })

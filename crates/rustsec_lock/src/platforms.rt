@@ -4,8 +4,8 @@ ghost use Rattle.std.specs.Prelude.{◌≡◌, IfErr, IfOk, None, Some};
 ghost use Rattle.rustsec_error.specs.Failure.{IsRefusal};
 ghost use Rattle.rustsec_lock.specs.Platforms.{arch_of, arch_text, os_of, os_text};
 
-use rustsec_error::{ErrorKind, FromText, Result, refused_text};
-use rustsec_values::{ExactClone, ExactEq, Named, value_named};
+use rustsec_error::{ErrorKind, FromText, Result, text_error};
+use rustsec_values::{ClosedEnum, ExactClone, ExactEq, from_name};
 use std::alloc::Global;
 use std::fmt;
 
@@ -101,9 +101,9 @@ impl Arch {
         // Success takes no memory, so any error means that nothing has this name.
         ensures none { IfErr result (λ e. arch_of text.now ≡ None) }
     {
-        match value_named(text) {
+        match from_name(text) {
             Some(found) => Ok(found),
-            None => Err(refused_text(
+            None => Err(text_error(
                 alloc,
                 "no architecture has the name",
                 text,
@@ -147,7 +147,7 @@ impl Arch {
     }
 }
 
-impl Named for Arch {
+impl ClosedEnum for Arch {
     ghost use Rattle.rustsec_lock.specs.Platforms.{arch_text, arches};
 
     ghost name_of = { arch_text };
@@ -324,9 +324,9 @@ impl OS {
         // Success takes no memory, so any error means that nothing has this name.
         ensures none { IfErr result (λ e. os_of text.now ≡ None) }
     {
-        match value_named(text) {
+        match from_name(text) {
             Some(found) => Ok(found),
-            None => Err(refused_text(
+            None => Err(text_error(
                 alloc,
                 "no system has the name",
                 text,
@@ -382,7 +382,7 @@ impl OS {
     }
 }
 
-impl Named for OS {
+impl ClosedEnum for OS {
     ghost use Rattle.rustsec_lock.specs.Platforms.{os_text, systems};
 
     ghost name_of = { os_text };

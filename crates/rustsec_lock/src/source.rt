@@ -5,8 +5,8 @@ ghost use Rattle.std.specs.List.{before_first};
 ghost use Rattle.rustsec_error.specs.Failure.{IsMemory, IsRefusal};
 ghost use Rattle.rustsec_lock.specs.Source.{default_source, is_default, kind_word, location_of, source_id_of, source_text, url_of};
 
-use rustsec_error::{ErrorKind, FromText, Result, refused_text};
-use rustsec_values::{ExactClone, ExactEq, Named, Text, value_named};
+use rustsec_error::{ErrorKind, FromText, Result, text_error};
+use rustsec_values::{ClosedEnum, ExactClone, ExactEq, Text, from_name};
 use std::alloc::Global;
 use std::fmt;
 use std::marker::Model;
@@ -44,7 +44,7 @@ impl SourceKind {
     }
 }
 
-impl Named for SourceKind {
+impl ClosedEnum for SourceKind {
     ghost use Rattle.rustsec_lock.specs.Source.{kind_word, kinds};
 
     ghost name_of = { kind_word };
@@ -142,13 +142,13 @@ impl SourceId {
         ensures err { IfErr result (IsRefusal ErrorKind.Parse (source_id_of text.now ≡ None)) }
     {
         let Some((word, address)) = text.split_once('+') else {
-            return Err(refused_text(alloc, "malformed source", text, "KIND+ADDRESS"));
+            return Err(text_error(alloc, "malformed source", text, "KIND+ADDRESS"));
         };
-        let Some(kind) = value_named(word) else {
-            return Err(refused_text(alloc, "unknown kind of source", word, KINDS));
+        let Some(kind) = from_name(word) else {
+            return Err(text_error(alloc, "unknown kind of source", word, KINDS));
         };
         if location(kind, address).is_empty() {
-            return Err(refused_text(
+            return Err(text_error(
                 alloc,
                 "no address in the source",
                 text,

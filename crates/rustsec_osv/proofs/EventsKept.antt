@@ -5,7 +5,7 @@ use Rattle.std.proofs.lemmas.List.Elements.{All-head, All-tail}
 use Rattle.std.proofs.lemmas.Option.{same_Some}
 use Rattle.rustsec_json.specs.Codecs.{IfThere, members_of}
 use Rattle.rustsec_json.specs.Fields.{every, value_or}
-use Rattle.rustsec_json.proofs.CodecsAgain.{list_of-items, object-held, optional-again, parts-read}
+use Rattle.rustsec_json.proofs.CodecsRoundTrip.{list_of-items, object-held, optional-again, parts-read}
 use Rattle.rustsec_values.specs.Reading.{before, read_all}
 use Rattle.rustsec_osv.specs.DocumentCodec.{AreEventsValid, affected_codec, affected_object, document_object, document_tree, read_document}
 use Rattle.rustsec_osv.specs.DocumentEvents.{Event, JsonRange}
@@ -13,7 +13,7 @@ use Rattle.rustsec_osv.specs.Documents.{Document, ranges_of}
 use Rattle.rustsec_osv.specs.EventCodec.{IsRangeAgain}
 use Rattle.rustsec_osv.specs.Export.{document_events, events_of_member}
 use Rattle.rustsec_osv.specs.declared.affected.OsvAffected.{OsvAffected}
-use Rattle.rustsec_osv.proofs.DocumentsAgain.{ranges-again}
+use Rattle.rustsec_osv.proofs.DocumentsRoundTrip.{ranges-again}
 
 -- the ranges of a member that was read
 ranges-kept : (a b : OsvAffected) → IfThere (All IsRangeAgain) a.ranges → affected_codec.read (affected_codec.tree a) ≡ Some b → b.ranges ≡ a.ranges

@@ -1,12 +1,12 @@
 pub mod Distinct
-pub mod DocumentsAgain
-pub mod EventsAgain
+pub mod DocumentsRoundTrip
+pub mod EventsRoundTrip
 pub mod EventsKept
-pub mod ExportAgain
+pub mod ExportRoundTrip
 pub mod Exported
 pub mod LeastVersion
 pub mod Links
 pub mod Parts
 pub mod RisingEvents
-pub mod TablesAgain
+pub mod TablesRoundTrip
 pub mod ValidEvents

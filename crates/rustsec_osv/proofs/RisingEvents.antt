@@ -10,7 +10,7 @@ use Rattle.rustsec_versions.specs.requirement.Requirement.{least_of}
 use Rattle.rustsec_versions.proofs.lemmas.order.PrecedenceLaws.{at_most-not_below, below-at_most, below-not_at_most, below-weak, not_at_most}
 use Rattle.rustsec_versions.proofs.lemmas.ranges.RangeList.{AllFollowed, followed-to}
 use Rattle.rustsec_osv.specs.DocumentEvents.{Event}
-use Rattle.rustsec_osv.specs.Events.{beginning, ends_introduced, events_of, events_say, is_introduction, is_till}
+use Rattle.rustsec_osv.specs.Events.{beginning, ends_introduced, events_of, events_say, is_introduction, is_until}
 use Rattle.rustsec_osv.proofs.LeastVersion.{least-at_most}
 
 -- ---- events one by one
@@ -18,7 +18,7 @@ use Rattle.rustsec_osv.proofs.LeastVersion.{least-at_most}
 -- the answer after some events, from the answer before them
 abbrev said : List Event → Parts → Bool → Bool
 said [] v before = before
-said (e ∷ es) v before = said es v (cond (is_till v e) (is_introduction e) before)
+said (e ∷ es) v before = said es v (cond (is_until v e) (is_introduction e) before)
 
 abbrev ends_with : Bool → List Event → Bool
 ends_with before [] = before
@@ -28,10 +28,10 @@ ends_step : (before : Bool) (e : Event) (es : List Event) → ends_with before (
 ends_step before e [] = refl
 ends_step before e (f ∷ es) = refl
 
-said-ends : (es : List Event) (v : Parts) (before : Bool) → said es v before ≡ ends_with before (filter (is_till v) es)
+said-ends : (es : List Event) (v : Parts) (before : Bool) → said es v before ≡ ends_with before (filter (is_until v) es)
 said-ends [] v before = refl
-said-ends (e ∷ es) v before = elim (cases_Bool (is_till v e)) [
-  | inl counted ↦ rw (counted, said-ends es v (is_introduction e)) (sym (ends_step before e (filter (is_till v) es)))
+said-ends (e ∷ es) v before = elim (cases_Bool (is_until v e)) [
+  | inl counted ↦ rw (counted, said-ends es v (is_introduction e)) (sym (ends_step before e (filter (is_until v) es)))
   | inr other ↦ rw (other, said-ends es v before) refl
 ]
 
@@ -41,11 +41,11 @@ starts_false (e ∷ es) = refl
 
 say-said : (es : List Event) (v : Parts) → events_say es v ≡ said es v false
 unfolding events_say
-say-said es v = sym (said-ends es v false ∙ starts_false (filter (is_till v) es))
+say-said es v = sym (said-ends es v false ∙ starts_false (filter (is_until v) es))
 
 said-append : (xs ys : List Event) (v : Parts) (before : Bool) → said (xs ++ ys) v before ≡ said ys v (said xs v before)
 said-append [] ys v before = refl
-said-append (x ∷ xs) ys v before = said-append xs ys v (cond (is_till v x) (is_introduction x) before)
+said-append (x ∷ xs) ys v before = said-append xs ys v (cond (is_until v x) (is_introduction x) before)
 
 -- ---- ranges above a version
 

@@ -1,6 +1,6 @@
 -- The kinds of references (OSV schema, `references[].type`).
 use Rattle.std.specs.Prelude.{ℕ, List, [], ◌∷◌, codes, Option}
-use Rattle.rustsec_values.specs.ClosedTables.{value_named}
+use Rattle.rustsec_values.specs.ClosedTables.{from_name}
 use Rattle.rustsec_osv.specs.declared.reference.OsvReferenceKind.{OsvReferenceKind}
 use Rattle.rustsec_osv.specs.declared.reference.OsvReferenceKind.TheVariants as kind
 
@@ -19,4 +19,4 @@ reference_kinds = kind.ADVISORY ∷ kind.ARTICLE ∷ kind.REPORT ∷ kind.FIX �
 
 -- the kind of a word, if it is the word of one
 abbrev pub reference_kind_of : List ℕ → Option OsvReferenceKind
-reference_kind_of = value_named reference_kind_name reference_kinds
+reference_kind_of = from_name reference_kind_name reference_kinds

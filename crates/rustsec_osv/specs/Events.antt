@@ -8,10 +8,10 @@ use Rattle.rustsec_versions.specs.requirement.Requirement.{least_of}
 use Rattle.rustsec_osv.specs.DocumentEvents.{Event, fixed, introduced, last_affected}
 
 -- whether an event is an introduction or a fix at or below a version
-abbrev pub is_till : Parts → Event → Bool
-is_till v (introduced w) = is_at_most w v
-is_till v (fixed w) = is_at_most w v
-is_till v (last_affected w) = false
+abbrev pub is_until : Parts → Event → Bool
+is_until v (introduced w) = is_at_most w v
+is_until v (fixed w) = is_at_most w v
+is_until v (last_affected w) = false
 
 abbrev pub is_introduction : Event → Bool
 is_introduction (introduced v) = true
@@ -26,7 +26,7 @@ ends_introduced (e ∷ f ∷ es) = ends_introduced (f ∷ es)
 
 -- events call a version affected if the last event in the list that is at or below it is an introduction
 unfoldable pub events_say : List Event → Parts → Bool
-events_say es v = ends_introduced (filter (is_till v) es)
+events_say es v = ends_introduced (filter (is_until v) es)
 
 -- ---- the events of ranges
 

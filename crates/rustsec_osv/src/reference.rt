@@ -6,8 +6,8 @@ ghost use Rattle.rustsec_osv.specs.DocumentKinds.{reference_kind_name, reference
 ghost use Rattle.rustsec_error.specs.Failure.{IsMemory, IsRefusal};
 
 use rustsec_advisory::Address;
-use rustsec_error::{ErrorKind, Result, refused_text};
-use rustsec_values::{ExactClone, ExactEq, Named, value_named};
+use rustsec_error::{ErrorKind, Result, text_error};
+use rustsec_values::{ClosedEnum, ExactClone, ExactEq, from_name};
 use std::alloc::Global;
 
 /// The kind of the page that a reference leads to.
@@ -54,9 +54,9 @@ impl OsvReferenceKind {
         // Success takes no memory, so any error means that the text is not one of the words.
         ensures none { IfErr result (λ e. reference_kind_of text.now ≡ None) }
     {
-        match value_named(text) {
+        match from_name(text) {
             Some(value) => Ok(value),
-            None => Err(refused_text(
+            None => Err(text_error(
                 alloc,
                 "no kind of references has the name",
                 text,
@@ -66,7 +66,7 @@ impl OsvReferenceKind {
     }
 }
 
-impl Named for OsvReferenceKind {
+impl ClosedEnum for OsvReferenceKind {
     ghost use Rattle.rustsec_osv.specs.DocumentKinds.{reference_kind_name, reference_kinds};
 
     ghost name_of = { reference_kind_name };

@@ -13,7 +13,7 @@ ghost use Rattle.rustsec_error.specs.declared.error.ErrorKind.TheVariants as kin
 ghost use Rattle.rustsec_osv_database.specs.Answers.{AreDocuments, HasNoAnswer, IsAnswerOf, IsOwnDocument, answer_line, asked};
 ghost use Rattle.rustsec_osv_database.specs.Lines.{HasNoDocument};
 
-use crate::lines::{document_of, tree_of};
+use crate::lines::{exported_document, tree_of};
 use rustsec_advisory::Advisory;
 use rustsec_commands::output::tree_line;
 use rustsec_database::Database;
@@ -39,7 +39,7 @@ fn query_for(alloc: Global, name: Name, version: Version) -> Query
 }
 
 /// Returns the error for an advisory that has no document for this reason. Out of memory stays as it is.
-fn no_document(alloc: Global, advisory: &Advisory, why: &Error) -> Error
+fn document_error(alloc: Global, advisory: &Advisory, why: &Error) -> Error
     ensures { IsRefusal ErrorKind.BadParam (why.now.kind ≢ kind.OutOfMemory) result }
 {
     if why.kind() == ErrorKind::OutOfMemory {
@@ -67,9 +67,9 @@ fn own_document(alloc: Global, advisory: &Advisory) -> Result<OsvAdvisory>
     ensures err { IfErr result (IsRefusal ErrorKind.BadParam (HasNoDocument advisory.now)) }
 {
     let noon = noon(alloc, &advisory.metadata.date)?;
-    match document_of(alloc, advisory, noon.as_str()) {
+    match exported_document(alloc, advisory, noon.as_str()) {
         Ok(document) => Ok(document),
-        Err(error) => Err(no_document(alloc, advisory, &error)),
+        Err(error) => Err(document_error(alloc, advisory, &error)),
     }
 }
 

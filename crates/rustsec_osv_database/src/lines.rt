@@ -31,7 +31,11 @@ fn chosen(alloc: Global, choice: Choice, document: OsvAdvisory) -> Result<OsvAdv
 }
 
 /// Returns the document of an advisory.
-pub(crate) fn document_of(alloc: Global, advisory: &Advisory, modified: &str) -> Result<OsvAdvisory>
+pub(crate) fn exported_document(
+    alloc: Global,
+    advisory: &Advisory,
+    modified: &str,
+) -> Result<OsvAdvisory>
     ensures ok { IfOk result (IsDocument advisory.now modified.now) }
     ensures err { IfErr result (λ e. e.kind ≢ kind.OutOfMemory → HasNoDocument advisory.now) }
 {
@@ -49,7 +53,7 @@ fn chosen_of(
     ensures ok { IfOk result (λ d. (whole : Document) × (IsDocument advisory.now modified.now whole × (d ≡ chosen choice whole))) }
     ensures err { IfErr result (λ e. e.kind ≢ kind.OutOfMemory → HasNoDocument advisory.now) }
 {
-    let document = document_of(alloc, advisory, modified)?;
+    let document = exported_document(alloc, advisory, modified)?;
     chosen(alloc, choice, document)
 }
 

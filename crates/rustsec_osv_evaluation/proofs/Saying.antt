@@ -8,7 +8,7 @@ use Rattle.std.proofs.Common.{suc, arith}
 use Rattle.semver.specs.Parse.{Parts}
 use Rattle.rustsec_versions.specs.order.Precedence.{is_at_most}
 use Rattle.rustsec_osv.specs.DocumentEvents.{Event, fixed, introduced, last_affected}
-use Rattle.rustsec_osv.specs.Events.{ends_introduced, events_say, is_introduction, is_till}
+use Rattle.rustsec_osv.specs.Events.{ends_introduced, events_say, is_introduction, is_until}
 use Rattle.rustsec_osv_evaluation.specs.Event.{seen, version_of}
 use Rattle.rustsec_osv_evaluation.specs.Pairs.{HaveOwnVersions, are_at_one, at}
 use Rattle.rustsec_osv_evaluation.specs.Range.{after, is_before_limits, is_limit, say_in_order}
@@ -62,17 +62,17 @@ say-fixed v w before es h = ap (λ b. say v b es) (not-and-true (is_at_most w v)
 pub say-fixed_above : (v w : Parts) (before : Bool) (es : List Event) → is_at_most w v ≡ false → say v before (fixed w ∷ es) ≡ say v before es
 say-fixed_above v w before es h = ap (λ b. say v b es) (not-and-false (is_at_most w v) before h)
 
-counted : (v : Parts) (before : Bool) (e : Event) (es : List Event) → is_till v e ≡ true
-    → ends_with (is_introduction e) (filter (is_till v) es) ≡ ends_with before (filter (is_till v) (e ∷ es))
+counted : (v : Parts) (before : Bool) (e : Event) (es : List Event) → is_until v e ≡ true
+    → ends_with (is_introduction e) (filter (is_until v) es) ≡ ends_with before (filter (is_until v) (e ∷ es))
 counted v before e es h =
-    sym (ends_step before e (filter (is_till v) es))
-    ∙ sym (ap (λ b. ends_with before (cond b (e ∷ filter (is_till v) es) (filter (is_till v) es))) h)
+    sym (ends_step before e (filter (is_until v) es))
+    ∙ sym (ap (λ b. ends_with before (cond b (e ∷ filter (is_until v) es) (filter (is_until v) es))) h)
 
-passed : (v : Parts) (before : Bool) (e : Event) (es : List Event) → is_till v e ≡ false
-    → ends_with before (filter (is_till v) es) ≡ ends_with before (filter (is_till v) (e ∷ es))
-passed v before e es h = sym (ap (λ b. ends_with before (cond b (e ∷ filter (is_till v) es) (filter (is_till v) es))) h)
+passed : (v : Parts) (before : Bool) (e : Event) (es : List Event) → is_until v e ≡ false
+    → ends_with before (filter (is_until v) es) ≡ ends_with before (filter (is_until v) (e ∷ es))
+passed v before e es h = sym (ap (λ b. ends_with before (cond b (e ∷ filter (is_until v) es) (filter (is_until v) es))) h)
 
-say-ends : (v : Parts) (first before : Bool) (es : List Event) → Turns first es → say v before es ≡ ends_with before (filter (is_till v) es)
+say-ends : (v : Parts) (first before : Bool) (es : List Event) → Turns first es → say v before es ≡ ends_with before (filter (is_until v) es)
 say-ends v first before [] t = refl
 say-ends v first before (introduced w ∷ es) t = elim (cases_Bool (is_at_most w v)) [
   | inl low ↦ say-introduced v w before es low ∙ (say-ends v false true es t.1 ∙ counted v before (introduced w) es low)
@@ -86,7 +86,7 @@ say-ends v first before (last_affected w ∷ es) t = absurd t
 
 pub says : (v : Parts) (es : List Event) → Turns true es → say_in_order (map seen es) v ≡ events_say es v
 unfolding events_say
-says v es t = say-ends v true false es t ∙ starts_false (filter (is_till v) es)
+says v es t = say-ends v true false es t ∙ starts_false (filter (is_until v) es)
 
 -- ---- no limits
 

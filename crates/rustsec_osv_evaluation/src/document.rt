@@ -15,7 +15,7 @@ use std::alloc::{AllocError, Global};
 
 /// A version of a package.
 #[derive(Clone, Copy)]
-pub struct Question<'a> {
+pub struct PackageVersion<'a> {
     /// The ecosystem of the package, as `crates.io`.
     pub ecosystem: &'a str,
     /// The name of the package.
@@ -98,7 +98,7 @@ fn member_says(alloc: Global, member: &OsvAffected, version: &Version) -> Result
 }
 
 /// Returns whether a member is about a package.
-fn is_about(member: &OsvAffected, question: &Question<'_>) -> bool
+fn is_about(member: &OsvAffected, question: &PackageVersion<'_>) -> bool
     ensures { result ≡ is_about question.now.ecosystem.now question.now.name.now member.now }
 {
     let package = &member.package;
@@ -109,7 +109,7 @@ fn is_about(member: &OsvAffected, question: &Question<'_>) -> bool
 fn members_about<'d>(
     alloc: Global,
     members: &'d [OsvAffected],
-    question: &Question<'_>,
+    question: &PackageVersion<'_>,
 ) -> Result<Vec<&'d OsvAffected>, AllocError>
     ensures { IfOk result (λ v. map (λ m. m.now) v.items ≡ filter (is_about question.now.ecosystem.now question.now.name.now) members.now) }
 {
@@ -149,7 +149,7 @@ fn members_say(
 pub fn is_affected(
     alloc: Global,
     document: &OsvAdvisory,
-    question: &Question<'_>,
+    question: &PackageVersion<'_>,
 ) -> Result<bool, AllocError>
     ensures { IfOk result (IsAnswer question.now.ecosystem.now question.now.name.now (parts_of question.now.version.now) document.now) }
 {

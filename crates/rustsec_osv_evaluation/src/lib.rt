@@ -8,7 +8,7 @@ mod order;
 mod pairs;
 mod range;
 
-pub use crate::document::{Question, is_affected};
+pub use crate::document::{PackageVersion, is_affected};
 pub use crate::event::Event;
 pub use crate::export::document_of;
 pub use crate::order::has_ordered_events;

@@ -20,12 +20,12 @@ use Rattle.rustsec_osv.specs.DocumentCodec.{affected_codec, document_tree, sever
 use Rattle.rustsec_osv.specs.EventCodec.{range_tree}
 use Rattle.rustsec_osv.specs.declared.affected.OsvDatabaseSpecific.{OsvDatabaseSpecific}
 use Rattle.rustsec_osv.specs.declared.reference.OsvReference.{OsvReference}
-use Rattle.rustsec_osv.proofs.DocumentsAgain.{keyed}
+use Rattle.rustsec_osv.proofs.DocumentsRoundTrip.{keyed}
 use Rattle.toml.specs.Data.{get_member}
 use Rattle.rustsec_toml.specs.Fields.{text}
 use Rattle.rustsec_texts.specs.Dates.{date_of}
 use Rattle.rustsec_advisory.specs.Advisory.{IsAdvisory}
-use Rattle.rustsec_osv.proofs.TablesAgain.{optional-read, text-read, through}
+use Rattle.rustsec_osv.proofs.TablesRoundTrip.{optional-read, text-read, through}
 use Rattle.rustsec_osv_schema.specs.Exports.{HasDays, HasNoon, IsForSchema}
 use Rattle.rustsec_osv_schema.specs.Names.{document_keys, ecosystems_a}
 use Rattle.rustsec_osv_schema.specs.Schema.{IsOsvSchema, are_severities, has_no_severity, is_affected, is_range}

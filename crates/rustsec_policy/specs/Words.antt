@@ -9,7 +9,7 @@ use Rattle.rustsec_policy.specs.declared.words.OutputFormat.{OutputFormat}
 use Rattle.rustsec_policy.specs.declared.words.OutputFormat.TheVariants as format
 use Rattle.rustsec_policy.specs.declared.words.PackageSource.{PackageSource}
 use Rattle.rustsec_policy.specs.declared.words.PackageSource.TheVariants as source
-use Rattle.rustsec_values.specs.ClosedTables.{value_named}
+use Rattle.rustsec_values.specs.ClosedTables.{from_name}
 
 -- what is denied: every warning, or those of one kind
 abbrev pub denied_name : Denied → List ℕ
@@ -22,7 +22,7 @@ abbrev pub denied_words : List Denied
 denied_words = denied.Warnings ∷ denied.Unmaintained ∷ denied.Unsound ∷ denied.Yanked ∷ []
 
 abbrev pub denied_of : List ℕ → Option Denied
-denied_of = value_named denied_name denied_words
+denied_of = from_name denied_name denied_words
 
 -- how findings are written
 abbrev pub format_name : OutputFormat → List ℕ
@@ -33,7 +33,7 @@ abbrev pub formats : List OutputFormat
 formats = format.Terminal ∷ format.Json ∷ []
 
 abbrev pub format_of : List ℕ → Option OutputFormat
-format_of = value_named format_name formats
+format_of = from_name format_name formats
 
 -- which packages are looked at
 abbrev pub package_source_name : PackageSource → List ℕ
@@ -45,11 +45,11 @@ abbrev pub package_sources : List PackageSource
 package_sources = source.All ∷ source.Public ∷ source.Local ∷ []
 
 abbrev pub package_source_of : List ℕ → Option PackageSource
-package_source_of = value_named package_source_name package_sources
+package_source_of = from_name package_source_name package_sources
 
 -- the severities, by their names
 abbrev pub severities : List Severity
 severities = severity.None ∷ severity.Low ∷ severity.Medium ∷ severity.High ∷ severity.Critical ∷ []
 
 abbrev pub severity_named : List ℕ → Option Severity
-severity_named = value_named severity_text severities
+severity_named = from_name severity_text severities

@@ -21,7 +21,7 @@ fn optional_bool(alloc: Global, section: Section<'_>, key: &str) -> Result<Optio
     };
     match value.as_bool() {
         Some(flag) => Ok(Some(flag)),
-        None => Err(section.unexpected(alloc, key, value, "a boolean")),
+        None => Err(section.unexpected_error(alloc, key, value, "a boolean")),
     }
 }
 

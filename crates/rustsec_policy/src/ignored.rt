@@ -10,9 +10,9 @@ ghost use Rattle.rustsec_error.specs.Failure.{IsOfKind, IsRefusal};
 ghost use Rattle.rustsec_policy.specs.Policies.{counts_until, id_on, ids_on, ignored_in, ignored_of, known_id};
 
 use crate::keys::{IgnoredKeys, expect_keys};
-use crate::nearest::{asking, with_nearest};
+use crate::nearest::{with_nearest, with_question};
 use crate::refused::{Read, at_key};
-use rustsec_error::{Error, ErrorKind, Result, refused_text};
+use rustsec_error::{Error, ErrorKind, Result, text_error};
 use rustsec_texts::{Date, Id};
 use rustsec_toml::{Section, TablePlace};
 use rustsec_values::{Items, Text, exact_copy};
@@ -54,14 +54,14 @@ fn other_case(beginning: &str) -> Option<&'static str> {
 }
 
 /// Returns the error for an ID in an unknown form. It names the nearest known beginning, if one is near.
-fn unknown_form(alloc: Global, text: &str) -> Error
+fn unknown_form_error(alloc: Global, text: &str) -> Error
     ensures { IsOfKind ErrorKind.Parse result }
 {
     let expected = "`RUSTSEC-`, `CVE-`, `GHSA-` or `TALOS-` at its beginning";
-    let error = refused_text(alloc, "unknown form of ID", text, expected);
+    let error = text_error(alloc, "unknown form of ID", text, expected);
     let beginning = beginning(text);
     match other_case(beginning) {
-        Some(known) => asking(alloc, &error, known),
+        Some(known) => with_question(alloc, &error, known),
         None => with_nearest(alloc, error, &BEGINNINGS, beginning),
     }
 }
@@ -73,7 +73,7 @@ fn known_id(alloc: Global, text: &str) -> Result<Id>
 {
     let id = Id::from_str(alloc, text)?;
     if id.is_other() {
-        return Err(unknown_form(alloc, text));
+        return Err(unknown_form_error(alloc, text));
     }
     Ok(id)
 }
@@ -86,7 +86,7 @@ fn id_in(alloc: Global, section: Section<'_>) -> Result<Id>
     let text = section.string_at(alloc, "id")?;
     match known_id(alloc, text) {
         Ok(id) => Ok(id),
-        Err(e) => Err(section.refused_at(alloc, "id", &e)),
+        Err(e) => Err(section.with_key(alloc, "id", &e)),
     }
 }
 
@@ -122,16 +122,16 @@ fn ignored_in(alloc: Global, table: &Table) -> Read<'_, Ignored>
     expect_keys::<IgnoredKeys>(alloc, section)?;
     let id = at_key(section, "id", id_in(alloc, section))?;
     let reason = at_key(section, "reason", reason_in(alloc, section))?;
-    let until = at_key(section, "until", section.optional_text_at(alloc, "until"))?;
+    let until = at_key(section, "until", section.optional(alloc, "until"))?;
     Ok(Ignored { id, reason, until })
 }
 
 /// Returns the error for an entry of another kind.
-fn other_kind(alloc: Global, value: &Value) -> Error
+fn entry_kind_error(alloc: Global, value: &Value) -> Error
     ensures { IsOfKind ErrorKind.Parse result }
 {
     let expected = "an ID, or a table with `id`";
-    refused_text(
+    text_error(
         alloc,
         "an entry of `ignore` is of the kind",
         value.type_str(),
@@ -163,7 +163,7 @@ fn ignored_of(
         };
     }
     let Some(table) = value.as_table() else {
-        let error = other_kind(alloc, value);
+        let error = entry_kind_error(alloc, value);
         return Err(RefusedEntry {
             error,
             index,
@@ -217,7 +217,7 @@ pub(crate) fn all_ignored(
 }
 
 /// Returns the error for an entry with a last day if no day is given.
-fn no_day(alloc: Global, entry: &Ignored, until: &Date) -> Error
+fn no_day_error(alloc: Global, entry: &Ignored, until: &Date) -> Error
     ensures { IsOfKind ErrorKind.BadParam result }
 {
     let (id, until) = (entry.id.as_str(), until.as_str());
@@ -239,7 +239,7 @@ fn counts_on(alloc: Global, today: Option<&Date>, entry: &Ignored) -> Result<boo
     };
     match today {
         Some(today) => Ok(today <= until),
-        None => Err(no_day(alloc, entry, until)),
+        None => Err(no_day_error(alloc, entry, until)),
     }
 }
 

@@ -63,7 +63,7 @@ fn message(alloc: Global, name: &str, key: &str, words: &[&str]) -> Result<Strin
 }
 
 /// Returns the error for a key that a table may not have.
-fn unknown(alloc: Global, name: &str, key: &str, words: &[&str]) -> Error
+fn unknown_key_error(alloc: Global, name: &str, key: &str, words: &[&str]) -> Error
     ensures { IsOfKind ErrorKind.Parse result }
 {
     match message(alloc, name, key, words) {
@@ -87,7 +87,7 @@ pub(crate) fn expect_keys<'a, K: Keys>(alloc: Global, section: Section<'a>) -> R
     for (key, _) in section.table {
         if !is_known::<K>(key.as_str()) {
             return Err(Refused {
-                error: unknown(alloc, section.name, key.as_str(), K::all()),
+                error: unknown_key_error(alloc, section.name, key.as_str(), K::all()),
                 table: section.name,
                 key: key.as_str(),
                 entry: Ok(None),

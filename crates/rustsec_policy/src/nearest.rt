@@ -5,7 +5,7 @@ ghost use Rattle.rustsec_error.specs.Failure.{IsMemory, IsOfKind};
 ghost use Rattle.rustsec_policy.specs.Nearest.{first_at, nearest};
 
 use rustsec_error::{Error, ErrorKind};
-use rustsec_values::{Named, beginning_of};
+use rustsec_values::{ClosedEnum, beginning_of};
 use std::alloc::{AllocError, Global};
 use strsim::osa_distance;
 
@@ -51,7 +51,7 @@ pub fn nearest_word<'a>(
 }
 
 /// Returns an error whose message also asks whether a word is meant. Out of memory stays as it is.
-pub(crate) fn asking(alloc: Global, error: &Error, word: &str) -> Error
+pub(crate) fn with_question(alloc: Global, error: &Error, word: &str) -> Error
     ensures kind { IsOfKind error.now.kind result }
     ensures memory { IsMemory error.now → IsMemory result }
 {
@@ -71,14 +71,14 @@ pub(crate) fn with_nearest(alloc: Global, error: Error, words: &[&str], unknown:
     ensures memory { IsMemory error → IsMemory result }
 {
     match nearest_word(alloc, words, beginning_of(unknown, 60)) {
-        Ok(Some(word)) => asking(alloc, &error, word),
+        Ok(Some(word)) => with_question(alloc, &error, word),
         Ok(None) => error,
         Err(refused) => Error::from(refused),
     }
 }
 
 /// Returns the names of all values of a type, in order.
-fn names<T: Named>(alloc: Global) -> Result<Vec<&'static str>, AllocError> {
+fn names<T: ClosedEnum>(alloc: Global) -> Result<Vec<&'static str>, AllocError> {
     let mut names = Vec::new(alloc);
     for value in T::all() {
         names.push(value.name())?;
@@ -87,7 +87,7 @@ fn names<T: Named>(alloc: Global) -> Result<Vec<&'static str>, AllocError> {
 }
 
 /// Adds the nearest name of a type after the message of an error about an unknown name, if one is near.
-pub(crate) fn with_nearest_name<T: Named>(alloc: Global, error: Error, unknown: &str) -> Error
+pub(crate) fn with_nearest_name<T: ClosedEnum>(alloc: Global, error: Error, unknown: &str) -> Error
     ensures kind { IsOfKind error.kind result }
     ensures memory { IsMemory error → IsMemory result }
 {

@@ -3,7 +3,7 @@
 ghost use Rattle.rustsec_error.specs.Failure.{IsMemory, IsOfKind};
 
 use crate::refused::Refused;
-use rustsec_error::{Error, refused_at};
+use rustsec_error::{Error, with_place};
 use rustsec_toml::TablePlace;
 use std::alloc::{AllocError, Global};
 
@@ -37,12 +37,12 @@ fn words_of(alloc: Global, text: &str, refused: &Refused<'_>) -> Result<String, 
 }
 
 /// Returns the error of a refused document, with the place of the refused key before its message.
-pub(crate) fn refused_in_text(alloc: Global, text: &str, refused: Refused<'_>) -> Error
+pub(crate) fn document_error(alloc: Global, text: &str, refused: Refused<'_>) -> Error
     ensures kind { IsOfKind refused.entry.error.kind result }
     ensures memory { IsMemory refused.entry.error → IsMemory result }
 {
     match words_of(alloc, text, &refused) {
-        Ok(words) => refused_at(alloc, &words, &refused.error),
+        Ok(words) => with_place(alloc, &words, &refused.error),
         Err(refused) => Error::from(refused),
     }
 }

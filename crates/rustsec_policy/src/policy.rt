@@ -6,7 +6,7 @@ ghost use Rattle.rustsec_error.specs.Failure.{IsRefusal};
 ghost use Rattle.rustsec_policy.specs.Policies.{advisories_in, database_in, no_advisories, no_database, no_output, no_packages, no_target, no_yanked, output_in, packages_in, policy_in, policy_of, section_at, target_in, yanked_in};
 
 use crate::keys::{SectionKeys, expect_keys};
-use crate::places::refused_in_text;
+use crate::places::document_error;
 use crate::refused::{Read, at_key};
 use crate::sections::{AdvisoryPolicy, OutputPolicy, TargetPolicy};
 use crate::unused::{DatabasePolicy, PackagePolicy, YankedPolicy};
@@ -177,7 +177,7 @@ impl Policy {
         let table = document(alloc, text, TablePlace::whole(text), "the policy file")?;
         match read_policy(alloc, &table) {
             Ok(policy) => Ok(policy),
-            Err(refused) => Err(refused_in_text(alloc, text, refused)),
+            Err(refused) => Err(document_error(alloc, text, refused)),
         }
     }
 }

@@ -20,7 +20,7 @@ use rustsec_lock::Severity;
 use rustsec_lock::platforms::{Arch, OS};
 use rustsec_texts::{Date, Id, Informational};
 use rustsec_toml::{Section, TablePlace};
-use rustsec_values::{Items, Named, value_named};
+use rustsec_values::{ClosedEnum, Items, from_name};
 use std::alloc::Global;
 use toml::{Table, Value};
 
@@ -69,7 +69,7 @@ fn ignore_at<'a>(alloc: Global, section: Section<'a>) -> Read<'a, Items<Ignored>
     match all_ignored(alloc, at_key(section, "ignore", array)?) {
         Ok(ignored) => Ok(ignored),
         Err(refused) => Err(Refused {
-            error: section.refused_at(alloc, "ignore", &refused.error),
+            error: section.with_key(alloc, "ignore", &refused.error),
             table: section.name,
             key: "ignore",
             entry: Ok(Some(refused.index)),
@@ -86,7 +86,7 @@ fn warnings_at(alloc: Global, section: Section<'_>) -> Result<Option<Items<Infor
     if section.get("informational_warnings").is_none() {
         return Ok(None);
     }
-    let kinds = section.texts_at(alloc, "informational_warnings")?;
+    let kinds = section.list(alloc, "informational_warnings")?;
     Ok(Some(kinds))
 }
 
@@ -95,7 +95,7 @@ fn threshold_at(alloc: Global, section: Section<'_>) -> Result<Option<Severity>>
     ensures ok { IfOk result (λ s. optional (text severity_named) (codes "severity_threshold") (table_view section.entry.table.now) ≡ Some s) }
     ensures err { IfErr result (IsRefusal ErrorKind.Parse (optional (text severity_named) (codes "severity_threshold") (table_view section.entry.table.now) ≡ None)) }
 {
-    let threshold: Option<Threshold> = section.optional_text_at(alloc, "severity_threshold")?;
+    let threshold: Option<Threshold> = section.optional(alloc, "severity_threshold")?;
     match threshold {
         Some(threshold) => Ok(Some(threshold.severity)),
         None => Ok(None),
@@ -189,9 +189,9 @@ impl OutputPolicy {
             alloc,
             section,
             "deny",
-            section.texts_at(alloc, "deny"),
+            section.list(alloc, "deny"),
         )?;
-        let format = at_key(section, "format", section.optional_text_at(alloc, "format"))?;
+        let format = at_key(section, "format", section.optional(alloc, "format"))?;
         let quiet = flag_at(alloc, section, "quiet")?;
         let show_tree = flag_at(alloc, section, "show_tree")?;
         Ok(OutputPolicy {
@@ -214,10 +214,10 @@ fn alone<T: Drop>(alloc: Global, element: T) -> Result<Items<T>>
 }
 
 /// Returns the first string of an array that is not a name, unless a value before it is not a string.
-fn first_unknown<T: Named>(value: Option<&Value>) -> Option<&str> {
+fn first_unknown<T: ClosedEnum>(value: Option<&Value>) -> Option<&str> {
     for value in value?.as_array()? {
         let word = value.as_str()?;
-        let known: Option<T> = value_named(word);
+        let known: Option<T> = from_name(word);
         if known.is_none() {
             return Some(word);
         }
@@ -226,7 +226,7 @@ fn first_unknown<T: Named>(value: Option<&Value>) -> Option<&str> {
 }
 
 /// Adds the nearest name after the message of the error about an array's first string that is not a name.
-fn with_nearest_in<T: Named>(alloc: Global, error: Error, value: Option<&Value>) -> Error
+fn with_nearest_in<T: ClosedEnum>(alloc: Global, error: Error, value: Option<&Value>) -> Error
     ensures kind { IsOfKind error.kind result }
     ensures memory { IsMemory error → IsMemory result }
 {
@@ -237,16 +237,20 @@ fn with_nearest_in<T: Named>(alloc: Global, error: Error, value: Option<&Value>)
 }
 
 /// Reads one word, or a list of words, at a key.
-fn words_at<T: FromText + Named>(alloc: Global, section: Section<'_>, key: &str) -> Result<Items<T>>
+fn words_at<T: FromText + ClosedEnum>(
+    alloc: Global,
+    section: Section<'_>,
+    key: &str,
+) -> Result<Items<T>>
     ensures ok { IfOk result (λ ws. defaulted [] (words_of T.reads) key.now (table_view section.entry.table.now) ≡ Some ws) }
     ensures err { IfErr result (IsRefusal ErrorKind.Parse (defaulted [] (words_of T.reads) key.now (table_view section.entry.table.now) ≡ None)) }
 {
     match section.get(key).and_then(Value::as_str) {
-        Some(word) => match section.read(alloc, key, word) {
+        Some(word) => match section.parse_str(alloc, key, word) {
             Ok(value) => alone(alloc, value),
             Err(error) => Err(with_nearest_name::<T>(alloc, error, word)),
         },
-        None => match section.texts_at(alloc, key) {
+        None => match section.list(alloc, key) {
             Ok(words) => Ok(words),
             Err(error) => Err(with_nearest_in::<T>(alloc, error, section.get(key))),
         },

@@ -5,7 +5,7 @@ ghost use Rattle.rustsec_error.specs.Failure.{IsRefusal};
 ghost use Rattle.rustsec_policy.specs.Words.{severity_named};
 
 use crate::nearest::with_nearest;
-use rustsec_error::{ErrorKind, FromText, Result, refused_text};
+use rustsec_error::{ErrorKind, FromText, Result, text_error};
 use rustsec_lock::Severity;
 use std::alloc::Global;
 use std::marker::Model;
@@ -54,7 +54,7 @@ pub fn read_severity(alloc: Global, text: &str) -> Result<Severity>
         Some(severity) => Ok(severity),
         None => {
             let expected = "`none`, `low`, `medium`, `high` or `critical`";
-            let error = refused_text(alloc, "unknown severity", text, expected);
+            let error = text_error(alloc, "unknown severity", text, expected);
             let names = ["none", "low", "medium", "high", "critical"];
             Err(with_nearest(alloc, error, &names, text))
         }

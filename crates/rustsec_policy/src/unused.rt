@@ -124,7 +124,7 @@ impl PackagePolicy {
             place: TablePlace::unknown(),
         };
         expect_keys::<PackageKeys>(alloc, section)?;
-        let source = at_key(section, "source", section.optional_text_at(alloc, "source"))?;
+        let source = at_key(section, "source", section.optional(alloc, "source"))?;
         Ok(PackagePolicy { source })
     }
 }

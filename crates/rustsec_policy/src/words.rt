@@ -5,8 +5,8 @@ ghost use Rattle.rustsec_error.specs.Failure.{IsRefusal};
 ghost use Rattle.rustsec_policy.specs.Words.{denied_name, denied_of, denied_words, format_name, format_of, formats, package_source_name, package_source_of, package_sources};
 
 use crate::nearest::with_nearest_name;
-use rustsec_error::{ErrorKind, FromText, Result, refused_text};
-use rustsec_values::{ExactClone, ExactEq, Named, value_named};
+use rustsec_error::{ErrorKind, FromText, Result, text_error};
+use rustsec_values::{ClosedEnum, ExactClone, ExactEq, from_name};
 use std::alloc::Global;
 
 /// What fails an audit beside vulnerabilities.
@@ -80,18 +80,18 @@ impl Denied {
         // Success takes no memory, so any error means that the text is not one of the words.
         ensures none { IfErr result (λ e. denied_of text.now ≡ None) }
     {
-        match value_named(text) {
+        match from_name(text) {
             Some(value) => Ok(value),
             None => {
                 let expected = "`warnings`, `unmaintained`, `unsound` or `yanked`";
-                let error = refused_text(alloc, "unknown word", text, expected);
+                let error = text_error(alloc, "unknown word", text, expected);
                 Err(with_nearest_name::<Denied>(alloc, error, text))
             }
         }
     }
 }
 
-impl Named for Denied {
+impl ClosedEnum for Denied {
     ghost use Rattle.rustsec_policy.specs.Words.{denied_name, denied_words};
 
     ghost name_of = { denied_name };
@@ -163,17 +163,17 @@ impl OutputFormat {
         // Success takes no memory, so any error means that the text is not one of the words.
         ensures none { IfErr result (λ e. format_of text.now ≡ None) }
     {
-        match value_named(text) {
+        match from_name(text) {
             Some(value) => Ok(value),
             None => {
-                let error = refused_text(alloc, "unknown word", text, "`terminal` or `json`");
+                let error = text_error(alloc, "unknown word", text, "`terminal` or `json`");
                 Err(with_nearest_name::<OutputFormat>(alloc, error, text))
             }
         }
     }
 }
 
-impl Named for OutputFormat {
+impl ClosedEnum for OutputFormat {
     ghost use Rattle.rustsec_policy.specs.Words.{format_name, formats};
 
     ghost name_of = { format_name };
@@ -250,17 +250,17 @@ impl PackageSource {
         // Success takes no memory, so any error means that the text is not one of the words.
         ensures none { IfErr result (λ e. package_source_of text.now ≡ None) }
     {
-        match value_named(text) {
+        match from_name(text) {
             Some(value) => Ok(value),
             None => {
-                let error = refused_text(alloc, "unknown word", text, "`all`, `public` or `local`");
+                let error = text_error(alloc, "unknown word", text, "`all`, `public` or `local`");
                 Err(with_nearest_name::<PackageSource>(alloc, error, text))
             }
         }
     }
 }
 
-impl Named for PackageSource {
+impl ClosedEnum for PackageSource {
     ghost use Rattle.rustsec_policy.specs.Words.{package_source_name, package_sources};
 
     ghost name_of = { package_source_name };

@@ -2,7 +2,7 @@
 use Rattle.std.specs.Prelude.{ℕ, ◌-◌, Bool, false, List, [], ◌∷◌, Option, Some, None, codes, filter_map, if◌then◌else◌, length, option_map, slice_get}
 use Rattle.std.specs.List.{list_any}
 use Rattle.std.specs.Str.{bytes_eq}
-use Rattle.rustsec_values.specs.ClosedTables.{value_named}
+use Rattle.rustsec_values.specs.ClosedTables.{from_name}
 use Rattle.rustsec_values.specs.Reading.{◌>>=◌}
 use Rattle.rustsec_program.specs.declared.keys.Flag.{Flag}
 use Rattle.rustsec_program.specs.declared.keys.Flag.TheVariants as flag
@@ -30,7 +30,7 @@ keys =
     key.Policy ∷ key.Today ∷ key.Baseline ∷ key.Index ∷ key.Ignore ∷ key.Deny ∷ key.Severity ∷ key.Arch ∷ key.Os ∷ key.Format ∷ key.Color ∷ []
 
 abbrev pub key_of : List ℕ → Option Key
-key_of = value_named key_name keys
+key_of = from_name key_name keys
 
 -- the options without a value
 abbrev pub flag_name : Flag → List ℕ
@@ -42,7 +42,7 @@ abbrev pub flags : List Flag
 flags = flag.AllowEmpty ∷ flag.Null ∷ flag.Progress ∷ []
 
 abbrev pub flag_of : List ℕ → Option Flag
-flag_of = value_named flag_name flags
+flag_of = from_name flag_name flags
 
 -- ---- lists of options
 

@@ -1,7 +1,7 @@
 -- How the policy of a file and the words of a command join.
 use Rattle.std.specs.Prelude.{◌≡◌, ◌⊎◌, ◌++◌, ◌&&◌, not, ℕ, Bool, true, false, List, [], ◌∷◌, Option, Some, None, codes, is_some, unwrap_or}
 use Rattle.std.specs.List.{list_any}
-use Rattle.rustsec_values.specs.ClosedTables.{value_named}
+use Rattle.rustsec_values.specs.ClosedTables.{from_name}
 use Rattle.rustsec_values.specs.Reading.{◌>>=◌, read_all, read_optional}
 use Rattle.rustsec_folders.specs.Allowed.{Allowed}
 use Rattle.rustsec_error.specs.Failure.{Failure, IsRefusal}
@@ -43,7 +43,7 @@ abbrev pub shapes : List Shape
 shapes = shape.Text ∷ shape.Json ∷ shape.Sarif ∷ shape.Html ∷ shape.Markdown ∷ []
 
 abbrev pub shape_of : List ℕ → Option Shape
-shape_of = value_named shape_name shapes
+shape_of = from_name shape_name shapes
 
 -- whether the text for people has colors
 abbrev pub coloring_name : Coloring → List ℕ
@@ -54,7 +54,7 @@ abbrev pub colorings : List Coloring
 colorings = coloring.Always ∷ coloring.Never ∷ []
 
 abbrev pub coloring_of : List ℕ → Option Coloring
-coloring_of = value_named coloring_name colorings
+coloring_of = from_name coloring_name colorings
 
 -- what the options say; `None` if a value is refused
 abbrev pub request_of : List CheckOption → Option Request

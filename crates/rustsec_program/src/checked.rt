@@ -298,7 +298,7 @@ fn checked<'x>(
 }
 
 /// Returns the error for an empty database or lockfile, by the number of advisories.
-fn empty(alloc: Global, advisories: usize) -> Error
+fn empty_error(alloc: Global, advisories: usize) -> Error
     ensures { IsOfKind ErrorKind.NotFound result }
 {
     let message = if advisories == 0 {
@@ -320,7 +320,7 @@ fn checked_output<'x>(
     ensures err { IfErr result (IsRefusal ErrorKind.NotFound (is_empty (basis_of ground.now) loaded.now ≡ true)) }
 {
     if is_empty(&ground.basis(), loaded) {
-        return Err(empty(alloc, ground.dated.count()));
+        return Err(empty_error(alloc, ground.dated.count()));
     }
     checked(alloc, form, ground, loaded)
 }
@@ -405,7 +405,7 @@ pub fn kept_output<'x>(
         database: &dated,
     };
     if is_empty(&basis, loaded) {
-        return Err(empty(alloc, basis.database.count()));
+        return Err(empty_error(alloc, basis.database.count()));
     }
     let found = found_by_kept(alloc, plan, kept, loaded)?;
     check_output(alloc, form, &basis, loaded, &found)

@@ -10,7 +10,7 @@ ghost use Rattle.rustsec_program.specs.Writing.{IsBrokenOff};
 
 use crate::check::check;
 use crate::explain::explain;
-use crate::many::{Asked, check_many};
+use crate::many::{ManyInput, check_many};
 use crate::misuse;
 use crate::words::{Command, command_of};
 use rustsec_commands::output::{Output, usage_output};
@@ -127,7 +127,7 @@ pub fn run_over<F: Folders, R: Read, W: Write, N: Write>(
     };
     match read_all(alloc, input) {
         Ok(bytes) => {
-            let asked = Asked {
+            let asked = ManyInput {
                 root: list.root,
                 options: list.options,
                 input: bytes.as_slice(),

@@ -1,6 +1,6 @@
 //! The words of the options.
 
-use rustsec_values::Named;
+use rustsec_values::ClosedEnum;
 
 /// An option that has a value: the word after it.
 #[derive(Clone, Copy, PartialEq, Eq, Debug)]
@@ -58,7 +58,7 @@ const KEYS: &[Key] = &[
 /// All flags, in their order.
 const FLAGS: &[Flag] = &[Flag::AllowEmpty, Flag::Null, Flag::Progress];
 
-impl Named for Key {
+impl ClosedEnum for Key {
     ghost use Rattle.rustsec_program.specs.CheckOptions.{key_name, keys};
 
     ghost name_of = { key_name };
@@ -86,7 +86,7 @@ impl Named for Key {
     }
 }
 
-impl Named for Flag {
+impl ClosedEnum for Flag {
     ghost use Rattle.rustsec_program.specs.CheckOptions.{flag_name, flags};
 
     ghost name_of = { flag_name };

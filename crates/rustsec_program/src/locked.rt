@@ -13,7 +13,7 @@ ghost use Rattle.rustsec_error.specs.Failure.{IsOfKind, IsRefusal};
 ghost use Rattle.rustsec_program.specs.Locked.{AreLoadedAt, IsBaselineAt, IsBaselineRefusal, IsIndexRefusal, IsLoadRefusal, IsLockedAt, IsLockedText, IsYankedAt};
 ghost use Rattle.rustsec_program.specs.Places.{places_view};
 
-use rustsec_error::{Error, ErrorKind, Result, refused_file};
+use rustsec_error::{Error, ErrorKind, Result, file_error};
 use rustsec_folders::Folders;
 use rustsec_graph::Graph;
 use rustsec_index::{YankedPackages, yanked_in};
@@ -75,7 +75,7 @@ fn packages_of_table(alloc: Global, table: &Table) -> Result<(Lockfile, Graph)>
 }
 
 /// Returns the error for a text that is not a TOML document.
-fn no_document(alloc: Global) -> Error
+fn document_error(alloc: Global) -> Error
     ensures { IsOfKind ErrorKind.Parse result }
 {
     Error::new(
@@ -100,13 +100,13 @@ fn packages_of_text(alloc: Global, text: &str) -> Result<(Lockfile, Graph)>
             if e.is_memory() {
                 return Err(Error::from(AllocError));
             }
-            Err(no_document(alloc))
+            Err(document_error(alloc))
         }
     }
 }
 
 /// Returns the error for a text that is not a lockfile with the place of the fault, by the error without it.
-fn with_place(alloc: Global, text: &str, error: Error) -> Error
+fn with_place_in_text(alloc: Global, text: &str, error: Error) -> Error
     requires { IsRefusal ErrorKind.Parse (lockfile_of text.now ≡ None) error }
     ensures { IsRefusal ErrorKind.Parse (lockfile_of text.now ≡ None) result }
 {
@@ -128,8 +128,8 @@ fn locked_of_file(alloc: Global, path: &str, text: Text) -> Result<Locked>
             graph,
         }),
         Err(e) => {
-            let placed = with_place(alloc, text.as_str(), e);
-            Err(refused_file(alloc, path, &placed))
+            let placed = with_place_in_text(alloc, text.as_str(), e);
+            Err(file_error(alloc, path, &placed))
         }
     }
 }

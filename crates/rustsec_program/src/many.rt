@@ -67,7 +67,7 @@ fn paths_of<'a>(
 }
 
 /// Returns the error for an input that is not UTF-8.
-fn not_utf8(alloc: Global) -> Error
+fn not_utf8_error(alloc: Global) -> Error
     ensures { IsOfKind ErrorKind.Parse result }
 {
     let message = "the list of lockfiles is not UTF-8";
@@ -81,12 +81,12 @@ fn text_of(alloc: Global, input: &[u8]) -> Result<&str>
 {
     match str::from_utf8(input) {
         Ok(text) => Ok(text),
-        Err(_) => Err(not_utf8(alloc)),
+        Err(_) => Err(not_utf8_error(alloc)),
     }
 }
 
 /// Returns the error for an input that names no lockfile.
-fn no_lockfile(alloc: Global) -> Error
+fn no_lockfile_error(alloc: Global) -> Error
     ensures { IsOfKind ErrorKind.NotFound result }
 {
     let message = "the input names no lockfile";
@@ -101,13 +101,17 @@ fn listed<'a>(alloc: Global, options: &Options<'_>, text: &'a str) -> Result<Vec
 {
     let paths = paths_of(alloc, separator(options), text)?;
     if !options.has(Flag::AllowEmpty) && paths.is_empty() {
-        return Err(no_lockfile(alloc));
+        return Err(no_lockfile_error(alloc));
     }
     Ok(paths)
 }
 
 /// Makes the line for a lockfile that was refused, with a note that says why. Out of memory is passed on as an error.
-fn refused(alloc: Global, path: &str, error: &Error) -> std::result::Result<Output, AllocError>
+fn refused_output(
+    alloc: Global,
+    path: &str,
+    error: &Error,
+) -> std::result::Result<Output, AllocError>
     ensures { IfOk result (λ o. (error.now.kind ≢ failure.OutOfMemory) × (o ≡ refusal_output (line path.now) error.now)) }
 {
     if error.kind() == ErrorKind::OutOfMemory {
@@ -131,7 +135,7 @@ fn answer<'x, F: Folders>(
 {
     match check_lockfile(alloc, folders, Form::Line(path), ground, path) {
         Ok(output) => Ok(output),
-        Err(error) => refused(alloc, path, &error),
+        Err(error) => refused_output(alloc, path, &error),
     }
 }
 
@@ -250,7 +254,7 @@ impl<'a> Model for Prepared<'a> {
 
 /// The words of `check-many`, and the bytes of its input.
 #[derive(Clone, Copy)]
-pub struct Asked<'a> {
+pub struct ManyInput<'a> {
     /// The root of the database.
     pub root: &'a str,
     /// The options.
@@ -265,7 +269,7 @@ impl<'a> Prepared<'a> {
         alloc: Global,
         folders: &mut F,
         options: &Options<'a>,
-        asked: Asked<'a>,
+        asked: ManyInput<'a>,
     ) -> Result<Prepared<'a>>
         ensures ok { IfOk result (IsPrepared (F.allowed folders.old) asked.entry.root.now options.now asked.entry.input.now) }
         ensures err { IfErr result (IsManyRefusal (F.allowed folders.old) asked.entry.root.now options.now asked.entry.input.now) }
@@ -346,7 +350,7 @@ fn write_usage<W: Write, N: Write>(
 pub fn check_many<F: Folders, W: Write, N: Write>(
     alloc: Global,
     folders: &mut F,
-    asked: Asked<'_>,
+    asked: ManyInput<'_>,
     output: &mut W,
     notes: &mut N,
 ) -> std::result::Result<u8, Fault>

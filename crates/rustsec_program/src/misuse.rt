@@ -3,12 +3,12 @@
 use crate::keys::{Flag, Key};
 use crate::usage::PAGE;
 use rustsec_shown::push_shown;
-use rustsec_values::{Named, value_named};
+use rustsec_values::{ClosedEnum, from_name};
 use std::alloc::{AllocError, Global};
 use strsim::osa_distance;
 
 /// Returns the name of an option that is at most two changes of a character away from a word.
-fn near_name<T: Named>(alloc: Global, word: &str) -> Result<Option<&'static str>, AllocError> {
+fn near_name<T: ClosedEnum>(alloc: Global, word: &str) -> Result<Option<&'static str>, AllocError> {
     for value in T::all() {
         let name = value.name();
         if osa_distance(alloc, word, name)? < 3 {
@@ -45,9 +45,9 @@ fn wrong_word<'a>(words: &[&'a str]) -> Option<&'a str> {
     for word in words {
         if awaits.is_some() {
             awaits = None;
-        } else if value_named::<Key>(word).is_some() {
+        } else if from_name::<Key>(word).is_some() {
             awaits = Some(*word);
-        } else if value_named::<Flag>(word).is_none() {
+        } else if from_name::<Flag>(word).is_none() {
             return Some(*word);
         }
     }
@@ -56,7 +56,7 @@ fn wrong_word<'a>(words: &[&'a str]) -> Option<&'a str> {
 
 /// Appends what is wrong with a word.
 fn add_wrong(alloc: Global, note: &mut String, word: &str) -> Result<(), AllocError> {
-    if value_named::<Key>(word).is_some() {
+    if from_name::<Key>(word).is_some() {
         note.push_str("a value is expected after `")?;
         push_shown(note, word)?;
         return note.push_str("`");

@@ -7,7 +7,7 @@ ghost use Rattle.rustsec_program.specs.CheckOptions.{flag_name, has, key_name, l
 ghost use Rattle.rustsec_program.specs.Steps.{given, item_view, step};
 
 use crate::keys::{Flag, Key};
-use rustsec_values::{Named, value_named};
+use rustsec_values::{ClosedEnum, from_name};
 use std::alloc::{AllocError, Global};
 use std::marker::Model;
 
@@ -128,10 +128,10 @@ fn step<'a>(awaits: Option<Key>, word: &'a str) -> Option<(Option<Item<'a>>, Opt
     if let Some(key) = awaits {
         return Some((Some(Item::Valued(key, word)), None));
     }
-    if let Some(flag) = value_named::<Flag>(word) {
+    if let Some(flag) = from_name::<Flag>(word) {
         return Some((Some(Item::Set(flag)), None));
     }
-    match value_named::<Key>(word) {
+    match from_name::<Key>(word) {
         Some(key) => Some((None, Some(key))),
         None => None,
     }

@@ -15,11 +15,11 @@ use crate::keys::{Flag, Key};
 use crate::options::Options;
 use crate::request::{Request, request_of};
 use crate::wanted::Wanted;
-use rustsec_error::{ErrorKind, Result, refused_file};
+use rustsec_error::{ErrorKind, Result, file_error};
 use rustsec_folders::Folders;
 use rustsec_policy::{Ignored, Policy};
 use rustsec_texts::Date;
-use rustsec_values::{Items, Test, Text};
+use rustsec_values::{Items, Predicate, Text};
 use std::alloc::Global;
 use std::marker::Model;
 
@@ -71,13 +71,13 @@ struct CountsOn<'a> {
     today: Option<&'a Date>,
 }
 
-impl<'a> Test<Ignored> for CountsOn<'a> {
+impl<'a> Predicate<Ignored> for CountsOn<'a> {
     ghost use Rattle.std.specs.Prelude.{option_map};
     ghost use Rattle.rustsec_program.specs.Plan.{counts_on};
 
-    ghost passes = { λ test e. counts_on (option_map (λ d. d.now) test.today) e };
+    ghost holds = { λ test e. counts_on (option_map (λ d. d.now) test.today) e };
 
-    fn passes(&self, entry: &Ignored) -> bool {
+    fn holds(&self, entry: &Ignored) -> bool {
         match (&entry.until, self.today) {
             (Some(until), Some(today)) => today <= until,
             (Some(_), None) => false,
@@ -112,7 +112,7 @@ fn policy_of(alloc: Global, path: Option<&str>, text: &str) -> Result<Policy>
 {
     match Policy::from_str(alloc, text) {
         Ok(policy) => Ok(policy),
-        Err(e) => Err(refused_file(alloc, path.unwrap_or("the policy"), &e)),
+        Err(e) => Err(file_error(alloc, path.unwrap_or("the policy"), &e)),
     }
 }
 

@@ -11,12 +11,12 @@ ghost use Rattle.rustsec_program.specs.declared.keys.Key.TheVariants as key;
 use crate::keys::Key;
 use crate::options::Options;
 use crate::shapes::{Coloring, LeastSeverity, Shape};
-use rustsec_error::{ErrorKind, FromText, Result, refused_at};
+use rustsec_error::{ErrorKind, FromText, Result, with_place};
 use rustsec_lock::Severity;
 use rustsec_lock::platforms::{Arch, OS};
 use rustsec_policy::Denied;
 use rustsec_texts::{Date, Id};
-use rustsec_values::{Items, Named, Text};
+use rustsec_values::{ClosedEnum, Items, Text};
 use std::alloc::{AllocError, Global};
 
 /// What the options say.
@@ -67,7 +67,7 @@ fn read_texts<T: FromText>(alloc: Global, key: Key, texts: &[&str]) -> Result<It
     for text in texts {
         match T::from_text(alloc, text) {
             Ok(value) => read.push(value)?,
-            Err(e) => return Err(refused_at(alloc, key.name(), &e)),
+            Err(e) => return Err(with_place(alloc, key.name(), &e)),
         }
     }
     Ok(read)
@@ -92,7 +92,7 @@ fn read_last<T: FromText>(alloc: Global, options: &Options<'_>, key: Key) -> Res
     };
     match T::from_text(alloc, text) {
         Ok(value) => Ok(Some(value)),
-        Err(e) => Err(refused_at(alloc, key.name(), &e)),
+        Err(e) => Err(with_place(alloc, key.name(), &e)),
     }
 }
 

@@ -1,9 +1,9 @@
 //! The values of `--format`, `--color` and `--severity`.
 
-use rustsec_error::{FromText, Result, refused_text};
+use rustsec_error::{FromText, Result, text_error};
 use rustsec_lock::Severity;
 use rustsec_policy::read_severity;
-use rustsec_values::{Named, value_named};
+use rustsec_values::{ClosedEnum, from_name};
 use std::alloc::Global;
 use std::marker::Model;
 
@@ -31,7 +31,7 @@ pub enum Coloring {
     Never,
 }
 
-impl Named for Shape {
+impl ClosedEnum for Shape {
     ghost use Rattle.rustsec_program.specs.Wanted.{shape_name, shapes};
 
     ghost name_of = { shape_name };
@@ -59,7 +59,7 @@ impl Named for Shape {
     }
 }
 
-impl Named for Coloring {
+impl ClosedEnum for Coloring {
     ghost use Rattle.rustsec_program.specs.Wanted.{coloring_name, colorings};
 
     ghost name_of = { coloring_name };
@@ -84,9 +84,9 @@ impl FromText for Shape {
     ghost reads = { shape_of };
 
     fn from_text(alloc: Global, text: &str) -> Result<Shape> {
-        match value_named(text) {
+        match from_name(text) {
             Some(shape) => Ok(shape),
-            None => Err(refused_text(
+            None => Err(text_error(
                 alloc,
                 "unknown word",
                 text,
@@ -102,9 +102,9 @@ impl FromText for Coloring {
     ghost reads = { coloring_of };
 
     fn from_text(alloc: Global, text: &str) -> Result<Coloring> {
-        match value_named(text) {
+        match from_name(text) {
             Some(coloring) => Ok(coloring),
-            None => Err(refused_text(alloc, "unknown word", text, "`always` or `never`")),
+            None => Err(text_error(alloc, "unknown word", text, "`always` or `never`")),
         }
     }
 }

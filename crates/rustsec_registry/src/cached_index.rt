@@ -7,10 +7,10 @@ ghost use Rattle.rustsec_registry.specs.Lookups.{AreAnswers};
 ghost use Rattle.rustsec_registry.specs.Packages.{AreDistinctPackages};
 ghost use Rattle.rustsec_registry.specs.Yanked.{AreKept, Grows, seen, yanked_answers};
 
+use crate::cache_entry::{CacheEntry, ask_all};
 use crate::distinct::distinct;
-use crate::kept::{Kept, ask_all};
 use crate::lookup::Lookup;
-use crate::verdict::verdicts;
+use crate::yanked_status::verdicts;
 use rustsec_error::{Error, Result};
 use rustsec_lock::package::{Name, Package};
 use rustsec_values::SortedMap;
@@ -21,7 +21,7 @@ use std::marker::Model;
 #[derive(Debug, Drop)]
 pub struct CachedIndex<I: Lookup> {
     index: I,
-    kept: SortedMap<Name, Kept>,
+    kept: SortedMap<Name, CacheEntry>,
 }
 
 impl<I: Lookup> Model for CachedIndex<I> {
@@ -38,7 +38,7 @@ impl<I: Lookup> Model for CachedIndex<I> {
 fn find<'a, I: Lookup>(
     alloc: Global,
     index: &I,
-    kept: &mut SortedMap<Name, Kept>,
+    kept: &mut SortedMap<Name, CacheEntry>,
     packages: &'a [Package],
 ) -> Result<Vec<std::result::Result<&'a Package, Error>>>
     ensures ok { IfOk result (λ v. (distinct : List PackageValue) × AreDistinctPackages packages.now distinct

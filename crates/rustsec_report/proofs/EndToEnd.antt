@@ -12,7 +12,7 @@ use Rattle.rustsec_texts.specs.declared.warning_kind.WarningKind.{WarningKind}
 use Rattle.rustsec_texts.specs.declared.warning_kind.WarningKind.TheVariants as kind
 use Rattle.rustsec_advisory.specs.declared.advisory.Advisory.{Advisory}
 use Rattle.rustsec_database.proofs.Once.{filed-unique}
-use Rattle.rustsec_database.specs.Filing.{IsFiled}
+use Rattle.rustsec_database.specs.Placement.{IsFiled}
 use Rattle.rustsec_database.specs.Loaded.{AreLoaded, is_stored}
 use Rattle.rustsec_query.specs.Pairs.{Pair, as_vulnerability, finds, pairs, pairs_of, vulnerability_of}
 use Rattle.rustsec_query.specs.Query.{Asked}

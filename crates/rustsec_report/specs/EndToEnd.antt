@@ -9,7 +9,7 @@ use Rattle.rustsec_texts.specs.declared.warning_kind.WarningKind.{WarningKind}
 use Rattle.rustsec_error.specs.Failure.{Failure, IsMemory}
 use Rattle.rustsec_error.specs.declared.error.ErrorKind.TheVariants as kind
 use Rattle.rustsec_advisory.specs.declared.advisory.Advisory.{Advisory}
-use Rattle.rustsec_database.specs.Filing.{IsFiled}
+use Rattle.rustsec_database.specs.Placement.{IsFiled}
 use Rattle.rustsec_database.specs.Loaded.{AreLoaded, IsFirstFault, is_stored}
 use Rattle.rustsec_query.specs.Pairs.{finds, vulnerability_of}
 use Rattle.rustsec_query.specs.Query.{Asked}

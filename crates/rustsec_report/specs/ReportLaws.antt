@@ -9,7 +9,7 @@ use Rattle.rustsec_texts.specs.IdOrder.{id_eq}
 use Rattle.rustsec_texts.specs.Ids.{IdValue}
 use Rattle.rustsec_advisory.specs.declared.advisory.Advisory.{Advisory}
 use Rattle.rustsec_advisory.specs.declared.metadata.Metadata.{Metadata}
-use Rattle.rustsec_database.specs.Filing.{IsFiled}
+use Rattle.rustsec_database.specs.Placement.{IsFiled}
 use Rattle.rustsec_database.specs.Loaded.{AreLoaded, is_stored}
 use Rattle.rustsec_query.specs.Query.{Asked}
 use Rattle.rustsec_query.specs.declared.vulnerability.Vulnerability.{Vulnerability}

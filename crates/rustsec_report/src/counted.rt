@@ -10,7 +10,7 @@ use rustsec_error::Result;
 use rustsec_lock::Lockfile;
 use rustsec_query::Query;
 use rustsec_texts::Id;
-use rustsec_values::{Items, Test};
+use rustsec_values::{Items, Predicate};
 use std::alloc::Global;
 
 /// The predicate that the advisory of a pair is not among these.
@@ -19,13 +19,13 @@ struct NotAmong<'a> {
     ids: &'a Items<Id>,
 }
 
-impl<'a, 'b> Test<Pair<'b>> for NotAmong<'a> {
+impl<'a, 'b> Predicate<Pair<'b>> for NotAmong<'a> {
     ghost use Rattle.std.specs.Prelude.{not};
     ghost use Rattle.rustsec_report.specs.Report.{is_among};
 
-    ghost passes = { λ test p. not (is_among test.ids.now p.by.metadata.id) };
+    ghost holds = { λ test p. not (is_among test.ids.now p.by.metadata.id) };
 
-    fn passes(&self, element: &Pair<'b>) -> bool {
+    fn holds(&self, element: &Pair<'b>) -> bool {
         !self.ids.as_slice().contains(&element.advisory.metadata.id)
     }
 }

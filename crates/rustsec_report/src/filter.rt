@@ -12,7 +12,7 @@ use crate::warning::Warning;
 use rustsec_advisory::Affected;
 use rustsec_lock::platforms::OS;
 use rustsec_query::Vulnerability;
-use rustsec_values::Test;
+use rustsec_values::Predicate;
 
 /// Returns whether a system is Windows.
 fn is_windows(os: OS) -> bool
@@ -71,22 +71,22 @@ struct Applicable {
     format: BinaryFormat,
 }
 
-impl Test<Vulnerability> for Applicable {
+impl Predicate<Vulnerability> for Applicable {
     ghost use Rattle.rustsec_report.specs.Filter.{applicable};
 
-    ghost passes = { λ test v. applicable test.format v.affected };
+    ghost holds = { λ test v. applicable test.format v.affected };
 
-    fn passes(&self, element: &Vulnerability) -> bool {
+    fn holds(&self, element: &Vulnerability) -> bool {
         is_applicable(self.format, &element.affected)
     }
 }
 
-impl Test<Warning> for Applicable {
+impl Predicate<Warning> for Applicable {
     ghost use Rattle.rustsec_report.specs.Filter.{applicable};
 
-    ghost passes = { λ test w. applicable test.format w.affected };
+    ghost holds = { λ test w. applicable test.format w.affected };
 
-    fn passes(&self, element: &Warning) -> bool {
+    fn holds(&self, element: &Warning) -> bool {
         is_applicable(self.format, &element.affected)
     }
 }

@@ -11,7 +11,7 @@ ghost use Rattle.rustsec_database.specs.Loaded.{AreLoaded};
 ghost use Rattle.rustsec_query.specs.Pairs.{is_audited};
 ghost use Rattle.rustsec_error.specs.Failure.{IsMemory};
 ghost use Rattle.rustsec_report.specs.EndToEnd.{IsReportOf};
-ghost use Rattle.rustsec_report.specs.Held.{ListsWhatIsInForce};
+ghost use Rattle.rustsec_report.specs.ReportedAdvisories.{ListsWhatIsInForce};
 ghost use Rattle.rustsec_report.specs.Report.{info_of, report_of, vulnerabilities, warnings};
 ghost use Rattle.rustsec_report.specs.ReportLaws.{AddTheirOwn, FindTheSame, LacksOnly, ignoring};
 

@@ -13,7 +13,7 @@ use crate::report_ref::ReportRef;
 use crate::warning_ref::{WarningRef, WarningsOfKind};
 use rustsec_error::Result;
 use rustsec_texts::WarningKind;
-use rustsec_values::Named;
+use rustsec_values::ClosedEnum;
 use serde_json::Value;
 use std::alloc::{AllocError, Global};
 

@@ -12,7 +12,7 @@ use crate::warning_ref::{WarningRef, WarningsOfKind};
 use rustsec_database::Pair;
 use rustsec_error::Result;
 use rustsec_texts::WarningKind;
-use rustsec_values::{Items, Named, SortedMap};
+use rustsec_values::{ClosedEnum, Items, SortedMap};
 use std::alloc::{AllocError, Global};
 
 /// Warnings by their kinds. A kind without warnings may be missing.

@@ -6,7 +6,7 @@ ghost use Rattle.rustsec_stats.specs.CategoryRows.{category_row, is_in_row};
 use crate::rows::Row;
 use rustsec_advisory::Advisory;
 use rustsec_texts::Category;
-use rustsec_values::Named;
+use rustsec_values::ClosedEnum;
 
 /// A row of the table of categories. An advisory may have several, and is counted for each.
 #[derive(Clone, Copy, PartialEq, Eq, Debug)]
@@ -35,7 +35,7 @@ pub enum CategoryRow {
     Other,
 }
 
-impl Named for CategoryRow {
+impl ClosedEnum for CategoryRow {
     ghost use Rattle.rustsec_stats.specs.CategoryRows.{category_row_name, category_rows};
 
     ghost name_of = { category_row_name };

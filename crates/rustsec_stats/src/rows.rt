@@ -6,7 +6,7 @@ ghost use Rattle.rustsec_stats.specs.Rows.{has_other_kind, warning_kind};
 
 use rustsec_advisory::Advisory;
 use rustsec_texts::{Collection, WarningKind};
-use rustsec_values::Named;
+use rustsec_values::ClosedEnum;
 
 /// A type of the rows of a table. A row counts the advisories that pass its test.
 pub trait Row {
@@ -28,7 +28,7 @@ pub enum CollectionRow {
     Missing,
 }
 
-impl Named for CollectionRow {
+impl ClosedEnum for CollectionRow {
     ghost use Rattle.rustsec_stats.specs.Rows.{collection_row_name, collection_rows};
 
     ghost name_of = { collection_row_name };
@@ -82,7 +82,7 @@ pub enum KindRow {
     Other,
 }
 
-impl Named for KindRow {
+impl ClosedEnum for KindRow {
     ghost use Rattle.rustsec_stats.specs.Rows.{kind_row_name, kind_rows};
 
     ghost name_of = { kind_row_name };
@@ -155,7 +155,7 @@ pub enum WithdrawalRow {
     Current,
 }
 
-impl Named for WithdrawalRow {
+impl ClosedEnum for WithdrawalRow {
     ghost use Rattle.rustsec_stats.specs.Rows.{withdrawal_row_name, withdrawal_rows};
 
     ghost name_of = { withdrawal_row_name };

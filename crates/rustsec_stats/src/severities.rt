@@ -3,7 +3,7 @@
 use crate::rows::Row;
 use rustsec_advisory::Advisory;
 use rustsec_lock::Severity;
-use rustsec_values::Named;
+use rustsec_values::ClosedEnum;
 
 /// A row of the table of severities: the ratings of CVSS vectors of version 3.
 #[derive(Clone, Copy, PartialEq, Eq, Debug)]
@@ -22,7 +22,7 @@ pub enum SeverityRow {
     NoScore,
 }
 
-impl Named for SeverityRow {
+impl ClosedEnum for SeverityRow {
     ghost use Rattle.rustsec_stats.specs.Rows.{severity_row_name, severity_rows};
 
     ghost name_of = { severity_row_name };

@@ -12,7 +12,7 @@ use crate::severities::SeverityRow;
 use crate::years::{count_in, years};
 use rustsec_advisory::Advisory;
 use rustsec_error::Result;
-use rustsec_values::{Items, Named, Text};
+use rustsec_values::{ClosedEnum, Items, Text};
 use std::alloc::{AllocError, Global};
 
 /// A row of a table.
@@ -54,7 +54,7 @@ fn counted<R: Row>(row: &R, advisories: &[Advisory]) -> usize
 }
 
 /// Returns the name of a row, and how many advisories it counts.
-fn count_of<R: Named + Row>(
+fn count_of<R: ClosedEnum + Row>(
     alloc: Global,
     row: &R,
     advisories: &[Advisory],
@@ -67,7 +67,7 @@ fn count_of<R: Named + Row>(
 }
 
 /// Returns the table whose rows are the values of a type.
-fn table<R: Named + Row>(
+fn table<R: ClosedEnum + Row>(
     alloc: Global,
     advisories: &[Advisory],
 ) -> std::result::Result<Items<Count>, AllocError>

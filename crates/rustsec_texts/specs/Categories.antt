@@ -5,7 +5,7 @@ use Rattle.std.specs.Ordering.{nat_cmp, on, then_cmp}
 use Rattle.std.specs.declared.cmp.Ordering.{Ordering}
 use Rattle.rustsec_texts.specs.declared.category.Category.{Category}
 use Rattle.rustsec_texts.specs.declared.category.Category.TheVariants as category
-use Rattle.rustsec_values.specs.ClosedTables.{value_named}
+use Rattle.rustsec_values.specs.ClosedTables.{from_name}
 
 -- the name of a category
 abbrev pub category_name : Category → List ℕ
@@ -29,7 +29,7 @@ categories = category.CodeExecution ∷ category.CryptoFailure ∷ category.Deni
 
 -- the category of a text: the one with that name, or `Other`, which keeps the text
 abbrev pub category_of : List ℕ → Category
-category_of text = unwrap_or (value_named category_name categories text) (category.Other text)
+category_of text = unwrap_or (from_name category_name categories text) (category.Other text)
 
 -- the place of a category in the order, `Other` last
 abbrev pub category_place : Category → ℕ

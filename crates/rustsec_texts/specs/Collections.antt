@@ -4,7 +4,7 @@ use Rattle.std.specs.Ordering.{nat_cmp, on}
 use Rattle.std.specs.declared.cmp.Ordering.{Ordering}
 use Rattle.rustsec_texts.specs.declared.collection.Collection.{Collection}
 use Rattle.rustsec_texts.specs.declared.collection.Collection.TheVariants as collection
-use Rattle.rustsec_values.specs.ClosedTables.{value_named}
+use Rattle.rustsec_values.specs.ClosedTables.{from_name}
 
 -- the name of a collection
 abbrev pub collection_name : Collection → List ℕ
@@ -17,7 +17,7 @@ collections = collection.Crates ∷ collection.Rust ∷ []
 
 -- the collection of a text, if it is the name of one
 abbrev pub collection_of : List ℕ → Option Collection
-collection_of = value_named collection_name collections
+collection_of = from_name collection_name collections
 
 -- the place of a collection in the order
 abbrev pub collection_place : Collection → ℕ

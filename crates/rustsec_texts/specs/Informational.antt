@@ -7,7 +7,7 @@ use Rattle.rustsec_texts.specs.declared.informational.Informational.{Information
 use Rattle.rustsec_texts.specs.declared.informational.Informational.TheVariants as informational
 use Rattle.rustsec_texts.specs.declared.warning_kind.WarningKind.{WarningKind}
 use Rattle.rustsec_texts.specs.declared.warning_kind.WarningKind.TheVariants as warning
-use Rattle.rustsec_values.specs.ClosedTables.{value_named}
+use Rattle.rustsec_values.specs.ClosedTables.{from_name}
 
 -- the text of an informational kind
 abbrev pub informational_name : Informational → List ℕ
@@ -22,7 +22,7 @@ informational_kinds = informational.Notice ∷ informational.Unmaintained ∷ in
 
 -- the informational kind of a text: the one with that text, or `Other`, which keeps the text
 abbrev pub informational_of : List ℕ → Informational
-informational_of text = unwrap_or (value_named informational_name informational_kinds text) (informational.Other text)
+informational_of text = unwrap_or (from_name informational_name informational_kinds text) (informational.Other text)
 
 -- the kind of the warnings that an informational kind gives; none for `Other`
 abbrev pub kind_of_warnings : Informational → Option WarningKind

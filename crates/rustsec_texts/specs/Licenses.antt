@@ -2,7 +2,7 @@
 use Rattle.std.specs.Prelude.{ℕ, List, [], ◌∷◌, codes, unwrap_or}
 use Rattle.rustsec_texts.specs.declared.license.License.{License}
 use Rattle.rustsec_texts.specs.declared.license.License.TheVariants as license
-use Rattle.rustsec_values.specs.ClosedTables.{value_named}
+use Rattle.rustsec_values.specs.ClosedTables.{from_name}
 
 -- the identifier of a license
 abbrev pub license_name : License → List ℕ
@@ -16,7 +16,7 @@ licenses = license.CcZero10 ∷ license.CcBy40 ∷ []
 
 -- the license of a text: the one with that identifier, or `Other`, which keeps the text
 abbrev pub license_of : List ℕ → License
-license_of text = unwrap_or (value_named license_name licenses text) (license.Other text)
+license_of text = unwrap_or (from_name license_name licenses text) (license.Other text)
 
 -- the license of an advisory without the key `license`
 abbrev pub default_license : License

@@ -4,7 +4,7 @@ use Rattle.std.specs.Ordering.{nat_cmp, on}
 use Rattle.std.specs.declared.cmp.Ordering.{Ordering}
 use Rattle.rustsec_texts.specs.declared.warning_kind.WarningKind.{WarningKind}
 use Rattle.rustsec_texts.specs.declared.warning_kind.WarningKind.TheVariants as warning
-use Rattle.rustsec_values.specs.ClosedTables.{value_named}
+use Rattle.rustsec_values.specs.ClosedTables.{from_name}
 
 -- the text of a kind
 abbrev pub warning_kind_name : WarningKind → List ℕ
@@ -19,7 +19,7 @@ warning_kinds = warning.Notice ∷ warning.Unmaintained ∷ warning.Unsound ∷ 
 
 -- the kind of a text, if it is the text of one
 abbrev pub warning_kind_of : List ℕ → Option WarningKind
-warning_kind_of = value_named warning_kind_name warning_kinds
+warning_kind_of = from_name warning_kind_name warning_kinds
 
 -- the place of a kind in the order
 abbrev pub warning_kind_place : WarningKind → ℕ

@@ -1,7 +1,7 @@
 //! Categories of advisories.
 
 ghost use Rattle.std.specs.Prelude.{◌≡◌, ◌⊎◌, IfErr, IfOk, List, OnErr, ℕ, None, Some};
-ghost use Rattle.rustsec_values.specs.ClosedTables.{value_named};
+ghost use Rattle.rustsec_values.specs.ClosedTables.{from_name};
 ghost use Rattle.rustsec_error.specs.Failure.{IsMemory};
 ghost use Rattle.rustsec_texts.specs.declared.category.Category.TheVariants as category;
 ghost use Rattle.rustsec_texts.specs.Categories.{categories, category_cmp, category_name, category_of};
@@ -49,7 +49,7 @@ impl Category {
         ensures err { IfErr result IsMemory }
 
         // A text that names one of the other variants takes no memory.
-        ensures other { IfErr result (λ e. value_named category_name categories text.now ≡ None) }
+        ensures other { IfErr result (λ e. from_name category_name categories text.now ≡ None) }
         ensures printed { IfOk result (λ c. category_name c ≡ text.now) }
         ensures read_again { IfOk result (λ c. category_of (category_name c) ≡ c) }
     {
@@ -118,7 +118,7 @@ impl FromText for Category {
     fn from_text(alloc: Global, text: &str) -> Result<Category>
         ensures ok { IfOk result (λ x. Some (category_of text.now) ≡ Some x) }
         ensures err { IfErr result IsMemory }
-        ensures other { IfErr result (λ e. value_named category_name categories text.now ≡ None) }
+        ensures other { IfErr result (λ e. from_name category_name categories text.now ≡ None) }
     {
         Category::from_str(alloc, text)
     }

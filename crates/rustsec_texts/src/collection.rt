@@ -4,8 +4,8 @@ ghost use Rattle.std.specs.Prelude.{◌≡◌, IfErr, IfOk, Some, None};
 ghost use Rattle.rustsec_error.specs.Failure.{IsRefusal};
 ghost use Rattle.rustsec_texts.specs.Collections.{collection_cmp, collection_name, collection_of, collections};
 
-use rustsec_error::{ErrorKind, FromText, Result, refused_text};
-use rustsec_values::{ExactClone, ExactEq, Named, StatedOrder, value_named};
+use rustsec_error::{ErrorKind, FromText, Result, text_error};
+use rustsec_values::{ClosedEnum, ExactClone, ExactEq, StatedOrder, from_name};
 use std::alloc::Global;
 use std::fmt;
 
@@ -50,9 +50,9 @@ impl Collection {
         ensures none { IfErr result (λ e. collection_of text.now ≡ None) }
         ensures printed { IfOk result (λ c. collection_name c ≡ text.now) }
     {
-        match value_named(text) {
+        match from_name(text) {
             Some(value) => Ok(value),
-            None => Err(refused_text(
+            None => Err(text_error(
                 alloc,
                 "no collection has the name",
                 text,
@@ -62,7 +62,7 @@ impl Collection {
     }
 }
 
-impl Named for Collection {
+impl ClosedEnum for Collection {
     ghost use Rattle.rustsec_texts.specs.Collections.{collection_name, collections};
 
     ghost name_of = { collection_name };

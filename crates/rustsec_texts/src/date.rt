@@ -11,7 +11,7 @@ ghost use Rattle.rustsec_error.specs.Failure.{IsMemory, IsRefusal};
 ghost use Rattle.rustsec_texts.specs.Dates.{Day, date_of, day_numbers, day_of, is_real_day};
 
 use crate::numbers::{digits, three_parts};
-use rustsec_error::{ErrorKind, FromText, Result, refused_text};
+use rustsec_error::{ErrorKind, FromText, Result, text_error};
 use rustsec_values::{ExactClone, ExactEq, Text};
 use std::alloc::Global;
 use std::cmp::Ordering;
@@ -86,7 +86,7 @@ impl Date {
         ensures err { IfErr result (IsRefusal ErrorKind.Parse (date_of text.now ≡ None)) }
     {
         let Some((year, month, day)) = day_of(text) else {
-            return Err(refused_text(
+            return Err(text_error(
                 alloc,
                 "malformed date",
                 text,

@@ -10,7 +10,7 @@ ghost use Rattle.rustsec_error.specs.Failure.{IsMemory, IsRefusal};
 ghost use Rattle.rustsec_texts.specs.Paths.{IsPathOf, between_colons, is_identifier, is_path, path_eq, path_equiv, path_of, path_order, path_text, path_ties, path_total};
 
 use crate::identifier::Identifier;
-use rustsec_error::{ErrorKind, FromText, Result, refused_text};
+use rustsec_error::{ErrorKind, FromText, Result, text_error};
 use rustsec_values::{ExactClone, ExactEq, Items};
 use std::alloc::Global;
 use std::cmp::Ordering;
@@ -69,7 +69,7 @@ impl FunctionPath {
     {
         let segments = segments_of(alloc, text)?;
         if segments.len() < 2 {
-            return Err(refused_text(
+            return Err(text_error(
                 alloc,
                 "malformed function path",
                 text,

@@ -10,7 +10,7 @@ ghost use Rattle.rustsec_texts.specs.declared.id_kind.IdKind.TheVariants as vari
 
 use crate::id_kind::IdKind;
 use crate::numbers::{number, three_parts};
-use rustsec_error::{Error, ErrorKind, FromText, Result, refused_text};
+use rustsec_error::{Error, ErrorKind, FromText, Result, text_error};
 use rustsec_values::{ExactClone, ExactEq, Text};
 use std::alloc::Global;
 use std::cmp::Ordering;
@@ -66,10 +66,10 @@ fn page_of_kind(kind: IdKind) -> Option<&'static str>
 }
 
 /// Returns the error for a text that is not an ID.
-fn malformed(alloc: Global, text: &str) -> Error
+fn malformed_error(alloc: Global, text: &str) -> Error
     ensures { IsOfKind ErrorKind.Parse result }
 {
-    refused_text(
+    text_error(
         alloc,
         "malformed advisory ID",
         text,
@@ -99,7 +99,7 @@ impl Id {
         let year = match kind {
             IdKind::RustSec | IdKind::Cve | IdKind::Talos => match year_of(text) {
                 Some(year) => Some(year),
-                None => return Err(malformed(alloc, text)),
+                None => return Err(malformed_error(alloc, text)),
             },
             IdKind::Ghsa | IdKind::Other => None,
         };

@@ -5,7 +5,7 @@ ghost use Rattle.std.specs.List.{list_all};
 ghost use Rattle.rustsec_error.specs.Failure.{IsMemory, IsRefusal};
 ghost use Rattle.rustsec_texts.specs.Paths.{identifier_of, is_first, is_identifier, is_later};
 
-use rustsec_error::{ErrorKind, FromText, Result, refused_text};
+use rustsec_error::{ErrorKind, FromText, Result, text_error};
 use rustsec_values::{ExactClone, ExactEq, StatedOrder, Text};
 use std::alloc::Global;
 use std::convert::AsStr;
@@ -75,7 +75,7 @@ impl Identifier {
         ensures err { IfErr result (IsRefusal ErrorKind.Parse (identifier_of text.now ≡ None)) }
     {
         if !is_identifier(text) {
-            return Err(refused_text(
+            return Err(text_error(
                 alloc,
                 "malformed identifier",
                 text,

@@ -1,7 +1,7 @@
 //! Kinds of informational advisories.
 
 ghost use Rattle.std.specs.Prelude.{◌≡◌, ◌⊎◌, ◌↔◌, IsTrue, IfErr, IfOk, List, OnErr, ℕ, None, Some};
-ghost use Rattle.rustsec_values.specs.ClosedTables.{value_named};
+ghost use Rattle.rustsec_values.specs.ClosedTables.{from_name};
 ghost use Rattle.rustsec_error.specs.Failure.{IsMemory};
 ghost use Rattle.rustsec_texts.specs.declared.informational.Informational.TheVariants as informational;
 ghost use Rattle.rustsec_texts.specs.Informational.{informational_cmp, informational_kinds, informational_name, informational_of, is_other_kind, kind_of_warnings};
@@ -36,7 +36,7 @@ impl Informational {
         ensures err { IfErr result IsMemory }
 
         // A text that names one of the other variants takes no memory.
-        ensures other { IfErr result (λ e. value_named informational_name informational_kinds text.now ≡ None) }
+        ensures other { IfErr result (λ e. from_name informational_name informational_kinds text.now ≡ None) }
         ensures printed { IfOk result (λ k. informational_name k ≡ text.now) }
         ensures read_again { IfOk result (λ k. informational_of (informational_name k) ≡ k) }
     {
@@ -131,7 +131,7 @@ impl FromText for Informational {
     fn from_text(alloc: Global, text: &str) -> Result<Informational>
         ensures ok { IfOk result (λ x. Some (informational_of text.now) ≡ Some x) }
         ensures err { IfErr result IsMemory }
-        ensures other { IfErr result (λ e. value_named informational_name informational_kinds text.now ≡ None) }
+        ensures other { IfErr result (λ e. from_name informational_name informational_kinds text.now ≡ None) }
     {
         Informational::from_str(alloc, text)
     }

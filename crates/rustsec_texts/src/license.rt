@@ -1,7 +1,7 @@
 //! Licenses of advisories.
 
 ghost use Rattle.std.specs.Prelude.{◌≡◌, ◌⊎◌, IfErr, IfOk, List, OnErr, ℕ, None, Some};
-ghost use Rattle.rustsec_values.specs.ClosedTables.{value_named};
+ghost use Rattle.rustsec_values.specs.ClosedTables.{from_name};
 ghost use Rattle.rustsec_error.specs.Failure.{IsMemory};
 ghost use Rattle.rustsec_texts.specs.declared.license.License.TheVariants as license;
 ghost use Rattle.rustsec_texts.specs.Licenses.{default_license, license_name, license_of, licenses};
@@ -33,7 +33,7 @@ impl License {
         ensures err { IfErr result IsMemory }
 
         // A text that names one of the other variants takes no memory.
-        ensures other { IfErr result (λ e. value_named license_name licenses text.now ≡ None) }
+        ensures other { IfErr result (λ e. from_name license_name licenses text.now ≡ None) }
         ensures printed { IfOk result (λ l. license_name l ≡ text.now) }
         ensures read_again { IfOk result (λ l. license_of (license_name l) ≡ l) }
     {
@@ -93,7 +93,7 @@ impl FromText for License {
     fn from_text(alloc: Global, text: &str) -> Result<License>
         ensures ok { IfOk result (λ x. Some (license_of text.now) ≡ Some x) }
         ensures err { IfErr result IsMemory }
-        ensures other { IfErr result (λ e. value_named license_name licenses text.now ≡ None) }
+        ensures other { IfErr result (λ e. from_name license_name licenses text.now ≡ None) }
     {
         License::from_str(alloc, text)
     }

@@ -5,7 +5,7 @@ ghost use Rattle.rustsec_error.specs.Failure.{IsRefusal};
 ghost use Rattle.rustsec_texts.specs.PatternCuts.{IsSliceOf, after_prefix, cut_at};
 ghost use Rattle.rustsec_texts.specs.Parts.{AreParts, FileParts, ShowsBeginning, closing, opening, parts_of};
 
-use rustsec_error::{Error, ErrorKind, Result, refused_text};
+use rustsec_error::{Error, ErrorKind, Result, text_error};
 use rustsec_values::beginning_of;
 use std::alloc::Global;
 
@@ -48,10 +48,10 @@ impl<'a> Parts<'a> {
         ensures meaning { (p : FileParts) → (parts_of text.now ≡ Some p) ↔ AreParts text.now p }
     {
         let Some(body) = after_prefix(text, "```toml") else {
-            return Err(wrong_start(alloc, text));
+            return Err(start_error(alloc, text));
         };
         let Some((front, rest)) = cut_at_end(body) else {
-            return Err(refused_text(
+            return Err(text_error(
                 alloc,
                 "the front matter has no end",
                 first_line(body.trim_start()),
@@ -60,7 +60,7 @@ impl<'a> Parts<'a> {
         };
         let markdown = rest.trim_start();
         let Some(lines) = after_prefix(markdown, "# ") else {
-            return Err(refused_text(
+            return Err(text_error(
                 alloc,
                 "no title below the front matter",
                 first_line(markdown),
@@ -68,7 +68,7 @@ impl<'a> Parts<'a> {
             ));
         };
         let Some((title, description)) = cut_at(lines, "\n") else {
-            return Err(refused_text(
+            return Err(text_error(
                 alloc,
                 "no line below the title",
                 lines,
@@ -129,7 +129,7 @@ fn first_line(text: &str) -> &str {
 }
 
 /// Returns the error for a text that does not begin as an advisory file; it shows the beginning.
-fn wrong_start(alloc: Global, text: &str) -> Error
+fn start_error(alloc: Global, text: &str) -> Error
     ensures { IsRefusal ErrorKind.Parse (ShowsBeginning text.now result) result }
 {
     let beginning = beginning_of(text, SHOWN);

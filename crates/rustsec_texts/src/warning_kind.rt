@@ -4,8 +4,8 @@ ghost use Rattle.std.specs.Prelude.{◌≡◌, IfErr, IfOk, Some, None};
 ghost use Rattle.rustsec_error.specs.Failure.{IsRefusal};
 ghost use Rattle.rustsec_texts.specs.WarningKinds.{warning_kind_cmp, warning_kind_name, warning_kind_of};
 
-use rustsec_error::{ErrorKind, FromText, Result, refused_text};
-use rustsec_values::{ExactClone, ExactEq, Named, StatedOrder, value_named};
+use rustsec_error::{ErrorKind, FromText, Result, text_error};
+use rustsec_values::{ClosedEnum, ExactClone, ExactEq, StatedOrder, from_name};
 use std::alloc::Global;
 use std::fmt;
 
@@ -49,9 +49,9 @@ impl WarningKind {
         ensures none { IfErr result (λ e. warning_kind_of text.now ≡ None) }
         ensures printed { IfOk result (λ k. warning_kind_name k ≡ text.now) }
     {
-        match value_named(text) {
+        match from_name(text) {
             Some(value) => Ok(value),
-            None => Err(refused_text(
+            None => Err(text_error(
                 alloc,
                 "no kind of warnings has the name",
                 text,
@@ -61,7 +61,7 @@ impl WarningKind {
     }
 }
 
-impl Named for WarningKind {
+impl ClosedEnum for WarningKind {
     ghost use Rattle.rustsec_texts.specs.WarningKinds.{warning_kind_name, warning_kinds};
 
     ghost name_of = { warning_kind_name };

@@ -222,7 +222,7 @@ impl<'a> TablePlace<'a> {
 
     /// Adds the place of a key of the table, or of an element of the array at the key, to an error about it, if the text
     /// is known. Out of memory stays as it is.
-    pub fn refused_at(self, alloc: Global, key: &str, error: Error) -> Error
+    pub fn with_place(self, alloc: Global, key: &str, error: Error) -> Error
         ensures kind { IsOfKind error.kind result }
         ensures memory { IsMemory error → IsMemory result }
     {
@@ -230,13 +230,13 @@ impl<'a> TablePlace<'a> {
             return error;
         }
         match self.rest_from(alloc, key) {
-            Ok(part) => self.refused_from(alloc, part, error),
+            Ok(part) => self.with_place_of(alloc, part, error),
             Err(refused) => Error::from(refused),
         }
     }
 
     /// Adds the place from which on a part of the text is given to an error about it. Out of memory stays as it is.
-    pub fn refused_from(self, alloc: Global, part: &str, error: Error) -> Error
+    pub fn with_place_of(self, alloc: Global, part: &str, error: Error) -> Error
         ensures kind { IsOfKind error.kind result }
         ensures memory { IsMemory error → IsMemory result }
     {
@@ -267,7 +267,7 @@ fn no_document_at(
 
 /// Returns the error for a text that is not a TOML document. Its message has the place of the fault and the line, and
 /// its cause is the reason of `toml`.
-fn no_document(
+fn document_error(
     alloc: Global,
     text: &str,
     at: TablePlace<'_>,
@@ -299,6 +299,6 @@ pub fn document(alloc: Global, text: &str, at: TablePlace<'_>, name: &str) -> Re
     match toml::table_from_str(alloc, text) {
         Ok(table) => Ok(table),
         Err(e) if e.is_memory() => Err(Error::from(AllocError)),
-        Err(e) => Err(no_document(alloc, text, at, name, &e)),
+        Err(e) => Err(document_error(alloc, text, at, name, &e)),
     }
 }

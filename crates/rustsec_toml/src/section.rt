@@ -8,7 +8,7 @@ ghost use Rattle.rustsec_values.specs.Reading.{read_all};
 ghost use Rattle.rustsec_error.specs.Failure.{IsMemory, IsOfKind, IsRefusal};
 
 use crate::documents::TablePlace;
-use rustsec_error::{Error, ErrorKind, FromText, Result, refused_at, refused_text};
+use rustsec_error::{Error, ErrorKind, FromText, Result, text_error, with_place};
 use rustsec_values::Items;
 use std::alloc::{AllocError, Global};
 use std::fmt;
@@ -35,7 +35,7 @@ fn member<'a>(table: &'a Table, key: &str) -> Option<&'a Value>
 }
 
 /// Returns a `Parse` error with this message, or `OutOfMemory` if the message could not be built.
-fn refused(alloc: Global, message: std::result::Result<String, AllocError>) -> Error
+fn parse_error(alloc: Global, message: std::result::Result<String, AllocError>) -> Error
     ensures { IsOfKind ErrorKind.Parse result }
 {
     match message {
@@ -68,7 +68,10 @@ fn texts<T: FromText>(
 {
     let mut read = Vec::with_capacity(alloc, array.len())?;
     for value in array {
-        match section.at_element(read.len()).text_of(alloc, key, value) {
+        match section
+            .at_element(read.len())
+            .parse_value(alloc, key, value)
+        {
             Ok(item) => read.push(item).map_err(|_| AllocError)?,
             Err(e) => return Err(e),
         }
@@ -94,17 +97,17 @@ impl<'a> Section<'a> {
     }
 
     /// Returns the error for a table without a required key.
-    pub fn missing(self, alloc: Global, key: &str) -> Error
+    pub fn missing_error(self, alloc: Global, key: &str) -> Error
         ensures { IsOfKind ErrorKind.Parse result }
     {
         let name = self.name;
-        let error = refused(alloc, format!(in alloc; "key `{key}` is missing in {name}"));
-        self.place.refused_at(alloc, key, error)
+        let error = parse_error(alloc, format!(in alloc; "key `{key}` is missing in {name}"));
+        self.place.with_place(alloc, key, error)
     }
 
     /// Returns the error for a value that is not of the expected kind. Its message names the key, the table and the
     /// value.
-    pub fn unexpected(self, alloc: Global, key: &str, found: &Value, expected: &str) -> Error
+    pub fn unexpected_error(self, alloc: Global, key: &str, found: &Value, expected: &str) -> Error
         ensures { IsOfKind ErrorKind.Parse result }
     {
         let (name, kind) = (self.name, found.type_str());
@@ -113,23 +116,23 @@ impl<'a> Section<'a> {
             printed(alloc, found),
         ) {
             (Ok(wrong), Ok(value)) => {
-                let error = refused_text(alloc, &wrong, &value, expected);
-                self.place.refused_at(alloc, key, error)
+                let error = text_error(alloc, &wrong, &value, expected);
+                self.place.with_place(alloc, key, error)
             }
             _ => Error::from(AllocError),
         }
     }
 
     /// Adds the key and the table before the message of an error about the value at the key.
-    pub fn refused_at(self, alloc: Global, key: &str, error: &Error) -> Error
+    pub fn with_key(self, alloc: Global, key: &str, error: &Error) -> Error
         ensures kind { IsOfKind error.now.kind result }
         ensures memory { IsMemory error.now → IsMemory result }
     {
         let name = self.name;
         match format!(in alloc; "key `{key}` in {name}") {
             Ok(place) => {
-                let error = refused_at(alloc, &place, error);
-                self.place.refused_at(alloc, key, error)
+                let error = with_place(alloc, &place, error);
+                self.place.with_place(alloc, key, error)
             }
             Err(refused) => Error::from(refused),
         }
@@ -147,7 +150,7 @@ impl<'a> Section<'a> {
     {
         match value.as_table() {
             Some(table) => Ok(table),
-            None => Err(self.unexpected(alloc, key, value, "a table")),
+            None => Err(self.unexpected_error(alloc, key, value, "a table")),
         }
     }
 
@@ -170,7 +173,7 @@ impl<'a> Section<'a> {
     {
         match value.as_array() {
             Some(array) => Ok(array),
-            None => Err(self.unexpected(alloc, key, value, expected)),
+            None => Err(self.unexpected_error(alloc, key, value, expected)),
         }
     }
 
@@ -186,7 +189,7 @@ impl<'a> Section<'a> {
     {
         match value.as_str() {
             Some(text) => Ok(text),
-            None => Err(self.unexpected(alloc, key, value, "a string")),
+            None => Err(self.unexpected_error(alloc, key, value, "a string")),
         }
     }
 
@@ -195,13 +198,13 @@ impl<'a> Section<'a> {
     /// # Errors
     ///
     /// `Parse` if the type does not accept the text; else `OutOfMemory`.
-    pub fn read<T: FromText>(self, alloc: Global, key: &str, text: &str) -> Result<T>
+    pub fn parse_str<T: FromText>(self, alloc: Global, key: &str, text: &str) -> Result<T>
         ensures ok { IfOk result (λ x. T.reads text.now ≡ Some x) }
         ensures err { IfErr result (IsRefusal ErrorKind.Parse (T.reads text.now ≡ None)) }
     {
         match T::from_text(alloc, text) {
             Ok(value) => Ok(value),
-            Err(e) => Err(self.refused_at(alloc, key, &e)),
+            Err(e) => Err(self.with_key(alloc, key, &e)),
         }
     }
 
@@ -210,13 +213,13 @@ impl<'a> Section<'a> {
     /// # Errors
     ///
     /// `Parse` if the value is not a string, or the type does not accept it; else `OutOfMemory`.
-    pub fn text_of<T: FromText>(self, alloc: Global, key: &str, value: &Value) -> Result<T>
+    pub fn parse_value<T: FromText>(self, alloc: Global, key: &str, value: &Value) -> Result<T>
         ensures ok { IfOk result (λ x. text T.reads (view value.now) ≡ Some x) }
         ensures err { IfErr result (IsRefusal ErrorKind.Parse (text T.reads (view value.now) ≡ None)) }
     {
         match value.as_str() {
-            Some(text) => self.read(alloc, key, text),
-            None => Err(self.unexpected(alloc, key, value, "a string")),
+            Some(text) => self.parse_str(alloc, key, text),
+            None => Err(self.unexpected_error(alloc, key, value, "a string")),
         }
     }
 
@@ -232,7 +235,7 @@ impl<'a> Section<'a> {
     {
         match self.get(key) {
             Some(value) => self.table_of(alloc, key, value),
-            None => Err(self.missing(alloc, key)),
+            None => Err(self.missing_error(alloc, key)),
         }
     }
 
@@ -248,7 +251,7 @@ impl<'a> Section<'a> {
     {
         match self.get(key) {
             Some(value) => self.string_of(alloc, key, value),
-            None => Err(self.missing(alloc, key)),
+            None => Err(self.missing_error(alloc, key)),
         }
     }
 
@@ -300,7 +303,7 @@ impl<'a> Section<'a> {
         };
         match value.as_bool() {
             Some(flag) => Ok(flag),
-            None => Err(self.unexpected(alloc, key, value, "a boolean")),
+            None => Err(self.unexpected_error(alloc, key, value, "a boolean")),
         }
     }
 
@@ -310,13 +313,13 @@ impl<'a> Section<'a> {
     ///
     /// `Parse` if the key is missing, its value is not a string, or the type does not accept it; else
     /// `OutOfMemory`.
-    pub fn text_at<T: FromText>(self, alloc: Global, key: &str) -> Result<T>
+    pub fn required<T: FromText>(self, alloc: Global, key: &str) -> Result<T>
         ensures ok { IfOk result (λ x. required (text T.reads) key.now (table_view self.entry.table.now) ≡ Some x) }
         ensures err { IfErr result (IsRefusal ErrorKind.Parse (required (text T.reads) key.now (table_view self.entry.table.now) ≡ None)) }
     {
         match self.get(key) {
-            Some(value) => self.text_of(alloc, key, value),
-            None => Err(self.missing(alloc, key)),
+            Some(value) => self.parse_value(alloc, key, value),
+            None => Err(self.missing_error(alloc, key)),
         }
     }
 
@@ -325,7 +328,7 @@ impl<'a> Section<'a> {
     /// # Errors
     ///
     /// `Parse` if its value is not a string, or the type does not accept it; else `OutOfMemory`.
-    pub fn optional_text_at<T: FromText>(self, alloc: Global, key: &str) -> Result<Option<T>>
+    pub fn optional<T: FromText>(self, alloc: Global, key: &str) -> Result<Option<T>>
         ensures ok { IfOk result (λ x. optional (text T.reads) key.now (table_view self.entry.table.now) ≡ Some x) }
         ensures err { IfErr result (IsRefusal ErrorKind.Parse (optional (text T.reads) key.now (table_view self.entry.table.now) ≡ None)) }
         ensures none { OnErr result (get_member key.now (table_view self.entry.table.now) ≢ None) }
@@ -333,7 +336,7 @@ impl<'a> Section<'a> {
         let Some(value) = self.get(key) else {
             return Ok(None);
         };
-        let read = self.text_of(alloc, key, value)?;
+        let read = self.parse_value(alloc, key, value)?;
         Ok(Some(read))
     }
 
@@ -342,13 +345,13 @@ impl<'a> Section<'a> {
     /// # Errors
     ///
     /// `Parse` if its value is not a string, or the type does not accept it; else `OutOfMemory`.
-    pub fn text_or<T: FromText>(self, alloc: Global, key: &str, default: T) -> Result<T>
+    pub fn or_default<T: FromText>(self, alloc: Global, key: &str, default: T) -> Result<T>
         ensures ok { IfOk result (λ x. defaulted default (text T.reads) key.now (table_view self.entry.table.now) ≡ Some x) }
         ensures err { IfErr result (IsRefusal ErrorKind.Parse (defaulted default (text T.reads) key.now (table_view self.entry.table.now) ≡ None)) }
         ensures none { OnErr result (get_member key.now (table_view self.entry.table.now) ≢ None) }
     {
         match self.get(key) {
-            Some(value) => self.text_of(alloc, key, value),
+            Some(value) => self.parse_value(alloc, key, value),
             None => Ok(default),
         }
     }
@@ -358,7 +361,7 @@ impl<'a> Section<'a> {
     /// # Errors
     ///
     /// `Parse` if its value is not an array of strings, or the type does not accept one; else `OutOfMemory`.
-    pub fn texts_at<T: FromText>(self, alloc: Global, key: &str) -> Result<Items<T>>
+    pub fn list<T: FromText>(self, alloc: Global, key: &str) -> Result<Items<T>>
         ensures ok { IfOk result (λ xs. defaulted [] (every (text T.reads)) key.now (table_view self.entry.table.now) ≡ Some xs) }
         ensures err { IfErr result (IsRefusal ErrorKind.Parse (defaulted [] (every (text T.reads)) key.now (table_view self.entry.table.now) ≡ None)) }
         ensures none { OnErr result (get_member key.now (table_view self.entry.table.now) ≢ None) }
@@ -368,7 +371,7 @@ impl<'a> Section<'a> {
         };
         match value.as_array() {
             Some(array) => texts(alloc, self, key, array),
-            None => Err(self.unexpected(alloc, key, value, "an array of strings")),
+            None => Err(self.unexpected_error(alloc, key, value, "an array of strings")),
         }
     }
 }

@@ -1,10 +1,10 @@
 //! Closed tables: types of finitely many values, each with a name.
 
 ghost use Rattle.std.specs.Prelude.{◌≡◌, ℕ, IfSome, List};
-ghost use Rattle.rustsec_values.specs.ClosedTables.{value_named};
+ghost use Rattle.rustsec_values.specs.ClosedTables.{from_name};
 
 /// A type of finitely many values, each with a name.
-pub trait Named: Copy + 'static {
+pub trait ClosedEnum: Copy + 'static {
     ghost name_of: { Self → List ℕ };
 
     ghost values: { List Self };
@@ -19,8 +19,8 @@ pub trait Named: Copy + 'static {
 }
 
 /// Returns the first value whose name is this text, if any.
-pub fn value_named<T: Named>(text: &str) -> Option<T>
-    ensures value { result ≡ value_named T.name_of T.values text.now }
+pub fn from_name<T: ClosedEnum>(text: &str) -> Option<T>
+    ensures value { result ≡ from_name T.name_of T.values text.now }
     ensures name { IfSome result (λ x. T.name_of x ≡ text.now) }
 {
     for value in T::all() {

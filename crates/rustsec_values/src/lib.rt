@@ -6,14 +6,14 @@ mod beginning;
 mod closed_table;
 mod items;
 mod laws;
+mod predicate;
 mod sorted_map;
-mod test;
 mod text;
 
 pub use crate::beginning::beginning_of;
-pub use crate::closed_table::{Named, value_named};
+pub use crate::closed_table::{ClosedEnum, from_name};
 pub use crate::items::Items;
 pub use crate::laws::{ExactClone, ExactEq, StatedOrder, exact_copy};
+pub use crate::predicate::Predicate;
 pub use crate::sorted_map::SortedMap;
-pub use crate::test::Test;
 pub use crate::text::Text;

@@ -6,7 +6,7 @@ use rustsec_lock::SourceId;
 use rustsec_lock::package::{Name, Package};
 use rustsec_query::Query;
 use rustsec_texts::Collection;
-use rustsec_values::{Test, Text};
+use rustsec_values::{Predicate, Text};
 use semver::Version;
 use std::alloc::Global;
 use std::test::Fail;
@@ -137,7 +137,7 @@ fn all_bear(alloc: Global, database: &Database, name: &str, version: &str) -> Re
     };
     let packages = [package];
     let bearing = Bearing::new(alloc, &packages)?;
-    Ok(database.iter().all(|advisory| bearing.passes(advisory)))
+    Ok(database.iter().all(|advisory| bearing.holds(advisory)))
 }
 
 #[test]

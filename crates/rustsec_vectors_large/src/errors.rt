@@ -1,7 +1,7 @@
 //! Errors whose messages, causes and places are long.
 
 use crate::numbers::LONG;
-use rustsec_error::{Error, ErrorKind, refused_at, refused_file, refused_for, refused_text};
+use rustsec_error::{Error, ErrorKind, file_error, text_error, text_error_with_cause, with_place};
 use std::alloc::Global;
 use std::process::Abort;
 use std::test::Fail;
@@ -28,7 +28,7 @@ fn cause_is_kept(alloc: Global, text: &str) -> Result<bool, Fail> {
 /// Returns whether a text is added as a place before a message.
 fn place_is_added(alloc: Global, text: &str) -> Result<bool, Fail> {
     let inner = Error::new(alloc, ErrorKind::Parse, text);
-    let error = refused_at(alloc, text, &inner);
+    let error = with_place(alloc, text, &inner);
     let message = format!(in alloc; "{text}: {text}")?;
     Ok(is(&error, &message, None))
 }
@@ -36,14 +36,14 @@ fn place_is_added(alloc: Global, text: &str) -> Result<bool, Fail> {
 /// Returns whether a text is added as the path of a file, and the cause is the message before.
 fn path_is_added(alloc: Global, text: &str) -> Result<bool, Fail> {
     let inner = Error::new(alloc, ErrorKind::Parse, text);
-    let error = refused_file(alloc, text, &inner);
+    let error = file_error(alloc, text, &inner);
     let message = format!(in alloc; "error parsing {text}")?;
     Ok(is(&error, &message, Some(text)))
 }
 
 /// Returns whether the error for a refused text shows its first 60 bytes, and the whole of what was expected.
 fn text_is_shown(alloc: Global, text: &str) -> Result<bool, Fail> {
-    let error = refused_text(alloc, text, text, text);
+    let error = text_error(alloc, text, text, text);
     let shown = "a".repeat(alloc, 60)?;
     let message = format!(in alloc; "{text} `{shown}`, expected {text}")?;
     Ok(is(&error, &message, None))
@@ -51,7 +51,7 @@ fn text_is_shown(alloc: Global, text: &str) -> Result<bool, Fail> {
 
 /// Returns whether the error for a refused text has a text as its cause.
 fn reason_is_shown(alloc: Global, text: &str) -> bool {
-    let error = refused_for(alloc, "it is", "x", "y", text);
+    let error = text_error_with_cause(alloc, "it is", "x", "y", text);
     is(&error, "it is `x`, expected y", Some(text))
 }
 

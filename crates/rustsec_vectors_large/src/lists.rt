@@ -7,7 +7,7 @@ use rustsec_fixtures::SHORT;
 use rustsec_lock::Lockfile;
 use rustsec_lock::package::Name;
 use rustsec_osv::OsvAdvisory;
-use rustsec_osv_evaluation::{Question, is_affected};
+use rustsec_osv_evaluation::{PackageVersion, is_affected};
 use rustsec_query::Vulnerability;
 use rustsec_registry::{CachedIndex, IndexVersion, Lookup};
 use rustsec_values::{Items, Text};
@@ -154,7 +154,7 @@ pub(crate) fn document(alloc: Global) -> Result<OsvAdvisory, Fail> {
 /// Returns whether a document calls a version of the crate `base` affected.
 fn calls_affected(alloc: Global, document: &OsvAdvisory, version: &str) -> Result<bool, Fail> {
     let version = Version::parse(alloc, version)?;
-    let question = Question {
+    let question = PackageVersion {
         ecosystem: "crates.io",
         name: "base",
         version: &version,

@@ -2,7 +2,7 @@
 
 use rustsec_osv::OsvAdvisory;
 use rustsec_osv_evaluation::{
-    Event, Question, has_ordered_events, is_affected, normalized, says_affected,
+    Event, PackageVersion, has_ordered_events, is_affected, normalized, says_affected,
 };
 use semver::Version;
 use serde_json::Value;
@@ -97,7 +97,7 @@ fn document(alloc: Global, keys: &str) -> Result<OsvAdvisory, Fail> {
 fn says_of(alloc: Global, keys: &str, name: &str, version: &str) -> Result<bool, Fail> {
     let document = document(alloc, keys)?;
     let version = Version::parse(alloc, version)?;
-    let question = Question {
+    let question = PackageVersion {
         ecosystem: "crates.io",
         name,
         version: &version,

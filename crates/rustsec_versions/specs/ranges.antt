@@ -1,5 +1,5 @@
 -- The ranges that accepted lists leave affected.
 pub mod AcceptedRanges
 pub mod Between
-pub mod Gaps
+pub mod Complement
 pub mod Ranges

@@ -16,7 +16,7 @@ ghost use Rattle.rustsec_versions.specs.requirement.Requirement.{has_successor, 
 ghost use Rattle.rustsec_versions.specs.Views.{bound_version_of, comparators_of, endpoint_of, interval_between};
 
 use crate::requirement::comparator::bounds_of;
-use crate::requirement::print::{quoted_bound, refused_requirement};
+use crate::requirement::print::{quoted_bound, with_requirement};
 use rustsec_error::{Error, ErrorKind, Result};
 use rustsec_values::{ExactClone, ExactEq};
 use semver::{Version, VersionReq};
@@ -205,13 +205,13 @@ fn admissible_interval(alloc: Global, req: &VersionReq) -> Result<UnaffectedRang
 {
     let (start, end) = bounds_of(alloc, req)?;
     if !start_cut_exists(&start) || !end_cut_exists(&end) {
-        return Err(no_version_above(alloc));
+        return Err(no_version_above_error(alloc));
     }
     UnaffectedRange::new(alloc, start, end)
 }
 
 /// Returns the error for a bound at a release whose patch number is the greatest one.
-fn no_version_above(alloc: Global) -> Error
+fn no_version_above_error(alloc: Global) -> Error
     ensures { IsOfKind ErrorKind.BadParam result }
 {
     Error::bad_param(
@@ -221,7 +221,7 @@ fn no_version_above(alloc: Global) -> Error
 }
 
 /// Returns the error for a start that is not at or below the end; its message shows both.
-fn not_in_order(alloc: Global, start: &Bound, end: &Bound) -> Error
+fn order_error(alloc: Global, start: &Bound, end: &Bound) -> Error
     ensures { IsOfKind ErrorKind.BadParam result }
 {
     match (
@@ -255,7 +255,7 @@ impl UnaffectedRange {
     {
         match admissible_interval(alloc, req) {
             Ok(interval) => Ok(interval),
-            Err(e) => Err(refused_requirement(alloc, req, &e)),
+            Err(e) => Err(with_requirement(alloc, req, &e)),
         }
     }
 
@@ -277,7 +277,7 @@ impl UnaffectedRange {
         if reaches(&start, &end) {
             Ok(UnaffectedRange { start, end })
         } else {
-            Err(not_in_order(alloc, &start, &end))
+            Err(order_error(alloc, &start, &end))
         }
     }
 

@@ -17,6 +17,4 @@ pub use crate::requirement::requirements::Requirements;
 pub use crate::requirement::semver_texts::{is_out_of_memory, read_requirement, read_version};
 pub use crate::search::steps::Steps;
 pub use crate::versions::Versions;
-pub use rustsec_error::{
-    Error, ErrorKind, FromText, Result, refused_at, refused_file, refused_text,
-};
+pub use rustsec_error::{Error, ErrorKind, FromText, Result, file_error, text_error, with_place};

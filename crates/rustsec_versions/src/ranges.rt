@@ -1,13 +1,13 @@
 //! The ranges of affected versions that an advisory's requirements leave.
 
-pub(crate) mod gap;
+pub(crate) mod complement;
 
 ghost use Rattle.std.specs.Prelude.{◌≡◌, ◌<◌, ◌⊎◌, ◌++◌, ◌↔◌, [], ◌∷◌, Contains, IfErr, IfOk, List, OnErr, Some, filter_map, is_some, length, map, option_map, true};
 ghost use Rattle.std.specs.List.{All, list_any};
 ghost use Rattle.semver.specs.Identifiers.{parts_of};
 ghost use Rattle.semver.specs.Parse.{Held, Parts};
 ghost use Rattle.rustsec_error.specs.Failure.{IsMemory};
-ghost use Rattle.rustsec_versions.specs.ranges.Gaps.{HasValidBounds, IsValidBound, cut};
+ghost use Rattle.rustsec_versions.specs.ranges.Complement.{HasValidBounds, IsValidBound, cut};
 ghost use Rattle.rustsec_versions.specs.interval.Interval.{Interval};
 ghost use Rattle.rustsec_versions.specs.acceptance.Lists.{Lists, accepted_apart, affected, intervals};
 ghost use Rattle.rustsec_versions.specs.acceptance.Merged.{AreMerged, IsJoined};
@@ -20,7 +20,7 @@ ghost use Rattle.rustsec_versions.specs.Views.{endpoint_of, range_of};
 
 use crate::interval::Bound;
 use crate::order::next_version::successor;
-use crate::ranges::gap::Gap;
+use crate::ranges::complement::AffectedInterval;
 use crate::versions::Versions;
 use rustsec_error::{Error, Result};
 use rustsec_values::ExactClone;
@@ -52,7 +52,7 @@ impl OsvRange {
     pub fn affects(&self, version: &Version) -> bool
         ensures { result ≡ affects self.now (parts_of version.now) }
     {
-        is_from(&self.introduced, version) && is_till(&self.fixed, version)
+        is_from(&self.introduced, version) && is_until(&self.fixed, version)
     }
 
     /// Returns an equal range.
@@ -112,7 +112,7 @@ fn is_from(introduced: &Option<Version>, version: &Version) -> bool
 }
 
 /// Returns whether a version is below the fix of a range.
-fn is_till(fixed: &Option<Version>, version: &Version) -> bool
+fn is_until(fixed: &Option<Version>, version: &Version) -> bool
     ensures { result ≡ affects_till (option_map parts_of fixed.now) (parts_of version.now) }
 {
     match fixed {
@@ -154,14 +154,14 @@ pub(crate) fn upper_cut(alloc: Global, end: &Bound) -> Result<Option<Version>>
 }
 
 /// Returns the ranges of gaps, in order.
-pub(crate) fn ranges_of(alloc: Global, gaps: &[Gap]) -> Result<Vec<OsvRange>>
-    requires { All HasValidBounds gaps.now }
-    ensures ok { IfOk result (λ v. v.items ≡ map cut gaps.now) }
-    ensures none { OnErr result (0 < length gaps.now) }
+pub(crate) fn ranges_of(alloc: Global, complement: &[AffectedInterval]) -> Result<Vec<OsvRange>>
+    requires { All HasValidBounds complement.now }
+    ensures ok { IfOk result (λ v. v.items ≡ map cut complement.now) }
+    ensures none { OnErr result (0 < length complement.now) }
     ensures err { IfErr result IsMemory }
 {
     let mut all = Vec::new(alloc);
-    for gap in gaps {
+    for gap in complement {
         let range = gap.range(alloc)?;
         all.push(range).map_err(|_| AllocError)?;
     }

@@ -9,11 +9,11 @@ ghost use Rattle.rustsec_versions.specs.interval.Interval.{Interval, holds, is_a
 ghost use Rattle.rustsec_versions.specs.ranges.Ranges.{has_bound};
 
 use crate::interval::Bound;
-use crate::ranges::gap::Gap;
+use crate::ranges::complement::AffectedInterval;
 use crate::search::steps::{Sought, Steps};
 
 /// Returns whether a version is after the start of a gap.
-fn is_after_start(gap: &Gap, version: &Sought<'_>, steps: &mut Steps) -> bool
+fn is_after_start(gap: &AffectedInterval, version: &Sought<'_>, steps: &mut Steps) -> bool
     ensures answer { result ≡ is_after gap.now.start version.now }
     ensures least { has_bound gap.now.start ≡ true → steps.old < 2 ^ 64 - 1 → steps.old < steps.new }
     ensures count { steps.new ≤ steps.old + 1 }
@@ -28,7 +28,7 @@ fn is_after_start(gap: &Gap, version: &Sought<'_>, steps: &mut Steps) -> bool
 }
 
 /// Returns whether a version is before the end of a gap.
-fn is_before_end(gap: &Gap, version: &Sought<'_>, steps: &mut Steps) -> bool
+fn is_before_end(gap: &AffectedInterval, version: &Sought<'_>, steps: &mut Steps) -> bool
     ensures answer { result ≡ is_before gap.now.end version.now }
     ensures count { steps.new ≤ steps.old + 1 }
     ensures rises { steps.old ≤ steps.new }
@@ -42,26 +42,30 @@ fn is_before_end(gap: &Gap, version: &Sought<'_>, steps: &mut Steps) -> bool
 }
 
 /// Returns the number of gaps at the front of the list whose start is before a version (as `partition_point` does).
-fn partition_point(gaps: &[Gap], version: &Sought<'_>, steps: &mut Steps) -> usize
-    requires turn { AreInTurn gaps.now }
-    requires starts { EachLaterBegins gaps.now }
-    ensures within { result ≤ length gaps.now }
-    ensures before { (k : ℕ) (d : Interval) → k < result → is_after (slice_index_or gaps.now k d).start version.now ≡ true }
-    ensures after { (k : ℕ) (d : Interval) → result ≤ k → k < length gaps.now → is_after (slice_index_or gaps.now k d).start version.now ≡ false }
-    ensures count { (d : ℕ) → length gaps.now < 2 ^ d → steps.new ≤ steps.old + d }
-    ensures least { (d : ℕ) → 2 ^ d ≤ length gaps.now → steps.new < 2 ^ 64 - 1 → steps.old + d ≤ steps.new }
+fn partition_point(
+    complement: &[AffectedInterval],
+    version: &Sought<'_>,
+    steps: &mut Steps,
+) -> usize
+    requires turn { AreInTurn complement.now }
+    requires starts { EachLaterBegins complement.now }
+    ensures within { result ≤ length complement.now }
+    ensures before { (k : ℕ) (d : Interval) → k < result → is_after (slice_index_or complement.now k d).start version.now ≡ true }
+    ensures after { (k : ℕ) (d : Interval) → result ≤ k → k < length complement.now → is_after (slice_index_or complement.now k d).start version.now ≡ false }
+    ensures count { (d : ℕ) → length complement.now < 2 ^ d → steps.new ≤ steps.old + d }
+    ensures least { (d : ℕ) → 2 ^ d ≤ length complement.now → steps.new < 2 ^ 64 - 1 → steps.old + d ≤ steps.new }
 
     // If the first gap has a start too, each turn asks.
-    ensures begins { (d : ℕ) (e : Interval) → has_bound (slice_index_or gaps.now 0 e).start ≡ true → 2 ^ d ≤ length gaps.now + 1
+    ensures begins { (d : ℕ) (e : Interval) → has_bound (slice_index_or complement.now 0 e).start ≡ true → 2 ^ d ≤ length complement.now + 1
         → steps.new < 2 ^ 64 - 1 → steps.old + d ≤ steps.new }
     ensures rises { steps.old ≤ steps.new }
     ensures stays { steps.old ≡ 2 ^ 64 - 1 → steps.new ≡ 2 ^ 64 - 1 }
 {
     let mut low = 0;
-    let mut high = gaps.len();
+    let mut high = complement.len();
     while low < high {
         let middle = low + (high - low) / 2;
-        if is_after_start(&gaps[middle], version, steps) {
+        if is_after_start(&complement[middle], version, steps) {
             low = middle + 1;
         } else {
             high = middle;
@@ -71,20 +75,24 @@ fn partition_point(gaps: &[Gap], version: &Sought<'_>, steps: &mut Steps) -> usi
 }
 
 /// Returns whether a version is in one of the gaps; only the last gap that starts before it can contain it.
-pub(crate) fn in_gaps(gaps: &[Gap], version: &Sought<'_>, steps: &mut Steps) -> bool
-    requires turn { AreInTurn gaps.now }
-    requires starts { EachLaterBegins gaps.now }
-    ensures answer { result ≡ list_any (λ g. holds g version.now) gaps.now }
-    ensures count { (d : ℕ) → length gaps.now < 2 ^ d → steps.new ≤ steps.old + d + 1 }
-    ensures least { (d : ℕ) → 2 ^ d ≤ length gaps.now → steps.new < 2 ^ 64 - 1 → steps.old + d ≤ steps.new }
-    ensures begins { (d : ℕ) (e : Interval) → has_bound (slice_index_or gaps.now 0 e).start ≡ true → 2 ^ d ≤ length gaps.now + 1
+pub(crate) fn in_complement(
+    complement: &[AffectedInterval],
+    version: &Sought<'_>,
+    steps: &mut Steps,
+) -> bool
+    requires turn { AreInTurn complement.now }
+    requires starts { EachLaterBegins complement.now }
+    ensures answer { result ≡ list_any (λ g. holds g version.now) complement.now }
+    ensures count { (d : ℕ) → length complement.now < 2 ^ d → steps.new ≤ steps.old + d + 1 }
+    ensures least { (d : ℕ) → 2 ^ d ≤ length complement.now → steps.new < 2 ^ 64 - 1 → steps.old + d ≤ steps.new }
+    ensures begins { (d : ℕ) (e : Interval) → has_bound (slice_index_or complement.now 0 e).start ≡ true → 2 ^ d ≤ length complement.now + 1
         → steps.new < 2 ^ 64 - 1 → steps.old + d ≤ steps.new }
     ensures rises { steps.old ≤ steps.new }
     ensures stays { steps.old ≡ 2 ^ 64 - 1 → steps.new ≡ 2 ^ 64 - 1 }
 {
-    let partition_point = partition_point(gaps, version, steps);
+    let partition_point = partition_point(complement, version, steps);
     if partition_point == 0 {
         return false;
     }
-    is_before_end(&gaps[partition_point - 1], version, steps)
+    is_before_end(&complement[partition_point - 1], version, steps)
 }

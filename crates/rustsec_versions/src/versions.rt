@@ -3,7 +3,7 @@
 ghost use Rattle.std.specs.Prelude.{◌≡◌, ◌<◌, ◌+◌, ◌-◌, ◌^◌, ◌≤◌, ◌∷◌, ℕ, IfErr, IfOk, List, OnErr, OnOk, false, is_some, length, map, true};
 ghost use Rattle.std.specs.Cmp.{partial_equiv_from_equiv};
 ghost use Rattle.semver.specs.Identifiers.{parts_of};
-ghost use Rattle.rustsec_versions.specs.ranges.Between.{AreGapsOf};
+ghost use Rattle.rustsec_versions.specs.ranges.Between.{IsComplementOf};
 ghost use Rattle.rustsec_versions.specs.Equality.{lists_eq, lists_equiv};
 ghost use Rattle.rustsec_versions.specs.EqualityLaws.{lists_decides};
 ghost use Rattle.rustsec_error.specs.Failure.{IsMemory, IsRefusal};
@@ -15,12 +15,12 @@ ghost use Rattle.rustsec_versions.specs.Views.{comparators_of, lists_of};
 
 use crate::acceptance::apart::accepted_as_unaffected;
 use crate::acceptance::merge::merged_intervals;
-use crate::acceptance::overlaps::overlap_refused;
+use crate::acceptance::overlaps::overlap_error;
 use crate::acceptance::tagged::{by_start, tagged_intervals};
-use crate::ranges::gap::{Gap, gaps};
+use crate::ranges::complement::{AffectedInterval, complement};
 use crate::ranges::{OsvRange, ranges_of};
 use crate::requirement::requirements::Requirements;
-use crate::search::in_gaps;
+use crate::search::in_complement;
 use crate::search::steps::{Sought, Steps};
 use rustsec_error::{Error, ErrorKind, Result};
 use rustsec_values::{ExactClone, ExactEq};
@@ -34,23 +34,27 @@ pub struct Versions {
     patched: Requirements,
     unaffected: Requirements,
     /// The affected versions: what the intervals of the requirements leave, in order.
-    gaps: Vec<Gap>,
+    complement: Vec<AffectedInterval>,
 }
 
 impl Model for Versions {
-    ghost use Rattle.rustsec_versions.specs.ranges.Between.{AreGapsOf};
+    ghost use Rattle.rustsec_versions.specs.ranges.Between.{IsComplementOf};
     ghost use Rattle.rustsec_versions.specs.acceptance.Lists.{Lists};
 
     ghost Value = { Lists };
 
     ghost view = { λ v. record { patched = v.patched; unaffected = v.unaffected } };
 
-    ghost invariant = { λ v. AreGapsOf (record { patched = v.patched; unaffected = v.unaffected }) v.gaps.items };
+    ghost invariant = { λ v. IsComplementOf (record { patched = v.patched; unaffected = v.unaffected }) v.complement.items };
 }
 
 /// Returns the gaps between the merged intervals of the requirements.
-fn gaps_of(alloc: Global, patched: &Requirements, unaffected: &Requirements) -> Result<Vec<Gap>>
-    ensures ok { IfOk result (λ v. AreGapsOf (record { patched = patched.now; unaffected = unaffected.now }) v.items) }
+fn complement_of(
+    alloc: Global,
+    patched: &Requirements,
+    unaffected: &Requirements,
+) -> Result<Vec<AffectedInterval>>
+    ensures ok { IfOk result (λ v. IsComplementOf (record { patched = patched.now; unaffected = unaffected.now }) v.items) }
     ensures err { IfErr result (IsRefusal ErrorKind.BadParam
         (accepted (record { patched = patched.now; unaffected = unaffected.now }) ≡ false)) }
 {
@@ -58,11 +62,11 @@ fn gaps_of(alloc: Global, patched: &Requirements, unaffected: &Requirements) -> 
     let sorted = by_start(alloc, &all)?;
     match merged_intervals(alloc, &sorted)? {
         Some(intervals) => {
-            let mut gaps = gaps(alloc, &intervals)?;
-            gaps.shrink_to_fit();
-            Ok(gaps)
+            let mut complement = complement(alloc, &intervals)?;
+            complement.shrink_to_fit();
+            Ok(complement)
         }
-        None => Err(overlap_refused(alloc, &sorted)),
+        None => Err(overlap_error(alloc, &sorted)),
     }
 }
 
@@ -93,11 +97,11 @@ impl Versions {
     {
         let patched = Requirements::from(patched);
         let unaffected = Requirements::from(unaffected);
-        let gaps = gaps_of(alloc, &patched, &unaffected)?;
+        let complement = complement_of(alloc, &patched, &unaffected)?;
         Ok(Versions {
             patched,
             unaffected,
-            gaps,
+            complement,
         })
     }
 
@@ -162,7 +166,7 @@ impl Versions {
         ensures rises { steps.old ≤ steps.new }
         ensures stays { steps.old ≡ 2 ^ 64 - 1 → steps.new ≡ 2 ^ 64 - 1 }
     {
-        in_gaps(&self.gaps, &Sought::new(version), steps)
+        in_complement(&self.complement, &Sought::new(version), steps)
     }
 
     /// Returns whether no two requirements overlap, whichever lists they are in. Here patched ones may overlap one
@@ -191,7 +195,7 @@ impl Versions {
         ensures accepted { accepted self.now ≡ true }
         ensures err { IfErr result IsMemory }
     {
-        let ranges = ranges_of(alloc, &self.gaps)?;
+        let ranges = ranges_of(alloc, &self.complement)?;
         Ok(ranges)
     }
 
@@ -210,10 +214,12 @@ impl Versions {
 }
 
 /// Returns a copy of a list of gaps.
-fn copied(gaps: &Vec<Gap>) -> std::result::Result<Vec<Gap>, AllocError>
-    ensures { IfOk result (λ v. v.items ≡ gaps.now.items) }
+fn copied(
+    complement: &Vec<AffectedInterval>,
+) -> std::result::Result<Vec<AffectedInterval>, AllocError>
+    ensures { IfOk result (λ v. v.items ≡ complement.now.items) }
 {
-    let copy = gaps.clone()?;
+    let copy = complement.clone()?;
     Ok(copy)
 }
 
@@ -223,11 +229,11 @@ impl Clone for Versions {
     fn clone(&self) -> std::result::Result<Versions, AllocError> {
         let patched = Clone::clone(&self.patched)?;
         let unaffected = Clone::clone(&self.unaffected)?;
-        let gaps = copied(&self.gaps)?;
+        let complement = copied(&self.complement)?;
         Ok(Versions {
             patched,
             unaffected,
-            gaps,
+            complement,
         })
     }
 }

@@ -32,7 +32,7 @@ fn document_output(alloc: Global, document: &OsvAdvisory) -> Result<Output, Allo
 }
 
 /// Exports the advisory in the file at a path, with `modified` as the time of its last change.
-fn document_of<F: Folders>(
+fn exported_document<F: Folders>(
     alloc: Global,
     folders: &mut F,
     path: &str,
@@ -56,7 +56,7 @@ pub fn osv_output<F: Folders>(
     ensures ok { IfOk result (IsOsvOutput (F.allowed folders.old) path.now modified.now) }
     ensures same { AllowSame (F.allowed folders.old) (F.allowed folders.new) }
 {
-    match document_of(alloc, folders, path, modified) {
+    match exported_document(alloc, folders, path, modified) {
         Ok(document) => document_output(alloc, &document),
         Err(error) => refusal_output(alloc, &error),
     }

@@ -19,10 +19,10 @@ use crate::document::{MainOsvDatabaseSpecific, OsvAdvisory};
 use crate::export::members::severity_of;
 use crate::reference::{OsvReference, OsvReferenceKind};
 use crate::severity::OsvSeverity;
-use rustsec_error::{ErrorKind, Result, refused_text};
+use rustsec_error::{ErrorKind, Result, text_error};
 use rustsec_json::{
     FromTree, ToTree, fields_of, list_at, member, optional_at, put_at, put_if, required_at,
-    unexpected,
+    unexpected_error,
 };
 use rustsec_lock::Cvss;
 use rustsec_texts::Id;
@@ -47,7 +47,7 @@ impl FromTree for OsvReferenceKind {
     fn from_tree(alloc: Global, tree: &Value) -> Result<OsvReferenceKind> {
         match tree.as_str() {
             Some(text) => OsvReferenceKind::from_str(alloc, text),
-            None => Err(unexpected(alloc, tree, "a string")),
+            None => Err(unexpected_error(alloc, tree, "a string")),
         }
     }
 }
@@ -102,7 +102,7 @@ impl FromTree for OsvSeverity {
             return Ok(severity);
         }
         let (found, wanted) = (kind.as_str(), severity.kind());
-        Err(refused_text(alloc, "wrong type of the vector", found, wanted))
+        Err(text_error(alloc, "wrong type of the vector", found, wanted))
     }
 }
 
@@ -161,7 +161,7 @@ impl FromTree for Release {
                 let version = read_version(alloc, text, text)?;
                 Ok(Release { version })
             }
-            None => Err(unexpected(alloc, tree, "a string")),
+            None => Err(unexpected_error(alloc, tree, "a string")),
         }
     }
 }

@@ -12,7 +12,9 @@ ghost use Rattle.semver.specs.Identifiers.{parts_of};
 use crate::ranges::OsvJsonRange;
 use crate::timeline::OsvTimelineEvent;
 use rustsec_error::{ErrorKind, Result};
-use rustsec_json::{FromTree, ToTree, at_key, fields_of, member, put_at, required_at, unexpected};
+use rustsec_json::{
+    FromTree, ToTree, fields_of, member, put_at, required_at, unexpected_error, with_key,
+};
 use rustsec_values::Items;
 use rustsec_versions::read_version;
 use semver::Version;
@@ -69,7 +71,7 @@ fn event_version(alloc: Global, tree: &Value) -> Result<Version>
             let full = in_full(alloc, text)?;
             read_version(alloc, &full, text)
         }
-        None => Err(unexpected(alloc, tree, "a string")),
+        None => Err(unexpected_error(alloc, tree, "a string")),
     }
 }
 
@@ -80,7 +82,7 @@ fn version_at(alloc: Global, key: &str, tree: &Value) -> Result<Version>
 {
     match event_version(alloc, tree) {
         Ok(version) => Ok(version),
-        Err(e) => Err(at_key(alloc, key, &e)),
+        Err(e) => Err(with_key(alloc, key, &e)),
     }
 }
 
@@ -101,7 +103,7 @@ fn event_in(alloc: Global, tree: &Value, fields: &Map<String, Value>) -> Result<
         let version = version_at(alloc, "last_affected", tree)?;
         return Ok(OsvTimelineEvent::LastAffected(version));
     }
-    Err(unexpected(alloc, tree, EVENT))
+    Err(unexpected_error(alloc, tree, EVENT))
 }
 
 /// Returns whether an object has exactly one key.
@@ -146,7 +148,7 @@ impl FromTree for ReadEvent {
     fn from_tree(alloc: Global, tree: &Value) -> Result<ReadEvent> {
         let fields = fields_of(alloc, tree)?;
         if !is_lone(fields) {
-            return Err(unexpected(alloc, tree, EVENT));
+            return Err(unexpected_error(alloc, tree, EVENT));
         }
         let event = event_in(alloc, tree, fields)?;
         Ok(ReadEvent { event })

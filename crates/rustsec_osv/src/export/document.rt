@@ -30,7 +30,7 @@ use std::alloc::{AllocError, Global};
 
 /// The members of a document that are newly allocated, not moved from the advisory.
 #[derive(Drop)]
-struct Made {
+struct Owned {
     modified: Text,
     published: Text,
     withdrawn: Option<Text>,
@@ -41,8 +41,8 @@ struct Made {
 }
 
 /// Builds the newly allocated members of an advisory's document.
-fn made_of(alloc: Global, metadata: &Metadata, modified: &str) -> Result<Made>
-    ensures made { IfOk result (λ m. m ≡ record {
+fn build_owned(alloc: Global, metadata: &Metadata, modified: &str) -> Result<Owned>
+    ensures owned { IfOk result (λ m. m ≡ record {
       modified = modified.now;
       published = noon metadata.now.date;
       withdrawn = option_map noon metadata.now.withdrawn;
@@ -56,7 +56,7 @@ fn made_of(alloc: Global, metadata: &Metadata, modified: &str) -> Result<Made>
     ensures err { IfErr result (IsRefusal ErrorKind.Parse (own_pages metadata.now.«package» metadata.now.id.text ≡ None)) }
 {
     let pages = own_pages(alloc, &metadata.package, &metadata.id)?;
-    Ok(Made {
+    Ok(Owned {
         modified: Text::from_str(alloc, modified)?,
         published: noon(alloc, &metadata.date)?,
         withdrawn: noon_of(alloc, &metadata.withdrawn)?,
@@ -68,50 +68,50 @@ fn made_of(alloc: Global, metadata: &Metadata, modified: &str) -> Result<Made>
 }
 
 /// Assembles the document of an advisory's parts and the newly allocated members; `schema_version` stays unset.
-fn with_parts(
+fn assemble(
     alloc: Global,
-    made: Made,
+    owned: Owned,
     parts: MetadataParts,
     affected: Option<Affected>,
     range: OsvJsonRange,
 ) -> std::result::Result<OsvAdvisory, AllocError>
-    requires { All IsReferenceAgain made.pages }
+    requires { All IsReferenceAgain owned.pages }
     ensures value { IfOk result (λ d. d ≡ record {
       schema_version = None;
       id = parts.subject.id;
-      modified = made.modified;
-      published = made.published;
-      withdrawn = made.withdrawn;
+      modified = owned.modified;
+      published = owned.published;
+      withdrawn = owned.withdrawn;
       aliases = parts.subject.aliases;
       related = parts.subject.related;
       summary = parts.title;
       details = parts.description;
-      severity = made.severity;
-      affected = member_of made.«package» (database_of parts.kinds) affected range ∷ [];
-      references = made.pages ++ map reference_of (option_to_list parts.origin.url ++ parts.origin.references);
-      database_specific = record { license = Some made.license };
+      severity = owned.severity;
+      affected = member_of owned.«package» (database_of parts.kinds) affected range ∷ [];
+      references = owned.pages ++ map reference_of (option_to_list parts.origin.url ++ parts.origin.references);
+      database_specific = record { license = Some owned.license };
     }) }
     ensures again { IfOk result (λ d. All IsReferenceAgain d.references) }
 {
-    let references = with_addresses(made.pages, parts.origin)?;
+    let references = with_addresses(owned.pages, parts.origin)?;
     let database = database_of(parts.kinds);
-    let affected = affected_of(alloc, made.package, database, affected, range)?;
+    let affected = affected_of(alloc, owned.package, database, affected, range)?;
     let subject = parts.subject;
     Ok(OsvAdvisory {
         schema_version: None,
         id: subject.id,
-        modified: made.modified,
-        published: made.published,
-        withdrawn: made.withdrawn,
+        modified: owned.modified,
+        published: owned.published,
+        withdrawn: owned.withdrawn,
         aliases: subject.aliases,
         related: subject.related,
         summary: parts.title,
         details: parts.description,
-        severity: made.severity,
+        severity: owned.severity,
         affected,
         references,
         database_specific: MainOsvDatabaseSpecific {
-            license: Some(made.license),
+            license: Some(owned.license),
         },
     })
 }
@@ -129,8 +129,8 @@ fn document_with(
     ensures again { IfOk result (λ d. All IsReferenceAgain d.references) }
     ensures err { IfErr result (IsRefusal ErrorKind.Parse (references_of metadata ≡ None)) }
 {
-    let made = made_of(alloc, &metadata, modified)?;
-    let document = with_parts(alloc, made, metadata.into_parts(), affected, range)?;
+    let owned = build_owned(alloc, &metadata, modified)?;
+    let document = assemble(alloc, owned, metadata.into_parts(), affected, range)?;
     Ok(document)
 }
 

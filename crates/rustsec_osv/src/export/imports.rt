@@ -13,7 +13,7 @@ use crate::document::OsvAdvisory;
 use crate::export::members::ECOSYSTEM;
 use crate::reference::OsvReference;
 use rustsec_advisory::Address;
-use rustsec_error::{ErrorKind, Result, refused_text};
+use rustsec_error::{ErrorKind, Result, text_error};
 use rustsec_texts::Id;
 use rustsec_values::Items;
 use std::alloc::{AllocError, Global};
@@ -78,7 +78,7 @@ fn linked_id(alloc: Global, address: &Address) -> Result<Id>
     let address = address.as_str();
     match linked_text(address) {
         Some(text) => Id::from_str(alloc, text),
-        None => Err(refused_text(
+        None => Err(text_error(
             alloc,
             "malformed link to an advisory",
             address,

@@ -4,7 +4,7 @@
 use Rattle.std.specs.Prelude.{◌≡◌, true, false, List, [], ◌∷◌, length, map}
 use Rattle.std.specs.List.{All, AllAdjacentBelow, list_any}
 use Rattle.semver.specs.Parse.{Parts}
-use Rattle.rustsec_versions.specs.ranges.Gaps.{HasValidBounds, cut}
+use Rattle.rustsec_versions.specs.ranges.Complement.{HasValidBounds, cut}
 use Rattle.rustsec_versions.specs.interval.Interval.{Endpoint, Interval, exclusive, holds, inclusive, is_after, is_before, unbounded}
 use Rattle.rustsec_versions.specs.acceptance.Lists.{Lists, affected}
 use Rattle.rustsec_versions.specs.ranges.AcceptedRanges.{AreRangesOf}
@@ -23,15 +23,15 @@ gap_to from (exclusive v) rest = record { start = from; end = inclusive v } ∷ 
 gap_to from (inclusive v) rest = record { start = from; end = exclusive v } ∷ rest
 
 -- nothing comes after an interval without end
-abbrev pub gaps_after : Endpoint → List Interval → List Interval
-gaps_after unbounded rest = []
-gaps_after (exclusive v) rest = rest
-gaps_after (inclusive v) rest = rest
+abbrev pub complement_after : Endpoint → List Interval → List Interval
+complement_after unbounded rest = []
+complement_after (exclusive v) rest = rest
+complement_after (inclusive v) rest = rest
 
 -- the gaps from a bound on
-unfoldable pub gaps_between : Endpoint → List Interval → List Interval
-gaps_between from [] = record { start = from; end = unbounded } ∷ []
-gaps_between from (i ∷ is) = gap_to from i.start (gaps_after i.end (gaps_between (opposite_bound i.end) is))
+unfoldable pub complement_between : Endpoint → List Interval → List Interval
+complement_between from [] = record { start = from; end = unbounded } ∷ []
+complement_between from (i ∷ is) = gap_to from i.start (complement_after i.end (complement_between (opposite_bound i.end) is))
 
 -- a version after the start of a gap is after the start and the end of the gap before it
 pub record AreInTurn (gs : List Interval) : Type 0 where
@@ -43,7 +43,7 @@ EachLaterBegins gs = AllAdjacentBelow (λ g h. has_bound h.start ≡ true) gs (l
 
 -- the gaps that accepted lists keep: they hold the versions that the lists leave affected, valid or not, and the
 -- successors of their bounds give the ranges
-pub record AreGapsOf (ls : Lists) (gs : List Interval) : Type 0 where
+pub record IsComplementOf (ls : Lists) (gs : List Interval) : Type 0 where
   pub ranges : AreRangesOf ls (map cut gs)
   pub decide : (v : Parts) → list_any (λ g. holds g v) gs ≡ affected ls v
   pub valid : All HasValidBounds gs

@@ -23,13 +23,13 @@ is_from None v = true
 is_from (Some introduced) v = is_at_most introduced v
 
 -- whether a version is below where a range ends
-abbrev pub is_till : Option Parts → Parts → Bool
-is_till None v = true
-is_till (Some fixed) v = is_below v fixed
+abbrev pub is_until : Option Parts → Parts → Bool
+is_until None v = true
+is_until (Some fixed) v = is_below v fixed
 
 -- a version is in a range from its introduction on, and below its fix
 abbrev pub in_range : Range → Parts → Bool
-in_range r v = is_from r.introduced v && is_till r.fixed v
+in_range r v = is_from r.introduced v && is_until r.fixed v
 
 -- a version is in a list of ranges if it is in one of the ranges
 abbrev pub in_ranges : List Range → Parts → Bool

@@ -57,7 +57,7 @@ fn message_of(alloc: Global, first: &VersionReq, second: &VersionReq) -> Result<
 }
 
 /// Returns the error for two requirements that clash.
-fn refused(alloc: Global, first: &VersionReq, second: &VersionReq) -> Error
+fn requirements_error(alloc: Global, first: &VersionReq, second: &VersionReq) -> Error
     ensures { IsOfKind ErrorKind.BadParam result }
 {
     match message_of(alloc, first, second) {
@@ -67,22 +67,22 @@ fn refused(alloc: Global, first: &VersionReq, second: &VersionReq) -> Error
 }
 
 /// Returns the error for two requirements that clash; its message names the one that starts first before the other.
-pub(crate) fn clash_refused(alloc: Global, first: &TaggedInterval, second: &TaggedInterval) -> Error
+pub(crate) fn clash_error(alloc: Global, first: &TaggedInterval, second: &TaggedInterval) -> Error
     ensures { IsOfKind ErrorKind.BadParam result }
 {
     if compare_starts(second.interval.start(), first.interval.start()).is_lt() {
-        refused(alloc, second.requirement, first.requirement)
+        requirements_error(alloc, second.requirement, first.requirement)
     } else {
-        refused(alloc, first.requirement, second.requirement)
+        requirements_error(alloc, first.requirement, second.requirement)
     }
 }
 
 /// Returns the error for requirements that clash; its message names two of them.
-pub(crate) fn overlap_refused(alloc: Global, sorted: &[&TaggedInterval]) -> Error
+pub(crate) fn overlap_error(alloc: Global, sorted: &[&TaggedInterval]) -> Error
     ensures { IsOfKind ErrorKind.BadParam result }
 {
     match clashing(sorted) {
-        Some((first, second)) => refused(alloc, first, second),
+        Some((first, second)) => requirements_error(alloc, first, second),
         None => Error::bad_param(alloc, "two requirements overlap"),
     }
 }

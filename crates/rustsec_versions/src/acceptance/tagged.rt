@@ -3,12 +3,12 @@
 ghost use Rattle.std.specs.Prelude.{◌≡◌, ◌⊎◌, ◌++◌, ◌∷◌, [], IfErr, IfOk, IsPermutation, OnOk, false, map, true};
 ghost use Rattle.std.specs.List.Sorted.{IsSortedByKey};
 ghost use Rattle.rustsec_error.specs.Failure.{IsRefusal};
-ghost use Rattle.rustsec_versions.specs.ranges.Gaps.{start_order};
+ghost use Rattle.rustsec_versions.specs.ranges.Complement.{start_order};
 ghost use Rattle.rustsec_versions.specs.acceptance.Lists.{accepted, all_admissible};
 ghost use Rattle.rustsec_versions.specs.acceptance.Sweep.{all_tagged, bounds_are_clear, bounds_clash, tagged};
 ghost use Rattle.rustsec_versions.specs.Views.{comparators_of, endpoint_of};
 
-use crate::acceptance::overlaps::clash_refused;
+use crate::acceptance::overlaps::clash_error;
 use crate::interval::{Bound, UnaffectedRange};
 use crate::requirement::requirements::Requirements;
 use rustsec_error::{ErrorKind, Result};
@@ -62,7 +62,7 @@ fn push_tagged<'a>(
     };
     if let Some(last) = intervals.last() {
         if last.clashes(&next) {
-            return Err(clash_refused(alloc, last, &next));
+            return Err(clash_error(alloc, last, &next));
         }
     }
     intervals.push(next).map_err(|_| AllocError)?;

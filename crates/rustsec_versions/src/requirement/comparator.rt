@@ -47,7 +47,7 @@ pub(crate) fn least_of(alloc: Global, major: u64, minor: u64, patch: u64) -> Res
 }
 
 /// Returns the error for a number that is too large for a version.
-fn too_large(alloc: Global) -> Error
+fn too_large_error(alloc: Global) -> Error
     ensures { IsOfKind ErrorKind.BadParam result }
 {
     Error::bad_param(
@@ -61,7 +61,7 @@ fn next_major(alloc: Global, major: u64) -> Result<Version>
     ensures err { IfErr result (IsRefusal ErrorKind.BadParam (next_major major ≡ None)) }
 {
     let Some(next) = major.checked_add(1) else {
-        return Err(too_large(alloc));
+        return Err(too_large_error(alloc));
     };
     least_of(alloc, next, 0, 0)
 }
@@ -71,7 +71,7 @@ fn next_minor(alloc: Global, major: u64, minor: u64) -> Result<Version>
     ensures err { IfErr result (IsRefusal ErrorKind.BadParam (next_minor major minor ≡ None)) }
 {
     let Some(next) = minor.checked_add(1) else {
-        return Err(too_large(alloc));
+        return Err(too_large_error(alloc));
     };
     least_of(alloc, major, next, 0)
 }
@@ -81,7 +81,7 @@ fn next_patch(alloc: Global, major: u64, minor: u64, patch: u64) -> Result<Versi
     ensures err { IfErr result (IsRefusal ErrorKind.BadParam (next_patch major minor patch ≡ None)) }
 {
     let Some(next) = patch.checked_add(1) else {
-        return Err(too_large(alloc));
+        return Err(too_large_error(alloc));
     };
     least_of(alloc, major, minor, next)
 }
@@ -92,7 +92,7 @@ fn caret_end(alloc: Global, c: &Comparator) -> Result<Version>
     ensures err { IfErr result (IsRefusal ErrorKind.BadParam (caret_end c.now.major c.now.minor c.now.patch ≡ None)) }
 {
     match (c.major, c.minor, c.patch) {
-        (_, None, Some(_)) => Err(no_minor(alloc)),
+        (_, None, Some(_)) => Err(no_minor_error(alloc)),
         (0, None, None) => next_major(alloc, 0),
         (0, Some(0), Some(patch)) => next_patch(alloc, 0, 0, patch),
         (0, Some(minor), _) => next_minor(alloc, 0, minor),
@@ -106,13 +106,13 @@ fn tilde_end(alloc: Global, c: &Comparator) -> Result<Version>
     ensures err { IfErr result (IsRefusal ErrorKind.BadParam (tilde_end c.now.major c.now.minor c.now.patch ≡ None)) }
 {
     match (c.minor, c.patch) {
-        (None, Some(_)) => Err(no_minor(alloc)),
+        (None, Some(_)) => Err(no_minor_error(alloc)),
         (None, None) => next_major(alloc, c.major),
         (Some(minor), _) => next_minor(alloc, c.major, minor),
     }
 }
 
-fn no_minor(alloc: Global) -> Error
+fn no_minor_error(alloc: Global) -> Error
     ensures { IsOfKind ErrorKind.BadParam result }
 {
     Error::bad_param(alloc, "a comparator has a patch number but no minor one")

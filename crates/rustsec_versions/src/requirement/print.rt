@@ -7,7 +7,7 @@ ghost use Rattle.rustsec_versions.specs.requirement.RequirementText.{comparator_
 ghost use Rattle.rustsec_versions.specs.Views.{comparators_of};
 
 use crate::interval::Bound;
-use rustsec_error::{Error, Result, refused_at};
+use rustsec_error::{Error, Result, with_place};
 use rustsec_values::beginning_of;
 use semver::{Comparator, Op, Prerelease, Version, VersionReq};
 use std::alloc::{AllocError, Global};
@@ -146,12 +146,12 @@ fn place_of(alloc: Global, req: &VersionReq) -> Result<String>
 }
 
 /// Adds the text of the requirement to the message of an error about it. Out of memory stays as it is.
-pub(crate) fn refused_requirement(alloc: Global, req: &VersionReq, error: &Error) -> Error
+pub(crate) fn with_requirement(alloc: Global, req: &VersionReq, error: &Error) -> Error
     ensures kind { IsOfKind error.now.kind result }
     ensures memory { IsMemory error.now → IsMemory result }
 {
     match place_of(alloc, req) {
-        Ok(place) => refused_at(alloc, place.as_str(), error),
+        Ok(place) => with_place(alloc, place.as_str(), error),
         Err(refused) => refused,
     }
 }

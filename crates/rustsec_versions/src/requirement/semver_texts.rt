@@ -8,7 +8,7 @@ ghost use Rattle.rustsec_error.specs.Failure.{IsOfKind, IsRefusal};
 ghost use Rattle.rustsec_versions.specs.Memory.{is_plain};
 ghost use Rattle.rustsec_versions.specs.Views.{comparators_of};
 
-use rustsec_error::{Error, ErrorKind, Result, refused_for};
+use rustsec_error::{Error, ErrorKind, Result, text_error_with_cause};
 use semver::{Version, VersionReq};
 use std::alloc::{AllocError, Global};
 
@@ -21,7 +21,7 @@ pub fn is_out_of_memory(e: semver::Error) -> bool
 }
 
 /// Returns the error for a text that `semver` refuses: what is wrong with which text, and what was expected.
-fn refused_by(
+fn semver_error(
     alloc: Global,
     wrong: &str,
     text: &str,
@@ -31,7 +31,7 @@ fn refused_by(
     ensures { IsOfKind ErrorKind.Parse result }
 {
     match format!(in alloc; "{reason}") {
-        Ok(why) => refused_for(alloc, wrong, text, expected, &why),
+        Ok(why) => text_error_with_cause(alloc, wrong, text, expected, &why),
         Err(refused) => Error::from(refused),
     }
 }
@@ -51,7 +51,7 @@ pub fn read_version(alloc: Global, text: &str, written: &str) -> Result<Version>
     match Version::parse(alloc, text) {
         Ok(version) => Ok(version),
         Err(e) if is_out_of_memory(e) => Err(Error::from(AllocError)),
-        Err(e) => Err(refused_by(
+        Err(e) => Err(semver_error(
             alloc,
             "malformed version",
             written,
@@ -79,7 +79,7 @@ pub fn read_requirement(alloc: Global, text: &str) -> Result<VersionReq>
             Ok(req)
         }
         Err(e) if is_out_of_memory(e) => Err(Error::from(AllocError)),
-        Err(e) => Err(refused_by(
+        Err(e) => Err(semver_error(
             alloc,
             "not a requirement",
             text,

@@ -2,22 +2,22 @@ use Rattle.std.proofs.Common.{◌∙◌, ap, map, refl, sym}
 use Rattle.std.specs.List.{slice_get}
 use Rattle.rustsec_database.proofs.Places.{found-far, found-more, found-none, found-other, is-false}
 use Rattle.rustsec_database.proofs.database.matching.Goals as goal
-use Rattle.rustsec_database.proofs.database.matching.Goals.{else-is_near, then-is_near+in-Some+then-passes+in_ok-push, then-is_near+in-Some+else-passes, then-is_near+in_default}
+use Rattle.rustsec_database.proofs.database.matching.Goals.{else-is_near, then-is_near+in-Some+then-holds+in_ok-push, then-is_near+in-Some+else-holds, then-is_near+in_default}
 
 pub loop-slot-preserved : goal.loop-slot-preserved
 loop-slot-preserved g c =
-    let test = g.T.Test.passes c.args.test.now in
+    let test = g.T.Predicate.holds c.args.test.now in
     let places = c.args.slots.now in
     let i = c.loop-slot.slot-index in
     let n = c.slot-item.result in
     let xs = c.args.entries.now in
     elim c.if-is_near.branch [
-      | then-is_near+in-Some+then-passes+in_ok-push w ↦ ap (λ v. map (λ a. a.now) v.items) w.found-is ∙ (ap (map (λ a. a.now)) w.in_ok-push.ensures.items
+      | then-is_near+in-Some+then-holds+in_ok-push w ↦ ap (λ v. map (λ a. a.now) v.items) w.found-is ∙ (ap (map (λ a. a.now)) w.in_ok-push.ensures.items
           ∙ found-more test places i n xs c.loop-slot.found.items w.in-Some.advisory c.loop-slot-test.true c.slot-item.is c.loop-slot.invariant
-          w.in-Some.ensures (sym w.passes.ensures ∙ w.if-passes.true))
-      | then-is_near+in-Some+else-passes w ↦ ap (λ v. map (λ a. a.now) v.items) w.found-is
+          w.in-Some.ensures (sym w.holds.ensures ∙ w.if-holds.true))
+      | then-is_near+in-Some+else-holds w ↦ ap (λ v. map (λ a. a.now) v.items) w.found-is
           ∙ found-other test places i n xs c.loop-slot.found.items w.in-Some.advisory.now c.loop-slot-test.true c.slot-item.is c.loop-slot.invariant
-          w.in-Some.ensures (sym w.passes.ensures ∙ w.if-passes.false)
+          w.in-Some.ensures (sym w.holds.ensures ∙ w.if-holds.false)
       | then-is_near+in_default w ↦ ap (λ v. map (λ a. a.now) v.items) w.found-is
           ∙ found-none test places i n xs c.loop-slot.found.items c.loop-slot-test.true c.slot-item.is c.loop-slot.invariant w.in_default.ensures
       | else-is_near w ↦ ap (λ v. map (λ a. a.now) v.items) w.found-is

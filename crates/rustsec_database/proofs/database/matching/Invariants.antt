@@ -5,4 +5,4 @@ use Rattle.rustsec_database.proofs.database.matching.Given as goal
 
 -- the advisories found so far are those in the slots so far that pass the test
 abbrev pub invariant-loop-slot : goal.invariant-loop-slot
-invariant-loop-slot g l = map (λ a. a.now) l.found.items ≡ filter (g.T.Test.passes l.test) (at_places (take l.slot-index l.slots) l.entries)
+invariant-loop-slot g l = map (λ a. a.now) l.found.items ≡ filter (g.T.Predicate.holds l.test) (at_places (take l.slot-index l.slots) l.entries)

@@ -12,13 +12,13 @@ use Rattle.rustsec_database.proofs.keeping.keep_paths.Goals as goal
 pub loop-path-init : goal.loop-path-init
 loop-path-init g c = record {
   same = same-refl _;
-  load = keep-none (g.T.Test.passes c.args.test.now) (g.F.Folders.allowed c.args.folders.now) c.args.paths c.empty.result c.empty.ensures;
+  load = keep-none (g.T.Predicate.holds c.args.test.now) (g.F.Folders.allowed c.args.folders.now) c.args.paths c.empty.result c.empty.ensures;
 }
 
 pub loop-path-preserved : goal.loop-path-preserved
 loop-path-preserved g c = record {
   same = same-trans _ _ _ c.loop-path.invariant.same c.read.ensures.same;
-  load = load-step (IsKeptLoadOf (g.T.Test.passes c.args.test.now)) _ (g.F.Folders.allowed c.loop-path.folders) c.loop-path.yielded c.in-Some.path c.as_str.result.now
+  load = load-step (IsKeptLoadOf (g.T.Predicate.holds c.args.test.now)) _ (g.F.Folders.allowed c.loop-path.folders) c.loop-path.yielded c.in-Some.path c.as_str.result.now
       c.as_str-in-loop-path.result.now c.as_str-in-loop-path-2.result.now c.in_ok-text.text c.loop-path.loaded c.keep_next-loaded.result
       c.loop-path.invariant.same c.as_str.ensures c.as_str-in-loop-path.ensures c.as_str-in-loop-path-2.ensures
       c.loop-path.invariant.load c.in_ok-text.ensures.ok c.keep_next-loaded.ensures;
@@ -40,12 +40,12 @@ pub returns-clause-ok : goal.returns-clause-ok
 returns-clause-ok g c =
     let whole = YieldsList-from_vec {s = c.into_iter-path-iterator.result} c.args.paths (search rules) (search rules) in
     let all = (YieldsList-end whole c.loop-path.yielded c.loop-path.path-iterator c.loop-path.yielded_by c.next.result c.next.new.self c.in-None.is c.next.ensures.steps).0 in
-    kept-paths (g.T.Test.passes c.args.test.now) (g.F.Folders.allowed c.args.folders.now) _ c.args.paths c.loop-path.loaded
+    kept-paths (g.T.Predicate.holds c.args.test.now) (g.F.Folders.allowed c.args.folders.now) _ c.args.paths c.loop-path.loaded
     (sym (map-id c.loop-path.yielded) ∙ all) c.loop-path.invariant.load
 
 pub returns-clause-err : goal.returns-clause-err
 returns-clause-err g c =
     let whole = YieldsList-from_vec {s = c.into_iter-path-iterator.result} c.args.paths (search rules) (search rules) in
     let all = (YieldsList-end whole c.loop-path.yielded c.loop-path.path-iterator c.loop-path.yielded_by c.next.result c.next.new.self c.in-None.is c.next.ensures.steps).0 in
-    kept-refused (g.T.Test.passes c.args.test.now) (g.F.Folders.allowed c.args.folders.now) _ c.args.paths c.loop-path.loaded
+    kept-refused (g.T.Predicate.holds c.args.test.now) (g.F.Folders.allowed c.args.folders.now) _ c.args.paths c.loop-path.loaded
     (sym (map-id c.loop-path.yielded) ∙ all) c.loop-path.invariant.load

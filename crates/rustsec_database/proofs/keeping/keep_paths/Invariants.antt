@@ -10,5 +10,5 @@ abbrev pub invariant-loop-path : goal.invariant-loop-path
 invariant-loop-path g l = record {
   same : AllowSame (g.F.Folders.allowed l.fn.folders) (g.F.Folders.allowed l.folders);
   load : (files : List SourceFile) × (Pairwise (IsFile (g.F.Folders.allowed l.fn.folders)) l.yielded files
-      × IsKeptLoadOf (g.T.Test.passes l.test) files l.loaded);
+      × IsKeptLoadOf (g.T.Predicate.holds l.test) files l.loaded);
 }

@@ -32,4 +32,4 @@ returns-clause-err c =
       | else-has_eight_parts w ↦
           base_of_other c.args.minor_version c.args.text.now (sym c.has_eight_parts.ensures ∙ w.if-has_eight_parts.false)
     ] in
-    refusal _ c.refused_text.result none c.refused_text.ensures.kind
+    refusal _ c.text_error.result none c.text_error.ensures.kind

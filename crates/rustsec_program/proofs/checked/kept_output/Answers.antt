@@ -6,8 +6,8 @@ use Rattle.rustsec_program.proofs.checked.kept_output.Goals as goal
 
 pub returns-then-is_empty-clause-err : goal.returns-then-is_empty-clause-err
 returns-then-is_empty-clause-err c = λ all kept.
-    kept-empty c.args.plan.now c.of_kept-dated.result c.args.kept.now c.args.loaded.now c.of_kept-dated.ensures all kept c.empty.result
-    (refusal _ c.empty.result (sym c.is_empty.ensures ∙ c.if-is_empty.true) c.empty.ensures)
+    kept-empty c.args.plan.now c.of_kept-dated.result c.args.kept.now c.args.loaded.now c.of_kept-dated.ensures all kept c.empty_error.result
+    (refusal _ c.empty_error.result (sym c.is_empty.ensures ∙ c.if-is_empty.true) c.empty_error.ensures)
 
 pub returns-in_err-found-clause-err : goal.returns-in_err-found-clause-err
 returns-in_err-found-clause-err c =

@@ -4,4 +4,4 @@ use Rattle.rustsec_program.proofs.many.answer.Goals as goal
 
 pub returns-in-Err-clause-ok : goal.returns-in-Err-clause-ok
 returns-in-Err-clause-ok g c =
-    IfOk-weaker c.refused.result _ _ (λ o h. refused c.in-Err.error c.in-Err.ensures.err h.0 h.1) c.refused.ensures
+    IfOk-weaker c.refused_output.result _ _ (λ o h. refused c.in-Err.error c.in-Err.ensures.err h.0 h.1) c.refused_output.ensures

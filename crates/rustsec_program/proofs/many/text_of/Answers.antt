@@ -15,4 +15,4 @@ pub returns-in-Ok-clause-ok : goal.returns-in-Ok-clause-ok
 returns-in-Ok-clause-ok c = (c.in-Ok.ensures.cases.0, is_utf8-from_IsUtf8 _ c.in-Ok.ensures.cases.1)
 
 pub returns-in-Err-clause-err : goal.returns-in-Err-clause-err
-returns-in-Err-clause-err c = refusal _ c.not_utf8.result (is-not _ c.in-Err.ensures.cases.0) c.not_utf8.ensures
+returns-in-Err-clause-err c = refusal _ c.not_utf8_error.result (is-not _ c.in-Err.ensures.cases.0) c.not_utf8_error.ensures

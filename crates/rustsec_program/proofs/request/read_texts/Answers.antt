@@ -13,7 +13,7 @@ returns-in-Err-clause-err g c =
     let i = c.loop-text.text-index in
     let there = get_or_default texts i no_word (get_or texts i no_word) c.loop-text-test.true in
     refused-there _ (λ none. read_map-stop (λ t. t.now) g.T.FromText.reads texts i (get_or texts i no_word) c.loop-text-test.true there none)
-    c.in-Err.ensures.err c.refused_at.ensures.kind c.refused_at.ensures.memory
+    c.in-Err.ensures.err c.with_place.ensures.kind c.with_place.ensures.memory
 
 pub loop-text-preserved : goal.loop-text-preserved
 loop-text-preserved g c =

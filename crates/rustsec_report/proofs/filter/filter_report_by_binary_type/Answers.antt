@@ -1,6 +1,6 @@
 use Rattle.std.proofs.Common.{rules}
 use Rattle.rustsec_report.specs.Filter.{filtered}
-use Rattle.rustsec_report.proofs.Again.{again-from}
+use Rattle.rustsec_report.proofs.RoundTrip.{again-from}
 use Rattle.rustsec_report.proofs.filter.filter_report_by_binary_type.Goals as goal
 
 pub returns-clause-value : goal.returns-clause-value

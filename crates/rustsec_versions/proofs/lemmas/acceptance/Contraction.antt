@@ -10,7 +10,7 @@ use Rattle.rustsec_versions.specs.acceptance.Merged.{AreMerged, IsJoined, IsMerg
 use Rattle.rustsec_versions.specs.order.Precedence.{precedence}
 use Rattle.rustsec_versions.specs.acceptance.Sweep.{later_end, stretched}
 use Rattle.rustsec_versions.proofs.lemmas.interval.Bounds.{start_le-after, start_le-reaches, start_le-self, start_le-trans, end_le-before, end_le-reaches, end_le-self, end_le-total, end_le-trans, later-first, later-is, later-second, reaches-start_le}
-use Rattle.rustsec_versions.proofs.lemmas.ranges.Chain.{AllAdmissible}
+use Rattle.rustsec_versions.proofs.lemmas.ranges.Adjacent.{AllAdmissible}
 use Rattle.rustsec_versions.proofs.lemmas.acceptance.Clashes.{overlap-sym}
 use Rattle.rustsec_versions.proofs.lemmas.ranges.Complement.{ordered}
 use Rattle.rustsec_versions.proofs.lemmas.lists.Contained.{contains-cases, contains-here, contains-nil, contains-there}

@@ -10,7 +10,7 @@ use Rattle.rustsec_versions.specs.ranges.Ranges.{whole}
 use Rattle.rustsec_versions.specs.requirement.Requirement.{is_admissible, end_cut_exists, start_cut_exists}
 use Rattle.rustsec_versions.proofs.lemmas.ranges.AreRanges.{AreFit}
 use Rattle.rustsec_versions.proofs.lemmas.interval.Bounds.{end_le-reaches}
-use Rattle.rustsec_versions.proofs.lemmas.ranges.Chain.{AllAdmissible}
+use Rattle.rustsec_versions.proofs.lemmas.ranges.Adjacent.{AllAdmissible}
 use Rattle.rustsec_versions.proofs.lemmas.acceptance.Clashes.{AllSound}
 use Rattle.rustsec_versions.proofs.lemmas.lists.Contained.{any-contained, contains-cases, contains-here, contains-nil, contains-there}
 use Rattle.rustsec_versions.proofs.lemmas.requirement.Sound.{IsSoundEnd, IsSoundInterval, admissible-end, admissible-reaches, admissible-start, and-first}

@@ -4,7 +4,7 @@ use Rattle.std.specs.List.{list_any}
 use Rattle.std.proofs.lemmas.Bool.{cases_Bool}
 use Rattle.rustsec_versions.specs.interval.Interval.{Interval, overlap, reaches}
 use Rattle.rustsec_versions.specs.order.Precedence.{precedence}
-use Rattle.rustsec_versions.proofs.lemmas.ranges.Chain.{AllAdmissible, StartsRise, earlier-reaches}
+use Rattle.rustsec_versions.proofs.lemmas.ranges.Adjacent.{AllAdmissible, StartsRise, earlier-reaches}
 use Rattle.rustsec_versions.proofs.lemmas.acceptance.Clashes.{AllSound}
 use Rattle.rustsec_versions.proofs.lemmas.requirement.Sound.{admissible-reaches}
 

@@ -10,7 +10,7 @@ use Rattle.rustsec_versions.specs.order.Precedence.{precedence}
 use Rattle.rustsec_versions.specs.ranges.Ranges.{AreRanges, Range}
 use Rattle.rustsec_versions.proofs.lemmas.ranges.AreRanges.{admissible_shuffled, sound_shuffled}
 use Rattle.rustsec_versions.proofs.lemmas.interval.Bounds.{start_le-same, end_le-same}
-use Rattle.rustsec_versions.proofs.lemmas.ranges.Chain.{AllAdmissible}
+use Rattle.rustsec_versions.proofs.lemmas.ranges.Adjacent.{AllAdmissible}
 use Rattle.rustsec_versions.proofs.lemmas.acceptance.Clashes.{AllSound}
 use Rattle.rustsec_versions.proofs.lemmas.lists.Contained.{any-contained, contains-cases, contains-here, contains-nil, contains-there}
 use Rattle.rustsec_versions.proofs.lemmas.acceptance.MergedFit.{interval-same, merged-fit, merged-sound}

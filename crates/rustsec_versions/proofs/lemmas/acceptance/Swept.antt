@@ -9,7 +9,7 @@ use Rattle.std.specs.declared.cmp.Ordering.{Ordering}
 use Rattle.std.specs.declared.cmp.Ordering.TheVariants.{Less, Equal, Greater}
 use Rattle.std.proofs.lemmas.Bool.{cases_Bool}
 use Rattle.semver.specs.Parse.{Parts}
-use Rattle.rustsec_versions.specs.ranges.Gaps.{start_order, start_order_total}
+use Rattle.rustsec_versions.specs.ranges.Complement.{start_order, start_order_total}
 use Rattle.rustsec_versions.specs.interval.Interval.{Endpoint, Interval, holds, overlap, reaches}
 use Rattle.rustsec_versions.specs.acceptance.Merged.{AreMerged, start_le, end_le}
 use Rattle.rustsec_versions.specs.order.Precedence.{precedence, version_order}
@@ -17,7 +17,7 @@ use Rattle.rustsec_versions.specs.requirement.Requirement.{is_admissible, end_cu
 use Rattle.rustsec_versions.specs.acceptance.Sweep.{TaggedInterval, all_swept, are_clear, clashes, later_end, spans, stretched, stretched_tag, swept}
 use Rattle.rustsec_versions.proofs.lemmas.ranges.AreRanges.{AreFit}
 use Rattle.rustsec_versions.proofs.lemmas.interval.Bounds.{end_le-reaches, later-first, rises-start_le}
-use Rattle.rustsec_versions.proofs.lemmas.ranges.Chain.{AllAdmissible, StartsRise}
+use Rattle.rustsec_versions.proofs.lemmas.ranges.Adjacent.{AllAdmissible, StartsRise}
 use Rattle.rustsec_versions.proofs.lemmas.acceptance.Clashes.{AllSound, none-clash}
 use Rattle.rustsec_versions.proofs.lemmas.acceptance.Contraction.{contract, extend, nothing, stretched-holds, stretched-overlap}
 use Rattle.rustsec_versions.proofs.lemmas.acceptance.Neighbours.{beyond, over-before}

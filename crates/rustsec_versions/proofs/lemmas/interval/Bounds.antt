@@ -3,12 +3,12 @@ use Rattle.std.proofs.Common.{◌≡◌, ◌⊎◌, true, false, refl, sym, ap, 
 use Rattle.std.specs.Ordering.{is_lt}
 use Rattle.std.proofs.lemmas.Bool.{cases_Bool}
 use Rattle.semver.specs.Parse.{Parts}
-use Rattle.rustsec_versions.specs.ranges.Gaps.{start_order}
+use Rattle.rustsec_versions.specs.ranges.Complement.{start_order}
 use Rattle.rustsec_versions.specs.interval.Interval.{Endpoint, exclusive, inclusive, is_after, is_before, reaches, unbounded}
 use Rattle.rustsec_versions.specs.acceptance.Merged.{start_le, end_le}
 use Rattle.rustsec_versions.specs.order.Precedence.{is_at_most, precedence}
 use Rattle.rustsec_versions.specs.acceptance.Sweep.{later_end}
-use Rattle.rustsec_versions.proofs.lemmas.ranges.Chain.{earlier-reaches}
+use Rattle.rustsec_versions.proofs.lemmas.ranges.Adjacent.{earlier-reaches}
 use Rattle.rustsec_versions.proofs.lemmas.order.PrecedenceLaws.{at_most-below, at_most-not_below, at_most-trans, below-at_most, below-not_at_most, below-weak, not_at_most, not_below}
 use Rattle.rustsec_versions.proofs.lemmas.requirement.Sound.{IsSoundEnd}
 use Rattle.rustsec_versions.proofs.lemmas.ranges.Unique.{at_most-same}

@@ -6,8 +6,8 @@ use Rattle.semver.specs.Parse.{Parts}
 use Rattle.rustsec_versions.specs.interval.Interval.{Endpoint, Interval, exclusive, holds, inclusive, is_after, is_before, unbounded}
 use Rattle.rustsec_versions.specs.order.Precedence.{IsVersion, is_at_most, is_below}
 use Rattle.rustsec_versions.specs.requirement.Requirement.{end_cut_exists, start_cut_exists}
-use Rattle.rustsec_versions.specs.ranges.Ranges.{in_range, is_from, is_till, lower_cut, upper_cut}
-use Rattle.rustsec_versions.specs.ranges.Gaps.{cut}
+use Rattle.rustsec_versions.specs.ranges.Ranges.{in_range, is_from, is_until, lower_cut, upper_cut}
+use Rattle.rustsec_versions.specs.ranges.Complement.{cut}
 use Rattle.rustsec_versions.specs.order.Successor.{IsLeastAbove}
 use Rattle.rustsec_versions.proofs.lemmas.order.LeastAbove.{successor-least, successor-there}
 use Rattle.rustsec_versions.proofs.lemmas.order.PrecedenceLaws.{at_most-below, at_most-not_below, below-at_most, not_at_most}
@@ -31,7 +31,7 @@ start-cut (exclusive s) v h valid =
     let t = successor-there s h in
     rw t.1 (least-from s t.0 v (successor-least s t.0 t.1) valid)
 
-pub end-cut : (e : Endpoint) (v : Parts) → end_cut_exists e ≡ true → IsVersion v → is_before e v ≡ is_till (upper_cut e) v
+pub end-cut : (e : Endpoint) (v : Parts) → end_cut_exists e ≡ true → IsVersion v → is_before e v ≡ is_until (upper_cut e) v
 end-cut unbounded v h valid = refl
 end-cut (exclusive e) v h valid = refl
 end-cut (inclusive e) v h valid =

@@ -8,8 +8,8 @@ use Rattle.std.proofs.lemmas.Bool.{cases_Bool}
 use Rattle.std.proofs.lemmas.List.Elements.{Contains-append_right}
 use Rattle.std.proofs.lemmas.List.Sorted.{Contains-permutation, IsPermutation-append, IsPermutation-map, IsPermutation-refl, IsPermutation-sym, list_any-IsPermutation}
 use Rattle.semver.specs.Parse.{Held, Parts}
-use Rattle.rustsec_versions.specs.ranges.Between.{AreGapsOf, gaps_between}
-use Rattle.rustsec_versions.specs.ranges.Gaps.{cut, gaps_from, start_order}
+use Rattle.rustsec_versions.specs.ranges.Between.{IsComplementOf, complement_between}
+use Rattle.rustsec_versions.specs.ranges.Complement.{cut, complement_from, start_order}
 use Rattle.rustsec_versions.specs.interval.Interval.{Endpoint, Interval, exclusive, holds, inclusive, overlap, unbounded}
 use Rattle.rustsec_versions.specs.acceptance.Lists.{Lists, accepted, accepted_apart, affected, all_admissible, intervals}
 use Rattle.rustsec_versions.specs.acceptance.Merged.{AreMerged, IsJoined}
@@ -18,17 +18,17 @@ use Rattle.rustsec_versions.specs.ranges.Ranges.{AreRanges, HasCuts, Range, Same
 use Rattle.rustsec_versions.specs.requirement.Requirement.{interval_of, is_admissible, end_cut_exists, start_cut_exists}
 use Rattle.rustsec_versions.specs.ranges.AcceptedRanges.{AreMergedRanges, AreRangesOf, HasUnboundedInterval}
 use Rattle.rustsec_versions.specs.acceptance.Sweep.{TaggedInterval, all_swept, are_clear, tag, tagged, all_tagged, spans}
-use Rattle.rustsec_versions.proofs.lemmas.ranges.AreRanges.{AreRanges-IsPermutation, admissible_shuffled, gaps-AreRanges, sound_shuffled}
-use Rattle.rustsec_versions.proofs.lemmas.ranges.Chain.{AllAdmissible, StartsRise}
+use Rattle.rustsec_versions.proofs.lemmas.ranges.AreRanges.{AreRanges-IsPermutation, admissible_shuffled, complement-AreRanges, sound_shuffled}
+use Rattle.rustsec_versions.proofs.lemmas.ranges.Adjacent.{AllAdmissible, StartsRise}
 use Rattle.rustsec_versions.proofs.lemmas.acceptance.Clashes.{AllSound, accepted-all, accepted-clear, accepted-refused, apart-intervals, intervals-sound, spans-all_tagged}
 use Rattle.rustsec_versions.proofs.lemmas.acceptance.Clear.{clear-alone, clear_shuffled}
-use Rattle.rustsec_versions.proofs.lemmas.ranges.Complement.{AllFit, IsRow, fit-held, fit-valid, from-nothing, gaps-cut, gaps-fit, gaps-hold, gaps-in_turn, row}
+use Rattle.rustsec_versions.proofs.lemmas.ranges.Complement.{AllFit, IsRow, fit-held, fit-valid, from-nothing, complement-cut, complement-fit, complement-hold, complement-in_turn, row}
 use Rattle.rustsec_versions.proofs.lemmas.lists.Contained.{contains-from_map, contains-here, contains-map}
 use Rattle.rustsec_versions.proofs.lemmas.acceptance.Contraction.{apart-merged}
 use Rattle.rustsec_versions.proofs.lemmas.order.LeastAbove.{successor-there}
 use Rattle.rustsec_versions.proofs.lemmas.acceptance.MergedFit.{joined-alone, merged-fit, merged-whole}
 use Rattle.rustsec_versions.proofs.lemmas.acceptance.OneMerge.{merged-one, merged-permutation, merged-ranges-one}
-use Rattle.rustsec_versions.proofs.lemmas.ranges.OwnOrder.{all-affect, cuts-plain, gaps-plain}
+use Rattle.rustsec_versions.proofs.lemmas.ranges.OwnOrder.{all-affect, cuts-plain, complement-plain}
 use Rattle.rustsec_versions.proofs.lemmas.ranges.RangeEnds.{list_all-IsPermutation}
 use Rattle.rustsec_versions.proofs.lemmas.lists.Shuffled.{IsPermutation-filter_map, shuffled}
 use Rattle.rustsec_versions.proofs.lemmas.requirement.Sound.{admissible-end, admissible-start, interval_of-admissible}
@@ -102,41 +102,41 @@ module _ (ls : Lists) (all : all_admissible (ls.patched ++ ls.unaffected) ≡ tr
     walk-row : IsRow (spans ms)
     walk-row = row _ walk-swept.fit.sound walk-swept.fit.admissible walk-swept.rise walk-swept.fit.apart
 
-    walk-all_fit : AllFit (gaps_between unbounded (spans ms))
-    walk-all_fit = gaps-fit unbounded _ tt refl walk-swept.fit.sound walk-swept.fit.admissible
+    walk-all_fit : AllFit (complement_between unbounded (spans ms))
+    walk-all_fit = complement-fit unbounded _ tt refl walk-swept.fit.sound walk-swept.fit.admissible
 
-    walk-decide : (v : Parts) → list_any (λ g. holds g v) (gaps_between unbounded (spans ms)) ≡ affected ls v
+    walk-decide : (v : Parts) → list_any (λ g. holds g v) (complement_between unbounded (spans ms)) ≡ affected ls v
     unfolding affected
     walk-decide v =
-        gaps-hold unbounded _ v (from-nothing (spans ms)) walk-row
+        complement-hold unbounded _ v (from-nothing (spans ms)) walk-row
         ∙ ap not (walk-swept.held v ∙ sym (list_any-IsPermutation (λ i. holds i v) (intervals ls) _ spans-same))
 
-    walk-cut : map cut (gaps_between unbounded (spans ms)) ≡ gaps_from None (map cut (spans ms))
-    walk-cut = gaps-cut unbounded _ walk-swept.fit.admissible
+    walk-cut : map cut (complement_between unbounded (spans ms)) ≡ complement_from None (map cut (spans ms))
+    walk-cut = complement-cut unbounded _ walk-swept.fit.admissible
 
-    walk-agree : (w : Parts) → IsVersion w → in_ranges (map cut (gaps_between unbounded (spans ms))) w ≡ affected ls w
+    walk-agree : (w : Parts) → IsVersion w → in_ranges (map cut (complement_between unbounded (spans ms))) w ≡ affected ls w
     walk-agree w valid = fit-held _ w walk-all_fit valid ∙ walk-decide w
 
-    walk-affects : (w : Parts) → IsVersion w → list_any (λ r. affects r w) (map cut (gaps_between unbounded (spans ms))) ≡ affected ls w
+    walk-affects : (w : Parts) → IsVersion w → list_any (λ r. affects r w) (map cut (complement_between unbounded (spans ms))) ≡ affected ls w
     walk-affects w valid =
-        let plain = gaps-plain None (map cut (spans ms)) tt (cuts-plain (spans ms) walk-swept.fit.sound) in
+        let plain = complement-plain None (map cut (spans ms)) tt (cuts-plain (spans ms) walk-swept.fit.sound) in
         all-affect _ w (rw walk-cut plain) ∙ walk-agree w valid
 
-    pub walk-AreGapsOf : AreGapsOf ls (gaps_between unbounded (spans ms))
-    walk-AreGapsOf = record {
+    pub walk-IsComplementOf : IsComplementOf ls (complement_between unbounded (spans ms))
+    walk-IsComplementOf = record {
       ranges = record {
         ranges = record {
           accepts = same-clear ∙ walk-swept.clear;
           merged = spans ms;
           are_merged = walk-merged;
-          ranges = rw walk-cut (gaps-AreRanges (spans ms) (spans ms) (IsPermutation-refl (spans ms)) walk-swept.fit walk-swept.rise);
+          ranges = rw walk-cut (complement-AreRanges (spans ms) (spans ms) (IsPermutation-refl (spans ms)) walk-swept.fit walk-swept.rise);
         };
         agree = walk-agree;
         agree_affects = walk-affects;
       };
       decide = walk-decide;
       valid = fit-valid _ walk-all_fit;
-      in_turn = gaps-in_turn _ walk-row;
+      in_turn = complement-in_turn _ walk-row;
     }
 
   -- the sweep finds no two that clash exactly if the lists are accepted
@@ -230,6 +230,6 @@ pub all-cuts : (ls : Lists) (ms : List Interval) → AreMerged (intervals ls) ms
 all-cuts ls ms m k d h = admissible-cuts ms (merged-fit (intervals ls) ms (own-sound ls) (own-admissible ls) m).admissible k d h
 
 -- where there is a gap, no merged interval is unbounded on both sides
-pub some_gap : (ls : Lists) (gs : List Interval) → AreGapsOf ls gs → 0 < length gs → ¬ HasUnboundedInterval ls
+pub some_gap : (ls : Lists) (gs : List Interval) → IsComplementOf ls gs → 0 < length gs → ¬ HasUnboundedInterval ls
 some_gap ls [] kept some whole = absurd (omega (arith, some))
 some_gap ls (g ∷ gs) kept some whole = absurd (cc ((kept-empty ls (map cut (g ∷ gs)) kept.ranges).1 whole))

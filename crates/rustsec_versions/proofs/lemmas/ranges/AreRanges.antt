@@ -5,14 +5,14 @@ use Rattle.std.specs.List.{list_any}
 use Rattle.std.proofs.Math.ListN.{length-map}
 use Rattle.std.proofs.lemmas.List.Sorted.{IsPermutation-sym, IsPermutation-trans, length_permutation, list_any-IsPermutation}
 use Rattle.rustsec_versions.specs.interval.Apart.{are_apart}
-use Rattle.rustsec_versions.specs.ranges.Gaps.{cut, gaps_from}
+use Rattle.rustsec_versions.specs.ranges.Complement.{cut, complement_from}
 use Rattle.rustsec_versions.specs.interval.Interval.{Interval, overlap}
 use Rattle.rustsec_versions.specs.order.Precedence.{precedence}
 use Rattle.rustsec_versions.specs.ranges.Ranges.{AreRanges, Range, has_bound, lower_cut, lower_cuts, upper_cut, upper_cuts, whole}
-use Rattle.rustsec_versions.proofs.lemmas.ranges.Chain.{AllAdmissible, IsChain, StartsRise, chain}
+use Rattle.rustsec_versions.proofs.lemmas.ranges.Adjacent.{AllAdmissible, IsChain, StartsRise, chain}
 use Rattle.rustsec_versions.proofs.lemmas.acceptance.Clashes.{AllSound, overlap-sym}
-use Rattle.rustsec_versions.proofs.lemmas.ranges.RangeEnds.{all-ends, all-starts, gaps-first_introduction, gaps-last_fix, gaps-none, gaps-whole, list_all-IsPermutation, one-IsPermutation}
-use Rattle.rustsec_versions.proofs.lemmas.ranges.RangeList.{chain-begins, chain-ends, cuts-fixed, cuts-introduced, followed-from, gaps-fixed, gaps-followed, gaps-in_order, gaps-introduced, gaps-length}
+use Rattle.rustsec_versions.proofs.lemmas.ranges.RangeEnds.{all-ends, all-starts, complement-first_introduction, complement-last_fix, complement-none, complement-whole, list_all-IsPermutation, one-IsPermutation}
+use Rattle.rustsec_versions.proofs.lemmas.ranges.RangeList.{chain-begins, chain-ends, cuts-fixed, cuts-introduced, followed-from, complement-fixed, complement-followed, complement-in_order, complement-introduced, complement-length}
 use Rattle.rustsec_versions.proofs.lemmas.order.Rising.{IsSorted-from}
 use Rattle.rustsec_versions.proofs.lemmas.lists.Shuffled.{IsPermutation-filter_map, Shuffled, both, keep, permuted, same, shuffled, turn}
 
@@ -62,28 +62,28 @@ fit-IsPermutation is js p f =
 pub fit-chain : (js : List Interval) → AreFit js → StartsRise js → IsChain (map cut js)
 fit-chain js f sorted = chain js f.sound f.admissible sorted f.apart
 
-pub gaps-AreRanges : (is js : List Interval) → IsPermutation is js → AreFit is → StartsRise js
-    → AreRanges is (gaps_from None (map cut js))
-gaps-AreRanges is js p f sorted =
+pub complement-AreRanges : (is js : List Interval) → IsPermutation is js → AreFit is → StartsRise js
+    → AreRanges is (complement_from None (map cut js))
+complement-AreRanges is js p f sorted =
     let fit = fit-IsPermutation is js p f in
     let c = fit-chain js fit sorted in
-    let rs = gaps_from None (map cut js) in
-    let fixes : filter_map (λ r. r.fixed) rs ≡ lower_cuts js = gaps-fixed None (map cut js) c ∙ cuts-introduced js in
-    let introductions : filter_map (λ r. r.introduced) rs ≡ upper_cuts js = gaps-introduced None (map cut js) tt c ∙ cuts-fixed js in
+    let rs = complement_from None (map cut js) in
+    let fixes : filter_map (λ r. r.fixed) rs ≡ lower_cuts js = complement-fixed None (map cut js) c ∙ cuts-introduced js in
+    let introductions : filter_map (λ r. r.introduced) rs ≡ upper_cuts js = complement-introduced None (map cut js) tt c ∙ cuts-fixed js in
     record {
       fixed = rw fixes (IsPermutation-filter_map (λ i. lower_cut i.start) is js p);
-      fixed_rise = rw (gaps-fixed None (map cut js) c) (IsSorted-from _ (chain-begins (map cut js) c));
+      fixed_rise = rw (complement-fixed None (map cut js) c) (IsSorted-from _ (chain-begins (map cut js) c));
       introduced = rw introductions (IsPermutation-filter_map (λ i. upper_cut i.end) is js p);
-      introduced_rise = rw (gaps-introduced None (map cut js) tt c) (IsSorted-from _ (chain-ends (map cut js) c));
-      in_order = gaps-in_order None (map cut js) tt c;
-      followed = followed-from rs (gaps-followed None (map cut js) tt c);
+      introduced_rise = rw (complement-introduced None (map cut js) tt c) (IsSorted-from _ (chain-ends (map cut js) c));
+      in_order = complement-in_order None (map cut js) tt c;
+      followed = followed-from rs (complement-followed None (map cut js) tt c);
       first = λ r rest e.
-          gaps-first_introduction (map cut js) c r rest e ∙ all-starts js fit.admissible ∙ sym (list_all-IsPermutation (λ i. has_bound i.start) is js p);
-      last = λ r front e. gaps-last_fix None (map cut js) c r front e ∙ all-ends js fit.admissible ∙ sym (list_all-IsPermutation (λ i. has_bound i.end) is js p);
-      bound = omega (arith, gaps-length None (map cut js), length-map js cut, length_permutation is js p);
+          complement-first_introduction (map cut js) c r rest e ∙ all-starts js fit.admissible ∙ sym (list_all-IsPermutation (λ i. has_bound i.start) is js p);
+      last = λ r front e. complement-last_fix None (map cut js) c r front e ∙ all-ends js fit.admissible ∙ sym (list_all-IsPermutation (λ i. has_bound i.end) is js p);
+      bound = omega (arith, complement-length None (map cut js), length-map js cut, length_permutation is js p);
       empty = (
-        λ e. one-IsPermutation whole is (IsPermutation-sym is _ (let none = gaps-none js fit.admissible c e in rw none at p)),
-        λ e. let one = one-IsPermutation whole js (rw e at p) in rw one gaps-whole,
+        λ e. one-IsPermutation whole is (IsPermutation-sym is _ (let none = complement-none js fit.admissible c e in rw none at p)),
+        λ e. let one = one-IsPermutation whole js (rw e at p) in rw one complement-whole,
       );
     }
 

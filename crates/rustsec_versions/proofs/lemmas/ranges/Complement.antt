@@ -6,13 +6,13 @@ use Rattle.std.specs.List.{AllAdjacentBelow, list_any}
 use Rattle.std.specs.Ordering.{is_lt}
 use Rattle.semver.specs.Parse.{Parts}
 use Rattle.rustsec_versions.specs.interval.Apart.{are_apart}
-use Rattle.rustsec_versions.specs.ranges.Between.{AreInTurn, gap_to, gaps_after, gaps_between, opposite_bound}
-use Rattle.rustsec_versions.specs.ranges.Gaps.{HasValidBounds, IsValidBound, cut, gap_before, gaps_beyond, gaps_from, start_order}
+use Rattle.rustsec_versions.specs.ranges.Between.{AreInTurn, gap_to, complement_after, complement_between, opposite_bound}
+use Rattle.rustsec_versions.specs.ranges.Complement.{HasValidBounds, IsValidBound, cut, gap_before, complement_beyond, complement_from, start_order}
 use Rattle.rustsec_versions.specs.interval.Interval.{Endpoint, Interval, exclusive, holds, inclusive, is_after, is_before, overlap, reaches, unbounded}
 use Rattle.rustsec_versions.specs.order.Precedence.{IsVersion, precedence}
 use Rattle.rustsec_versions.specs.ranges.Ranges.{Range, in_ranges, lower_cut, upper_cut}
 use Rattle.rustsec_versions.specs.requirement.Requirement.{is_admissible, end_cut_exists, start_cut_exists}
-use Rattle.rustsec_versions.proofs.lemmas.ranges.Chain.{AllAdmissible, StartsRise, earlier-reaches, not-or-first}
+use Rattle.rustsec_versions.proofs.lemmas.ranges.Adjacent.{AllAdmissible, StartsRise, earlier-reaches, not-or-first}
 use Rattle.rustsec_versions.proofs.lemmas.acceptance.Clashes.{AllSound}
 use Rattle.rustsec_versions.proofs.lemmas.interval.Cuts.{holds-cut}
 use Rattle.rustsec_versions.proofs.lemmas.order.LeastAbove.{successor-there}
@@ -112,7 +112,7 @@ to-held from (exclusive s) rest v =
 to-held from (inclusive s) rest v = ap (λ (b : Bool). (is_after from v && b) || list_any (λ g. holds g v) rest) (below-not v s)
 
 after-held : (e : Endpoint) (rest : List Interval) (v : Parts) (x : Bool) → list_any (λ g. holds g v) rest ≡ (is_after (opposite_bound e) v && not x)
-    → list_any (λ g. holds g v) (gaps_after e rest) ≡ (not (is_before e v) && not x)
+    → list_any (λ g. holds g v) (complement_after e rest) ≡ (not (is_before e v) && not x)
 after-held unbounded rest v x h = refl
 after-held (exclusive e) rest v x h = h ∙ ap (λ (b : Bool). b && not x) (double _ _ (below-not v e))
 after-held (inclusive e) rest v x h = h ∙ ap (λ (b : Bool). b && not x) (below-not e v)
@@ -136,15 +136,15 @@ last true = refl
 last false = refl
 
 -- the gaps hold what no interval holds, valid versions or not
-pub gaps-hold : (from : Endpoint) (is : List Interval) (v : Parts) → BeginsFrom from is → IsRow is
-    → list_any (λ g. holds g v) (gaps_between from is) ≡ (is_after from v && not (list_any (λ i. holds i v) is))
-unfolding gaps_between
-gaps-hold from [] v s r = last (is_after from v)
-gaps-hold from (i ∷ is) v s r =
-    let rest = gaps-hold (opposite_bound i.end) is v (begins-past-end i.end is r.1) r.2 in
+pub complement-hold : (from : Endpoint) (is : List Interval) (v : Parts) → BeginsFrom from is → IsRow is
+    → list_any (λ g. holds g v) (complement_between from is) ≡ (is_after from v && not (list_any (λ i. holds i v) is))
+unfolding complement_between
+complement-hold from [] v s r = last (is_after from v)
+complement-hold from (i ∷ is) v s r =
+    let rest = complement-hold (opposite_bound i.end) is v (begins-past-end i.end is r.1) r.2 in
     let later = list_any (λ j. holds j v) is in
-    to-held from i.start (gaps_after i.end (gaps_between (opposite_bound i.end) is)) v
-    ∙ ap (λ (b : Bool). (is_after from v && not (is_after i.start v)) || b) (after-held i.end (gaps_between (opposite_bound i.end) is) v later rest)
+    to-held from i.start (complement_after i.end (complement_between (opposite_bound i.end) is)) v
+    ∙ ap (λ (b : Bool). (is_after from v && not (is_after i.start v)) || b) (after-held i.end (complement_between (opposite_bound i.end) is) v later rest)
     ∙ round (is_after from v) (is_after i.start v) (is_before i.end v) later (s v) (r.0 v) (none-later i.end is v r.1 r.2)
 
 -- ---- the gaps follow one another
@@ -172,7 +172,7 @@ is-past-end (exclusive e) v h b = at_most-not_below e v h
 is-past-end (inclusive e) v h b = below-not_at_most e v h
 
 leads-to : (from s e : Endpoint) (rest : List Interval) → ((v : Parts) → is_after from v ≡ false → is_after s v ≡ false) → LeadsOn (opposite_bound e) rest
-    → LeadsOn from (gap_to from s (gaps_after e rest))
+    → LeadsOn from (gap_to from s (complement_after e rest))
 leads-to from (exclusive s) e rest b l = λ v h. h
 leads-to from (inclusive s) e rest b l = λ v h. h
 leads-to from unbounded unbounded rest b l = tt
@@ -181,10 +181,10 @@ leads-to from unbounded (inclusive e) [] b l = tt
 leads-to from unbounded (exclusive e) (g ∷ gs) b l = λ v h. not-false _ true (b v) refl
 leads-to from unbounded (inclusive e) (g ∷ gs) b l = λ v h. not-false _ true (b v) refl
 
-gaps-lead : (from : Endpoint) (is : List Interval) → BeginsFrom from is → IsRow is → LeadsOn from (gaps_between from is)
-unfolding gaps_between
-gaps-lead from [] s r = λ v h. h
-gaps-lead from (i ∷ is) s r = leads-to from i.start i.end _ s (gaps-lead (opposite_bound i.end) is (begins-past-end i.end is r.1) r.2)
+complement-lead : (from : Endpoint) (is : List Interval) → BeginsFrom from is → IsRow is → LeadsOn from (complement_between from is)
+unfolding complement_between
+complement-lead from [] s r = λ v h. h
+complement-lead from (i ∷ is) s r = leads-to from i.start i.end _ s (complement-lead (opposite_bound i.end) is (begins-past-end i.end is r.1) r.2)
 
 turn-cons : (g : Interval) (from : Endpoint) (gs : List Interval)
     → ((v : Parts) → is_after from v ≡ true → (is_after g.start v ≡ true) × (is_before g.end v ≡ false)) → LeadsOn from gs → AllTurn gs → AllTurn (g ∷ gs)
@@ -196,7 +196,7 @@ past-both : (s e : Endpoint) (v : Parts) → IsOrdered (record { start = s; end 
 past-both s e v o h = not-false (is_after s v) (not (is_before e v)) (λ k. rw (o v k) refl) (rw h refl)
 
 turns-to : (from s e : Endpoint) (rest : List Interval) → ((v : Parts) → is_after from v ≡ false → is_after s v ≡ false)
-    → IsOrdered (record { start = s; end = e }) → LeadsOn (opposite_bound e) rest → AllTurn rest → AllTurn (gap_to from s (gaps_after e rest))
+    → IsOrdered (record { start = s; end = e }) → LeadsOn (opposite_bound e) rest → AllTurn rest → AllTurn (gap_to from s (complement_after e rest))
 turns-to from unbounded unbounded rest b o l t = tt
 turns-to from unbounded (exclusive e) rest b o l t = t
 turns-to from unbounded (inclusive e) rest b o l t = t
@@ -215,12 +215,12 @@ turns-to from (inclusive s) (inclusive e) rest b o l t = turn-cons (record { sta
     let past = past-both (inclusive s) (inclusive e) v o (below-not_at_most e v h) in
     (not-false _ _ (b v) past, at_most-not_below s v past)) l t
 
-gaps-all_turn : (from : Endpoint) (is : List Interval) → BeginsFrom from is → IsRow is → AllTurn (gaps_between from is)
-unfolding gaps_between
-gaps-all_turn from [] s r = tt
-gaps-all_turn from (i ∷ is) s r =
+complement-all_turn : (from : Endpoint) (is : List Interval) → BeginsFrom from is → IsRow is → AllTurn (complement_between from is)
+unfolding complement_between
+complement-all_turn from [] s r = tt
+complement-all_turn from (i ∷ is) s r =
     let begins = begins-past-end i.end is r.1 in
-    turns-to from i.start i.end _ s r.0 (gaps-lead (opposite_bound i.end) is begins r.2) (gaps-all_turn (opposite_bound i.end) is begins r.2)
+    turns-to from i.start i.end _ s r.0 (complement-lead (opposite_bound i.end) is begins r.2) (complement-all_turn (opposite_bound i.end) is begins r.2)
 
 turn-at : (gs : List Interval) → AllTurn gs → (v : Parts)
     → AllAdjacentBelow (λ g h. is_after h.start v ≡ true → (is_after g.start v ≡ true) × (is_before g.end v ≡ false)) gs (length gs)
@@ -236,8 +236,8 @@ pub from-nothing : (is : List Interval) → BeginsFrom unbounded is
 from-nothing [] = tt
 from-nothing (i ∷ is) = λ v h. cc h
 
-pub gaps-in_turn : (is : List Interval) → IsRow is → AreInTurn (gaps_between unbounded is)
-gaps-in_turn is r = record { turn = turn-at _ (gaps-all_turn unbounded is (from-nothing is) r) }
+pub complement-in_turn : (is : List Interval) → IsRow is → AreInTurn (complement_between unbounded is)
+complement-in_turn is r = record { turn = turn-at _ (complement-all_turn unbounded is (from-nothing is) r) }
 
 -- ---- the ranges by their cuts
 
@@ -255,17 +255,17 @@ to-cut from (exclusive s) gs rs h e =
     rw t.1 (ap (λ (us : List Range). record { introduced = lower_cut from; fixed = Some t.0 } ∷ us) e)
 
 after-cut : (e : Endpoint) (gs : List Interval) (rs : List Range) → end_cut_exists e ≡ true → map cut gs ≡ rs
-    → map cut (gaps_after e gs) ≡ gaps_beyond (upper_cut e) rs
+    → map cut (complement_after e gs) ≡ complement_beyond (upper_cut e) rs
 after-cut unbounded gs rs h k = refl
 after-cut (exclusive e) gs rs h k = k
 after-cut (inclusive e) gs rs h k = let t = successor-there e h in rw t.1 k
 
 -- by their cuts, the gaps between intervals are those between the intervals' cuts
-pub gaps-cut : (from : Endpoint) (is : List Interval) → AllAdmissible is → map cut (gaps_between from is) ≡ gaps_from (lower_cut from) (map cut is)
-unfolding gaps_between gaps_from
-gaps-cut from [] a = refl
-gaps-cut from (i ∷ is) a =
-    let rest = gaps-cut (opposite_bound i.end) is a.1 ∙ ap (λ (o : Option Parts). gaps_from o (map cut is)) (opposite_bound-cut i.end) in
+pub complement-cut : (from : Endpoint) (is : List Interval) → AllAdmissible is → map cut (complement_between from is) ≡ complement_from (lower_cut from) (map cut is)
+unfolding complement_between complement_from
+complement-cut from [] a = refl
+complement-cut from (i ∷ is) a =
+    let rest = complement-cut (opposite_bound i.end) is a.1 ∙ ap (λ (o : Option Parts). complement_from o (map cut is)) (opposite_bound-cut i.end) in
     to-cut from i.start _ _ (admissible-start i a.0) (after-cut i.end _ _ (admissible-end i a.0) rest)
 
 -- ---- the bounds of gaps
@@ -293,17 +293,17 @@ to-fit from unbounded gs v b p h a = a
 to-fit from (exclusive s) gs v b p h a = ((record { start = v; end = p.version }, b, h), a)
 to-fit from (inclusive s) gs v b p h a = ((record { start = v; end = p.version }, b, refl), a)
 
-after-fit : (e : Endpoint) (gs : List Interval) → AllFit gs → AllFit (gaps_after e gs)
+after-fit : (e : Endpoint) (gs : List Interval) → AllFit gs → AllFit (complement_after e gs)
 after-fit unbounded gs a = tt
 after-fit (exclusive e) gs a = a
 after-fit (inclusive e) gs a = a
 
-pub gaps-fit : (from : Endpoint) (is : List Interval) → IsValidBound from → start_cut_exists from ≡ true → AllSound is → AllAdmissible is → AllFit (gaps_between from is)
-unfolding gaps_between
-gaps-fit from [] v b sound a = ((record { start = v; end = tt }, b, refl), tt)
-gaps-fit from (i ∷ is) v b sound a =
+pub complement-fit : (from : Endpoint) (is : List Interval) → IsValidBound from → start_cut_exists from ≡ true → AllSound is → AllAdmissible is → AllFit (complement_between from is)
+unfolding complement_between
+complement-fit from [] v b sound a = ((record { start = v; end = tt }, b, refl), tt)
+complement-fit from (i ∷ is) v b sound a =
     to-fit from i.start _ v b sound.0.start (admissible-start i a.0) (after-fit i.end _
-    (gaps-fit (opposite_bound i.end) is (opposite_bound-valid i.end sound.0.end) (opposite_bound-start i.end (admissible-end i a.0)) sound.1 a.1))
+    (complement-fit (opposite_bound i.end) is (opposite_bound-valid i.end sound.0.end) (opposite_bound-start i.end (admissible-end i a.0)) sound.1 a.1))
 
 pub fit-valid : (gs : List Interval) → AllFit gs → (k : ℕ) (d : Interval) → k < length gs → HasValidBounds (get_or gs k d)
 fit-valid [] a k d h = absurd (omega arith)

@@ -9,7 +9,7 @@ use Rattle.std.proofs.lemmas.Bool.Decides.{nat_tests}
 use Rattle.semver.specs.Order.{build_cmp, build_part_cmp, numeric_len, part_class, pre_cmp, strip_zeros, value_len, without_zeros}
 use Rattle.semver.specs.OrderLaws.{build_total, parts-shape}
 use Rattle.semver.specs.Parse.{Parts}
-use Rattle.rustsec_versions.specs.ranges.Gaps.{cut, gap_before, gaps_beyond, gaps_from}
+use Rattle.rustsec_versions.specs.ranges.Complement.{cut, gap_before, complement_beyond, complement_from}
 use Rattle.rustsec_versions.specs.interval.Interval.{Interval}
 use Rattle.rustsec_versions.specs.order.Precedence.{precedence, version_order}
 use Rattle.rustsec_versions.specs.ranges.Ranges.{Range, affects, in_range, in_ranges}
@@ -106,16 +106,16 @@ pub all-affect : (rs : List Range) (v : Parts) → ArePlain rs → list_any (λ 
 all-affect [] v p = refl
 all-affect (r ∷ rs) v p = rw (affects-same r.introduced r.fixed v p.0.0 p.0.1, all-affect rs v p.1) refl
 
-plain_step : (from lo up : Option Parts) (rest : List Range) → IsPlainSide from → IsPlainSide lo → ArePlain rest → ArePlain (gap_before from lo (gaps_beyond up rest))
+plain_step : (from lo up : Option Parts) (rest : List Range) → IsPlainSide from → IsPlainSide lo → ArePlain rest → ArePlain (gap_before from lo (complement_beyond up rest))
 plain_step from None None rest p q r = tt
 plain_step from None (Some u) rest p q r = r
 plain_step from (Some l) None rest p q r = ((p, q), tt)
 plain_step from (Some l) (Some u) rest p q r = ((p, q), r)
 
-pub gaps-plain : (from : Option Parts) (cs : List Range) → IsPlainSide from → ArePlain cs → ArePlain (gaps_from from cs)
-unfolding gaps_from
-gaps-plain from [] p q = ((p, tt), tt)
-gaps-plain from (c ∷ cs) p q = plain_step from c.introduced c.fixed (gaps_from c.fixed cs) p q.0.0 (gaps-plain c.fixed cs q.0.1 q.1)
+pub complement-plain : (from : Option Parts) (cs : List Range) → IsPlainSide from → ArePlain cs → ArePlain (complement_from from cs)
+unfolding complement_from
+complement-plain from [] p q = ((p, tt), tt)
+complement-plain from (c ∷ cs) p q = plain_step from c.introduced c.fixed (complement_from c.fixed cs) p q.0.0 (complement-plain c.fixed cs q.0.1 q.1)
 
 side-plain : (o : Option Parts) → ((v : Parts) → o ≡ Some v → v.4 ≡ []) → IsPlainSide o
 side-plain None h = tt

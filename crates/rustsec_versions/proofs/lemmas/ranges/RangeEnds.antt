@@ -4,14 +4,14 @@ use Rattle.std.specs.Prelude.{is_none, is_some, not, swap}
 use Rattle.std.specs.List.{list_all, list_any}
 use Rattle.std.proofs.lemmas.List.Sorted.{IsPermutation-keeps, list_any-IsPermutation}
 use Rattle.semver.specs.Parse.{Parts}
-use Rattle.rustsec_versions.specs.ranges.Gaps.{cut, gap_before, gaps_beyond, gaps_from}
+use Rattle.rustsec_versions.specs.ranges.Complement.{cut, gap_before, complement_beyond, complement_from}
 use Rattle.rustsec_versions.specs.interval.Interval.{Endpoint, Interval, exclusive, inclusive, unbounded}
 use Rattle.rustsec_versions.specs.ranges.Ranges.{Range, has_bound, lower_cut, upper_cut, whole}
 use Rattle.rustsec_versions.specs.requirement.Requirement.{end_cut_exists, start_cut_exists}
-use Rattle.rustsec_versions.proofs.lemmas.ranges.Chain.{AllAdmissible}
-use Rattle.rustsec_versions.proofs.lemmas.ranges.Chain.{FollowOn, Follows, IsChain}
+use Rattle.rustsec_versions.proofs.lemmas.ranges.Adjacent.{AllAdmissible}
+use Rattle.rustsec_versions.proofs.lemmas.ranges.Adjacent.{FollowOn, Follows, IsChain}
 use Rattle.rustsec_versions.proofs.lemmas.order.LeastAbove.{successor-there}
-use Rattle.rustsec_versions.proofs.lemmas.ranges.RangeList.{gaps-first}
+use Rattle.rustsec_versions.proofs.lemmas.ranges.RangeList.{complement-first}
 use Rattle.rustsec_versions.proofs.lemmas.requirement.Sound.{admissible-end, admissible-start}
 
 -- ---- bounds and cuts
@@ -54,24 +54,24 @@ EndsAs : Bool → List Range → Type 0
 EndsAs all rs = LastIs (λ r. is_none r.fixed ≡ all) rs
 
 last_step : (from lo up : Option Parts) (cs : List Range) → FollowOn up cs
-    → ((u : Parts) → FollowOn (Some u) cs → EndsAs (list_all (λ c. is_some c.fixed) cs) (gaps_from (Some u) cs))
-    → EndsAs (is_some up && list_all (λ c. is_some c.fixed) cs) (gap_before from lo (gaps_beyond up (gaps_from up cs)))
+    → ((u : Parts) → FollowOn (Some u) cs → EndsAs (list_all (λ c. is_some c.fixed) cs) (complement_from (Some u) cs))
+    → EndsAs (is_some up && list_all (λ c. is_some c.fixed) cs) (gap_before from lo (complement_beyond up (complement_from up cs)))
 unfolding EndsAs
 last_step from None None cs f ih = last_none _
 last_step from (Some l) None cs f ih = last_cons _ _ _ (λ e. refl) (last_none _)
 last_step from None (Some u) cs f ih = ih u f
 last_step from (Some l) (Some u) cs f ih =
-    last_cons _ _ _ (λ (none : gaps_from (Some u) cs ≡ []). let there = gaps-first u cs f in cc (sym none ∙ there.1.1)) (ih u f)
+    last_cons _ _ _ (λ (none : complement_from (Some u) cs ≡ []). let there = complement-first u cs f in cc (sym none ∙ there.1.1)) (ih u f)
 
-gaps-last : (from : Option Parts) (cs : List Range) → IsChain cs → EndsAs (list_all (λ c. is_some c.fixed) cs) (gaps_from from cs)
-unfolding gaps_from EndsAs
-gaps-last from [] c = last_cons _ _ _ (λ e. refl) (last_none _)
-gaps-last from (r ∷ cs) c = last_step from r.introduced r.fixed cs c.1 (λ u f. gaps-last (Some u) cs c.2)
+complement-last : (from : Option Parts) (cs : List Range) → IsChain cs → EndsAs (list_all (λ c. is_some c.fixed) cs) (complement_from from cs)
+unfolding complement_from EndsAs
+complement-last from [] c = last_cons _ _ _ (λ e. refl) (last_none _)
+complement-last from (r ∷ cs) c = last_step from r.introduced r.fixed cs c.1 (λ u f. complement-last (Some u) cs c.2)
 
-pub gaps-last_fix : (from : Option Parts) (cs : List Range) → IsChain cs → (r : Range) (front : List Range) → gaps_from from cs ≡ front ++ r ∷ []
+pub complement-last_fix : (from : Option Parts) (cs : List Range) → IsChain cs → (r : Range) (front : List Range) → complement_from from cs ≡ front ++ r ∷ []
     → is_none r.fixed ≡ list_all (λ c. is_some c.fixed) cs
 unfolding EndsAs LastIs
-gaps-last_fix from cs c = gaps-last from cs c
+complement-last_fix from cs c = complement-last from cs c
 
 -- ---- the first gap
 
@@ -90,10 +90,10 @@ head_same : (r s : Range) (rs ss : List Range) → r ∷ rs ≡ s ∷ ss → r �
 head_same r s rs ss e = cc e
 
 first_gap : (lo up : Option Parts) (cs : List Range) → FollowOn up cs → IsChain cs → (r : Range) (rest : List Range)
-    → gap_before None lo (gaps_beyond up (gaps_from up cs)) ≡ r ∷ rest → is_none r.introduced ≡ (is_some lo && list_all (λ c. is_some c.introduced) cs)
+    → gap_before None lo (complement_beyond up (complement_from up cs)) ≡ r ∷ rest → is_none r.introduced ≡ (is_some lo && list_all (λ c. is_some c.introduced) cs)
 first_gap None None cs f c r rest e = cc e
 first_gap None (Some u) cs f c r rest e =
-    let there = gaps-first u cs f in
+    let there = complement-first u cs f in
     let same : record { introduced = Some u; fixed = there.0 } ≡ r = head_same _ r _ rest (sym there.1.1 ∙ e) in
     ap (λ (x : Range). is_none x.introduced) (sym same)
 first_gap (Some l) up cs f c r rest e =
@@ -101,21 +101,21 @@ first_gap (Some l) up cs f c r rest e =
     ap (λ (x : Range). is_none x.introduced) (sym same) ∙ sym (all_begin up cs f c)
 
 -- the first gap lacks its introduction exactly if each range has a beginning
-pub gaps-first_introduction : (cs : List Range) → IsChain cs → (r : Range) (rest : List Range) → gaps_from None cs ≡ r ∷ rest
+pub complement-first_introduction : (cs : List Range) → IsChain cs → (r : Range) (rest : List Range) → complement_from None cs ≡ r ∷ rest
     → is_none r.introduced ≡ list_all (λ c. is_some c.introduced) cs
-unfolding gaps_from
-gaps-first_introduction [] c r rest e =
+unfolding complement_from
+complement-first_introduction [] c r rest e =
     let same : record { introduced = None; fixed = None } ≡ r = head_same _ r [] rest e in
     ap (λ (x : Range). is_none x.introduced) (sym same)
-gaps-first_introduction (d ∷ cs) c r rest e = first_gap d.introduced d.fixed cs c.1 c.2 r rest e
+complement-first_introduction (d ∷ cs) c r rest e = first_gap d.introduced d.fixed cs c.1 c.2 r rest e
 
 -- ---- no gap
 
-one_left : (lo up : Option Parts) (cs : List Range) → FollowOn up cs → gap_before None lo (gaps_beyond up (gaps_from up cs)) ≡ []
+one_left : (lo up : Option Parts) (cs : List Range) → FollowOn up cs → gap_before None lo (complement_beyond up (complement_from up cs)) ≡ []
     → (lo ≡ None) × ((up ≡ None) × (cs ≡ []))
 one_left None None [] f e = (refl, (refl, refl))
 one_left None None (d ∷ cs) f e = absurd f
-one_left None (Some u) cs f e = let there = gaps-first u cs f in cc (sym e ∙ there.1.1)
+one_left None (Some u) cs f e = let there = complement-first u cs f in cc (sym e ∙ there.1.1)
 one_left (Some l) up cs f e = cc e
 
 no_lower : (s : Endpoint) → start_cut_exists s ≡ true → lower_cut s ≡ None → s ≡ unbounded
@@ -136,18 +136,18 @@ interval_same : (i j : Interval) → i.start ≡ j.start → i.end ≡ j.end →
 interval_same i j h k = λ n. record { start = h n; end = k n }
 
 -- there is no gap exactly if the one interval has no bounds
-pub gaps-none : (is : List Interval) → AllAdmissible is → IsChain (map cut is) → gaps_from None (map cut is) ≡ [] → is ≡ whole ∷ []
-unfolding gaps_from
-gaps-none [] a c e = cc e
-gaps-none (i ∷ is) a c e =
+pub complement-none : (is : List Interval) → AllAdmissible is → IsChain (map cut is) → complement_from None (map cut is) ≡ [] → is ≡ whole ∷ []
+unfolding complement_from
+complement-none [] a c e = cc e
+complement-none (i ∷ is) a c e =
     let (lo, (up, rest)) = one_left (lower_cut i.start) (upper_cut i.end) (map cut is) c.1 e in
     let first : i ≡ whole =
     interval_same i whole (no_lower i.start (admissible-start i a.0) lo) (no_upper i.end (admissible-end i a.0) up) in
     rw (first, map_none is rest) refl
 
-pub gaps-whole : gaps_from None (map cut (whole ∷ [])) ≡ []
-unfolding gaps_from
-gaps-whole = refl
+pub complement-whole : complement_from None (map cut (whole ∷ [])) ≡ []
+unfolding complement_from
+complement-whole = refl
 
 swap_one : {X : Type 0} (w : X) (i j : ℕ) → i < 1 → j < 1 → swap (w ∷ []) i j ≡ w ∷ []
 swap_one w zero zero h k = refl

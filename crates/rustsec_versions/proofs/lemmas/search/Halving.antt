@@ -11,7 +11,7 @@ use Rattle.std.proofs.lemmas.List.Folds.{list_any_at, list_any_none}
 use Rattle.semver.specs.Parse.{Parts}
 use Rattle.rustsec_versions.specs.ranges.AcceptedRanges.{HasBinaryDigits}
 use Rattle.rustsec_versions.specs.ranges.Between.{AreInTurn, EachLaterBegins}
-use Rattle.rustsec_versions.specs.ranges.Gaps.{cut}
+use Rattle.rustsec_versions.specs.ranges.Complement.{cut}
 use Rattle.rustsec_versions.specs.interval.Interval.{Endpoint, Interval, exclusive, holds, inclusive, is_after, is_before, unbounded}
 use Rattle.rustsec_versions.specs.ranges.Ranges.{Range, has_bound, is_followed, lower_cut}
 
@@ -70,9 +70,9 @@ and-both : (a b : Bool) → a ≡ true → b ≡ true → (a && b) ≡ true
 and-both true b h k = k
 and-both false b h k = cc h
 
-and-figst : (a b : Bool) → a ≡ false → (a && b) ≡ false
-and-figst true b h = cc h
-and-figst false b h = refl
+and-first : (a b : Bool) → a ≡ false → (a && b) ≡ false
+and-first true b h = cc h
+and-first false b h = refl
 
 and-second : (a b : Bool) → b ≡ false → (a && b) ≡ false
 and-second true b h = h
@@ -80,7 +80,7 @@ and-second false b h = refl
 
 -- no gap begins at or below the version
 pub in-none : (gs : List Interval) (v : Parts) → ((k : ℕ) (d : Interval) → k < length gs → is_after (get_or gs k d).start v ≡ false) → list_any (λ g. holds g v) gs ≡ false
-in-none gs v h = list_any_none (λ g. holds g v) gs (λ k d l. and-figst _ _ (h k d l))
+in-none gs v h = list_any_none (λ g. holds g v) gs (λ k d l. and-first _ _ (h k d l))
 
 before-end : (gs : List Interval) (v : Parts) (k : ℕ) (d : Interval) → AreInTurn gs → k + 1 < length gs → is_after (get_or gs (k + 1) d).start v ≡ true
     → holds (get_or gs k d) v ≡ false
@@ -97,7 +97,7 @@ in-last gs v m e t l before after = elim (cases_Bool (is_before (get_or gs m e).
       list_any_none (λ g. holds g v) gs (λ k d here. elim (three k m) [
         | inl low ↦ before-end gs v k d t (omega arith) (before (k + 1) d (omega arith))
         | inr (inl same) ↦ rw (same, get_or_default gs m d e l) (and-second _ _ over)
-        | inr (inr high) ↦ and-figst _ _ (after k d (omega arith) here)
+        | inr (inr high) ↦ and-first _ _ (after k d (omega arith) here)
       ]) ∙ sym over
 ]
 

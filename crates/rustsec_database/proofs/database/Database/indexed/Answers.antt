@@ -17,7 +17,7 @@ matching-requires g c = λ place a there passes.
 
 pub returns : goal.returns
 returns g c =
-    let test = g.T.Test.passes c.args.test.now in
+    let test = g.T.Predicate.holds c.args.test.now in
     let slots = c.slots-slots.result.now in
     IfOk-weaker c.matching.result _ _
     (λ v e. e ∙ ap (λ l. filter test (at_places slots l)) c.self.view_is

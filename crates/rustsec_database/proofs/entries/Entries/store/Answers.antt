@@ -11,7 +11,7 @@ returns-then-not-branch-clause-err c =
     let old : c.in_ok-put_new.field-0 ≡ false = search rules in
     let known = known-in-table c.self.inside.advisories.items c.args.advisory c.in_ok-id.id c.self.inside.slots c.in_ok-id.ensures c.self.invariant.0
     (c.in_ok-put_new.ensures.known old).0 in
-    inl (subst (λ (l : List Advisory). is_known l c.args.advisory ≡ true) c.self.view_is known, c.duplicate.ensures)
+    inl (subst (λ (l : List Advisory). is_known l c.args.advisory ≡ true) c.self.view_is known, c.duplicate_error.ensures)
 
 pub invariant_of-self-2 : goal.invariant_of-self-2
 invariant_of-self-2 c =

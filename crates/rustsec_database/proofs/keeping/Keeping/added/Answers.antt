@@ -12,13 +12,13 @@ returns-in_err-advisory-clause-err g c =
 
 pub returns-then-not-fresh-clause-err : goal.returns-then-not-fresh-clause-err
 returns-then-not-fresh-clause-err g c = λ all h.
-    let test = g.T.Test.passes c.args.test.now in
+    let test = g.T.Predicate.holds c.args.test.now in
     let a = c.in_ok-advisory.advisory in
     let k : KeptValue = record { advisories = c.self.inside.entries; ids = c.self.inside.ids.keys; last_date = c.self.inside.last_date } in
     let there = is-known c.in_ok-fresh.fresh _ c.in_ok-fresh.ensures.fresh c.if-not-fresh.true in
     let known = known-kept test all a k true (subst (IsKept test all) (sym c.self.view_is) h) there in
-    known-fault all c.args.path.now c.args.text.now a c.duplicate.result c.in_ok-advisory.ensures.ok
-    (not-false _ (sym c.is_placeholder.ensures ∙ c.if-is_placeholder.false)) known c.duplicate.ensures
+    known-fault all c.args.path.now c.args.text.now a c.duplicate_error.result c.in_ok-advisory.ensures.ok
+    (not-false _ (sym c.is_placeholder.ensures ∙ c.if-is_placeholder.false)) known c.duplicate_error.ensures
 
 pub returns-in_err-fresh-clause-err : goal.returns-in_err-fresh-clause-err
 returns-in_err-fresh-clause-err g c =
@@ -32,12 +32,12 @@ store_if-requires g c =
 pub invariant_of-result : goal.invariant_of-result
 invariant_of-result g c =
     let a = c.in_ok-advisory.advisory in
-    among-more (g.T.Test.passes c.args.test.now a) a c.self.inside.ids.keys c.add_id.new.ids.keys c.self.inside.entries c.in_ok-entries.entries
+    among-more (g.T.Predicate.holds c.args.test.now a) a c.self.inside.ids.keys c.add_id.new.ids.keys c.self.inside.entries c.in_ok-entries.entries
     c.self.invariant c.in_ok-entries.ensures.ok c.in_ok-fresh.ensures.among
 
 pub returns-clause-ok : goal.returns-clause-ok
 returns-clause-ok g c = λ all h.
-    let test = g.T.Test.passes c.args.test.now in
+    let test = g.T.Predicate.holds c.args.test.now in
     let a = c.in_ok-advisory.advisory in
     let k : KeptValue = record { advisories = c.self.inside.entries; ids = c.self.inside.ids.keys; last_date = c.self.inside.last_date } in
     let n : KeptValue = record { advisories = c.in_ok-entries.entries; ids = c.add_id.new.ids.keys; last_date = c.in_ok-last_date.last_date } in

@@ -12,5 +12,5 @@ returns-in_err-keeping-clause-err g c =
 
 pub returns-clause-ok : goal.returns-clause-ok
 returns-clause-ok g c =
-    rw c.in_ok-kept.ensures.ok (kept-opened (g.T.Test.passes c.args.test.now) _ _ c.args.root.now c.in_ok-paths.paths c.in_ok-paths.paths c.in_ok-keeping.keeping
+    rw c.in_ok-kept.ensures.ok (kept-opened (g.T.Predicate.holds c.args.test.now) _ _ c.args.root.now c.in_ok-paths.paths c.in_ok-paths.paths c.in_ok-keeping.keeping
     c.source_paths.ensures.same c.in_ok-paths.ensures.ok refl c.in_ok-keeping.ensures.ok)

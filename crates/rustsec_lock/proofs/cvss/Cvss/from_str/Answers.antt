@@ -1,4 +1,4 @@
-use Rattle.rustsec_lock.proofs.CvssAgain.{again_0, again_1}
+use Rattle.rustsec_lock.proofs.CvssRoundTrip.{again_0, again_1}
 use Rattle.rustsec_lock.proofs.cvss.Cvss.from_str.Goals as goal
 
 pub returns-in-Some-clause-again : goal.returns-in-Some-clause-again

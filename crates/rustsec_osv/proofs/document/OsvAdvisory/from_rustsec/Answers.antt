@@ -1,5 +1,5 @@
 use Rattle.std.proofs.lemmas.Result.{err_from_is_err_and}
-use Rattle.rustsec_osv.proofs.ExportAgain.{exported-read}
+use Rattle.rustsec_osv.proofs.ExportRoundTrip.{exported-read}
 use Rattle.rustsec_osv.proofs.Exported.{exported, exported-valid, range-refused, refused}
 use Rattle.rustsec_osv.proofs.document.OsvAdvisory.from_rustsec.Goals as goal
 

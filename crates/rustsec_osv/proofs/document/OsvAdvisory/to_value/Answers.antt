@@ -1,6 +1,6 @@
 use Rattle.std.proofs.Common.{◌∙◌, ap, rules, sym}
 use Rattle.rustsec_osv.specs.DocumentCodec.{read_document}
-use Rattle.rustsec_osv.proofs.DocumentsAgain.{document-again}
+use Rattle.rustsec_osv.proofs.DocumentsRoundTrip.{document-again}
 use Rattle.rustsec_osv.proofs.EventsKept.{events-same, ranges-same}
 use Rattle.rustsec_osv.proofs.document.OsvAdvisory.to_value.Goals as goal
 

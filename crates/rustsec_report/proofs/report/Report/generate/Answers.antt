@@ -1,6 +1,6 @@
 use Rattle.std.proofs.Common.{rules}
 use Rattle.rustsec_report.proofs.EndToEnd.{report-chain}
-use Rattle.rustsec_report.proofs.Held.{held-of}
+use Rattle.rustsec_report.proofs.ReportedAdvisories.{held-of}
 use Rattle.rustsec_report.proofs.ReportLaws.{add_their_own, find_the_same, lacks_only}
 use Rattle.rustsec_report.proofs.report.Report.generate.Goals as goal
 

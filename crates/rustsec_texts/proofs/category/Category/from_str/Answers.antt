@@ -1,12 +1,12 @@
 use Rattle.std.proofs.Common.{◌≡◌, ◌∙◌, ap, sym, unwrap_or}
 use Rattle.rustsec_texts.specs.declared.category.Category.TheVariants as category
 use Rattle.rustsec_texts.specs.Categories.{categories, category_name, category_of}
-use Rattle.rustsec_texts.proofs.OtherNames.{value_named-none, whatever_error}
+use Rattle.rustsec_texts.proofs.OtherNames.{from_name-none, whatever_error}
 use Rattle.rustsec_texts.proofs.category.Category.from_str.Goals as goal
 
 other : (c : goal.In_ok-name-in_default) → category.Other c.in_ok-name-in_default.name ≡ category_of c.args.text.now
 other c =
-    let none = value_named-none category_name categories c.args.text.now (
+    let none = from_name-none category_name categories c.args.text.now (
       c.in_default.not-text,
       (
         c.in_default.not-text-2,
@@ -33,7 +33,7 @@ returns-in_ok-name-in_default-clause-read_again c = sym (other c ∙ ap category
 
 pub returns-in_err-name-in_default-clause-other : goal.returns-in_err-name-in_default-clause-other
 returns-in_err-name-in_default-clause-other c =
-    let none = value_named-none category_name categories c.args.text.now (
+    let none = from_name-none category_name categories c.args.text.now (
       c.in_default.not-text,
       (
         c.in_default.not-text-2,

@@ -16,4 +16,4 @@ returns-clause-joined c = path-joined c.args.text.now c.in_ok-segments.segments 
 pub returns-then-len-lt2-clause-none : goal.returns-then-len-lt2-clause-none
 returns-then-len-lt2-clause-none c =
     let few : length (between_colons c.args.text.now) < 2 = omega (arith, c.if-len-lt2.true, c.len.ensures, ap length c.in_ok-segments.ensures.ok) in
-    refusal _ c.refused_text.result (short-no-path c.args.text.now few) c.refused_text.ensures.kind
+    refusal _ c.text_error.result (short-no-path c.args.text.now few) c.text_error.ensures.kind

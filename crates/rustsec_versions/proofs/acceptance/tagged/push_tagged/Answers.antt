@@ -17,7 +17,7 @@ returns-then-clashes-clause-err c =
     let there : Contains items last = rw c.deref.ensures.value at found in
     let clash : bounds_clash last next ≡ true = sym c.clashes.ensures ∙ c.if-clashes.true in
     let one : tagged c.args.is_patched (comparators_of c.args.requirement.now ∷ []) ≡ next ∷ [] = rw c.in_ok-interval.ensures.ok refl in
-    refusal _ c.clash_refused.result (inr (rw one (clear-last items last next there clash))) c.clash_refused.ensures
+    refusal _ c.clash_error.result (inr (rw one (clear-last items last next there clash))) c.clash_error.ensures
 
 pub returns-in_err-interval-clause-err : goal.returns-in_err-interval-clause-err
 returns-in_err-interval-clause-err c =
