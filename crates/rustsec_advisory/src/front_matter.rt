@@ -179,7 +179,7 @@ fn with_list_place(alloc: Global, place: TablePlace<'_>, list: FaultyList, error
 
 /// What lists of requirements have to be.
 const LISTS: &str =
-    "requirements of one interval each, of which no unaffected one overlaps another";
+    "requirements of one interval each, no unaffected one of which overlaps another";
 
 /// Turns an error about lists of requirements into the error of the list at fault, in the table that holds them.
 fn list_error(alloc: Global, section: Section<'_>, error: Error) -> Error

@@ -106,7 +106,7 @@ const LINES: &str = "`patched REQ`, `unaffected REQ`, for `affected` also `versi
 fn line_note(alloc: Global, found: Malformed<'_>) -> Result<String, AllocError> {
     let number = found.place.saturating_add(1);
     let mut note = format!(in alloc; "rustsec_audit: line {number}: ")?;
-    let text = str::from_utf8(found.line).unwrap_or("bytes that are no UTF-8");
+    let text = str::from_utf8(found.line).unwrap_or("bytes that are not UTF-8");
     push_shown(
         &mut note,
         text_error(alloc, "malformed", text, LINES).message(),

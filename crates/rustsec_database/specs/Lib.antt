@@ -1,9 +1,9 @@
-pub mod Filing
 pub mod Indexes
 pub mod Kept
 pub mod Latest
 pub mod Loaded
 pub mod Opened
+pub mod Placement
 pub mod Places
 pub mod Slots
 pub mod Spans

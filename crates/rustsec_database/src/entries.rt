@@ -51,7 +51,7 @@ impl Model for Entries {
 pub(crate) fn duplicate_error(alloc: Global, id: &Id) -> Error
     ensures { IsOfKind ErrorKind.Parse result }
 {
-    match format!(in alloc; "the ID `{id}` stands in an earlier file, expected a new one") {
+    match format!(in alloc; "the ID `{id}` is in an earlier file, expected a new one") {
         Ok(message) => Error::new(alloc, ErrorKind::Parse, &message),
         Err(refused) => Error::from(refused),
     }

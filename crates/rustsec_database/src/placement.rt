@@ -126,7 +126,7 @@ fn message(
             "another folder, expected `{package}`, the package"
         ),
         PlacementError::Parent => {
-            format!(in alloc; "the folder stands in no collection, expected `crates` or `rust`")
+            format!(in alloc; "the folder is not in a collection, expected `crates` or `rust`")
         }
         PlacementError::Collection => {
             format!(in alloc; "another `collection` in [advisory], expected that of the folder")

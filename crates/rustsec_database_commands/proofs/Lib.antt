@@ -1,7 +1,7 @@
-pub mod OptionWords
-pub mod Outputs
-pub mod Once
-pub mod OsvWords
-pub mod StatsPlain
 pub mod Counted
+pub mod Once
+pub mod OptionWords
+pub mod OsvWords
+pub mod Outputs
+pub mod StatsPlain
 pub mod Written

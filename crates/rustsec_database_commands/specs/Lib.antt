@@ -1,7 +1,7 @@
-pub mod Options
-pub mod Steps
-pub mod Lint
-pub mod Stats
-pub mod Osv
-pub mod Words
 pub mod Commands
+pub mod Lint
+pub mod Options
+pub mod Osv
+pub mod Stats
+pub mod Steps
+pub mod Words

@@ -1,2 +1,2 @@
-pub mod RefusedTexts
 pub mod Refusals
+pub mod RefusedTexts

@@ -1,3 +1,3 @@
-pub mod Segments
 pub mod LastSegments
 pub mod Names
+pub mod Segments

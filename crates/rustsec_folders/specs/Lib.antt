@@ -1,4 +1,4 @@
 pub mod Allowed
-pub mod Names
-pub mod Listed
 pub mod Entries
+pub mod Listed
+pub mod Names

@@ -1,6 +1,6 @@
-pub mod IndexPath
-pub mod IndexLines
 pub mod CacheFile
 pub mod IndexFile
 pub mod IndexFolder
+pub mod IndexLines
+pub mod IndexPath
 pub mod YankedPackages

@@ -1,6 +1,6 @@
 pub mod Apart
-pub mod Firsts
 pub mod CountLaws
+pub mod Firsts
 pub mod Once
 pub mod Placed
 pub mod Said

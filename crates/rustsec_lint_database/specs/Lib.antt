@@ -1,8 +1,8 @@
-pub mod Remarks
-pub mod Placement
-pub mod Upstream
-pub mod Files
-pub mod Entries
-pub mod Firsts
 pub mod Counts
 pub mod Edition
+pub mod Entries
+pub mod Files
+pub mod Firsts
+pub mod Placement
+pub mod Remarks
+pub mod Upstream

@@ -1,6 +1,6 @@
 pub mod Arrays
-pub mod CvssRoundTrip
 pub mod CvssParts
+pub mod CvssRoundTrip
 pub mod ScoreSteps
 pub mod ScoreTable
 pub mod Sources

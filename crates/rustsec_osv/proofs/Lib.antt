@@ -1,7 +1,7 @@
 pub mod Distinct
 pub mod DocumentsRoundTrip
-pub mod EventsRoundTrip
 pub mod EventsKept
+pub mod EventsRoundTrip
 pub mod ExportRoundTrip
 pub mod Exported
 pub mod LeastVersion

@@ -1,3 +1,3 @@
-pub mod Parts
 pub mod Documents
 pub mod Once
+pub mod Parts

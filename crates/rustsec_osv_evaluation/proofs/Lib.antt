@@ -1,7 +1,7 @@
 pub mod Agreement
-pub mod OneOrder
 pub mod DroppedPairs
-pub mod Saying
+pub mod OneOrder
 pub mod Ordered
-pub mod Turning
+pub mod Saying
 pub mod Sorted
+pub mod Turning

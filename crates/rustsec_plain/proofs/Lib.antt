@@ -1,6 +1,6 @@
-pub mod PlainStrings
-pub mod PlainLines
+pub mod Marks
 pub mod Members
 pub mod Places
+pub mod PlainLines
+pub mod PlainStrings
 pub mod Turns
-pub mod Marks

@@ -28,9 +28,10 @@ denied_of = from_name denied_name denied_words
 abbrev pub format_name : OutputFormat → List ℕ
 format_name format.Terminal = codes "terminal"
 format_name format.Json = codes "json"
+format_name format.Sarif = codes "sarif"
 
 abbrev pub formats : List OutputFormat
-formats = format.Terminal ∷ format.Json ∷ []
+formats = format.Terminal ∷ format.Json ∷ format.Sarif ∷ []
 
 abbrev pub format_of : List ℕ → Option OutputFormat
 format_of = from_name format_name formats

@@ -236,6 +236,19 @@ fn with_nearest_in<T: ClosedEnum>(alloc: Global, error: Error, value: Option<&Va
     }
 }
 
+/// Returns the error about a value that is neither a word nor a list of words; the given error for any other value.
+fn with_kinds(alloc: Global, section: Section<'_>, key: &str, error: Error) -> Error
+    ensures kind { IsOfKind error.kind result }
+    ensures memory { IsMemory error → IsMemory result }
+{
+    match section.get(key) {
+        Some(value) if error.kind() == ErrorKind::Parse && value.as_array().is_none() => {
+            section.unexpected_error(alloc, key, value, "a string or an array of strings")
+        }
+        _ => error,
+    }
+}
+
 /// Reads one word, or a list of words, at a key.
 fn words_at<T: FromText + ClosedEnum>(
     alloc: Global,
@@ -252,7 +265,10 @@ fn words_at<T: FromText + ClosedEnum>(
         },
         None => match section.list(alloc, key) {
             Ok(words) => Ok(words),
-            Err(error) => Err(with_nearest_in::<T>(alloc, error, section.get(key))),
+            Err(error) => {
+                let error = with_nearest_in::<T>(alloc, error, section.get(key));
+                Err(with_kinds(alloc, section, key, error))
+            }
         },
     }
 }

@@ -29,6 +29,8 @@ pub enum OutputFormat {
     Terminal,
     /// As a tree of JSON.
     Json,
+    /// As a log of SARIF.
+    Sarif,
 }
 
 /// Which packages cargo-audit looks at.
@@ -137,7 +139,11 @@ impl OutputFormat {
     pub fn all() -> &'static [OutputFormat]
         ensures { result.now ≡ formats }
     {
-        &[OutputFormat::Terminal, OutputFormat::Json]
+        &[
+            OutputFormat::Terminal,
+            OutputFormat::Json,
+            OutputFormat::Sarif,
+        ]
     }
 
     /// Returns the word, as `from_str` reads it.
@@ -148,6 +154,7 @@ impl OutputFormat {
         match self {
             OutputFormat::Terminal => "terminal",
             OutputFormat::Json => "json",
+            OutputFormat::Sarif => "sarif",
         }
     }
 
@@ -166,7 +173,12 @@ impl OutputFormat {
         match from_name(text) {
             Some(value) => Ok(value),
             None => {
-                let error = text_error(alloc, "unknown word", text, "`terminal` or `json`");
+                let error = text_error(
+                    alloc,
+                    "unknown word",
+                    text,
+                    "`terminal`, `json` or `sarif`",
+                );
                 Err(with_nearest_name::<OutputFormat>(alloc, error, text))
             }
         }

@@ -1,9 +1,9 @@
-pub mod OptionWords
 pub mod Before
-pub mod ManyLines
-pub mod NoteLists
-pub mod OneReading
-pub mod Once
+pub mod ExplainPlain
 pub mod Grounds
 pub mod Kept
-pub mod ExplainPlain
+pub mod ManyLines
+pub mod NoteLists
+pub mod Once
+pub mod OneReading
+pub mod OptionWords

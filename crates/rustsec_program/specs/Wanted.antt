@@ -115,6 +115,7 @@ usual_kinds = informational.Notice ∷ informational.Unmaintained ∷ informatio
 abbrev pub shape_by : OutputFormat → Shape
 shape_by format.Terminal = shape.Text
 shape_by format.Json = shape.Json
+shape_by format.Sarif = shape.Sarif
 
 abbrev pub policy_shape : Option OutputFormat → Shape
 policy_shape None = shape.Text

@@ -111,6 +111,7 @@ fn shape_of(word: Option<Shape>, format: Option<OutputFormat>) -> Shape
     match (word, format) {
         (Some(shape), _) => shape,
         (None, Some(OutputFormat::Json)) => Shape::Json,
+        (None, Some(OutputFormat::Sarif)) => Shape::Sarif,
         (None, _) => Shape::Text,
     }
 }

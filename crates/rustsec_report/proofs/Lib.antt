@@ -1,8 +1,6 @@
-pub mod Again
 pub mod ByKind
 pub mod EndToEnd
 pub mod FurtherFiles
-pub mod Held
 pub mod KeptReports
 pub mod KindTexts
 pub mod Members
@@ -10,3 +8,5 @@ pub mod NoFloats
 pub mod PlainTrees
 pub mod ReportLaws
 pub mod ReportText
+pub mod ReportedAdvisories
+pub mod RoundTrip

@@ -1,6 +1,6 @@
-pub mod Rows
 pub mod CategoryRows
-pub mod Years
+pub mod Rows
 pub mod Stats
 pub mod StatsText
 pub mod StatsTree
+pub mod Years

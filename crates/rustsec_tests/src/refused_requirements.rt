@@ -68,7 +68,7 @@ fn refused_requirements(rt: HostRuntime) -> Result<(), Fail> {
             ),
             (
                 "^1, < 2",
-                "the requirement `^1, <2`: `=`, `^`, `~` or a wildcard stands beside another comparator",
+                "the requirement `^1, <2`: `=`, `^`, `~` or a wildcard is beside another comparator",
             ),
             (
                 "> 1, < 2, < 3",

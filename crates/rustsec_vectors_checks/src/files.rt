@@ -130,6 +130,7 @@ pub const FILES: Paths<'_> = &[
         ),
     ),
     ("misspelled", Holds::Text("[advisories]\nignored = []\n")),
+    ("scanned", Holds::Text("[output]\nformat = \"sarif\"\n")),
     ("index", Holds::Entries(&[("ht", true), ("le", true)])),
     ("index/ht", Holds::Entries(&[("tp", true)])),
     ("index/ht/tp", Holds::Entries(&[("http", false)])),

@@ -8,20 +8,22 @@ use std::test::Fail;
 /// A form, and the beginning of what is written in it.
 type Row<'a> = (&'a str, &'a str);
 
+/// The beginning of a log of SARIF.
+const LOG: &str = "{\"$schema\":\"https://docs.oasis-open.org/sarif/sarif/v2.1.0/";
+
+/// The beginning of a page.
+const PAGE: &str = "<!DOCTYPE html>\n<html lang=\"en\">";
+
 /// There are two findings, and one of them is denied.
 const FORMS: &[Row<'static>] = &[
-    (
-        "sarif",
-        "{\"$schema\":\"https://docs.oasis-open.org/sarif/sarif/v2.1.0/",
-    ),
+    ("sarif", LOG),
     ("markdown", "## 2 findings: 1 denied, 1 not denied\n"),
-    ("html", "<!DOCTYPE html>\n<html lang=\"en\">"),
+    ("html", PAGE),
 ];
 
-/// Returns whether a check of `lock` in a form begins with a text, and fails.
-fn begins(alloc: Global, form: &str, text: &str) -> Result<bool, Fault> {
+/// Returns whether a check of `lock` by these words begins with a text, and fails.
+fn begins(alloc: Global, words: &[&str], text: &str) -> Result<bool, Fault> {
     let mut written = Vec::new(alloc);
-    let words = &["check", "db", "lock", "--format", form];
     let status = append(alloc, words, "", &mut written)?;
     Ok(status == 1 && written.as_slice().starts_with(text.as_bytes()))
 }
@@ -29,7 +31,27 @@ fn begins(alloc: Global, form: &str, text: &str) -> Result<bool, Fault> {
 #[test]
 fn check_formats(rt: HostRuntime) -> Result<(), Fail> {
     for (form, text) in FORMS {
-        assert!(rt; begins(rt.alloc(), form, text)?, "of {form}");
+        let words = &["check", "db", "lock", "--format", form];
+        assert!(rt; begins(rt.alloc(), words, text)?, "of {form}");
+    }
+    Ok(())
+}
+
+/// The policy `scanned` wants a log of SARIF, and a word of the command line counts before it.
+const BY_POLICY: &[(&[&str], &str)] = &[
+    (&["check", "db", "lock", "--policy", "scanned"], LOG),
+    (
+        &[
+            "check", "db", "lock", "--policy", "scanned", "--format", "html",
+        ],
+        PAGE,
+    ),
+];
+
+#[test]
+fn check_format_of_policy(rt: HostRuntime) -> Result<(), Fail> {
+    for (words, text) in BY_POLICY {
+        assert!(rt; begins(rt.alloc(), words, text)?, "{text}");
     }
     Ok(())
 }

@@ -143,7 +143,7 @@ const ROOTS: &[NoteRow<'static>] = &[
         &[
             "parse error: ",
             "notes-double/crates/base/RUSTSEC-2001-2101.md",
-            "`RUSTSEC-2001-2101` stands in an earlier file",
+            "`RUSTSEC-2001-2101` is in an earlier file",
         ],
     ),
     (

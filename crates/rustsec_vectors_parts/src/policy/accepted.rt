@@ -148,6 +148,11 @@ const OTHERS: &[Row] = &[
         ..NOTHING
     },
     Row {
+        text: "[output]\nformat = \"sarif\"\n",
+        format: Some(OutputFormat::Sarif),
+        ..NOTHING
+    },
+    Row {
         text: "[target]\narch = \"x86_64\"\nos = [\"linux\", \"windows\"]\n",
         arch: &[Arch::X86_64],
         os: &[OS::Linux, OS::Windows],

@@ -99,7 +99,7 @@ const WRONG_KINDS: &[(&str, &str)] = &[
     ),
     (
         "[target]\nos = 1",
-        "line 2, column 1: key `os` in [target]: found integer `1`, expected an array of strings",
+        "line 2, column 1: key `os` in [target]: found integer `1`, expected a string or an array of strings",
     ),
     (
         "[target]\nos = [1, \"linx\"]",
@@ -131,7 +131,7 @@ const WRONG_KINDS: &[(&str, &str)] = &[
     ),
     (
         "[ \"output\" ] # [target]\nquiet = true\n\n[advisories]\n[target] # arch = 1\n'arch' = 1\n",
-        "line 6, column 1: key `arch` in [target]: found integer `1`, expected an array of strings",
+        "line 6, column 1: key `arch` in [target]: found integer `1`, expected a string or an array of strings",
     ),
 ];
 
@@ -222,12 +222,12 @@ const UNKNOWN_WORDS: &[(&str, &str)] = &[
         "line 2, column 21: key `deny` in [output]: unknown word `unsond`, expected `warnings`, `unmaintained`, `unsound` or `yanked`; did you mean `unsound`?",
     ),
     (
-        "[output]\nformat = \"sarif\"",
-        "line 2, column 1: key `format` in [output]: unknown word `sarif`, expected `terminal` or `json`",
+        "[output]\nformat = \"markdown\"",
+        "line 2, column 1: key `format` in [output]: unknown word `markdown`, expected `terminal`, `json` or `sarif`",
     ),
     (
         "[output]\nformat = \"jsn\"",
-        "line 2, column 1: key `format` in [output]: unknown word `jsn`, expected `terminal` or `json`; did you mean `json`?",
+        "line 2, column 1: key `format` in [output]: unknown word `jsn`, expected `terminal`, `json` or `sarif`; did you mean `json`?",
     ),
     (
         "[target]\narch = \"x86-64\"",

@@ -1,7 +1,7 @@
 -- The ranges between merged intervals.
 pub mod Agreement
 pub mod AreRanges
-pub mod Chain
+pub mod Adjacent
 pub mod Complement
 pub mod OwnOrder
 pub mod RangeEnds

@@ -224,7 +224,7 @@ fn no_two_sides(first: Op, second: Op) -> &'static str {
     match (first, second) {
         (Op::Greater | Op::GreaterEq, Op::Greater | Op::GreaterEq) => "there are two lower bounds",
         (Op::Less | Op::LessEq, Op::Less | Op::LessEq) => "there are two upper bounds",
-        _ => "`=`, `^`, `~` or a wildcard stands beside another comparator",
+        _ => "`=`, `^`, `~` or a wildcard is beside another comparator",
     }
 }
 

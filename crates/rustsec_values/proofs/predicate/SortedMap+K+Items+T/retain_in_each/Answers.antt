@@ -1,7 +1,7 @@
 use Rattle.std.proofs.Common.{rules, ◌≡◌, map}
 use Rattle.std.proofs.lemmas.Map.Made.{map_same_pairs}
 use Rattle.std.specs.List.{filter}
-use Rattle.rustsec_values.proofs.test.SortedMap+K+Items+T.retain_in_each.Goals as goal
+use Rattle.rustsec_values.proofs.predicate.SortedMap+K+Items+T.retain_in_each.Goals as goal
 
 pub returns : goal.returns
 returns g c =
