@@ -18,7 +18,6 @@ ghost use Rattle.rustsec_database.specs.Spans.{is_near, spans_of};
 
 use crate::entries::Entries;
 use crate::indexes::Indexes;
-use crate::matches::{Matches, MatchesPackage};
 use crate::pair::{Pair, push_pairs, vulnerabilities_of};
 use crate::slot::Slot;
 use crate::span::{Span, spans_of};
@@ -27,7 +26,7 @@ use rustsec_error::Result;
 use rustsec_folders::SourceFile;
 use rustsec_lock::Lockfile;
 use rustsec_lock::package::{Name, Package};
-use rustsec_query::{Query, Vulnerability};
+use rustsec_query::{Matches, MatchesPackage, Query, Vulnerability};
 use rustsec_texts::{Collection, Id};
 use rustsec_values::Predicate;
 use semver::Version;

@@ -8,7 +8,6 @@ mod indexes;
 mod keeping;
 mod kept;
 mod locked;
-mod matches;
 mod open;
 mod pair;
 pub mod placement;

@@ -7,9 +7,9 @@ ghost use Rattle.rustsec_json.specs.Trees.{optional_tree, text_tree};
 ghost use Rattle.rustsec_report.specs.Trees.{with_members};
 ghost use Rattle.rustsec_explain_output.specs.ExplainTree.{entry_entries, entry_tree};
 
-use crate::object::{Members, put_tree};
 use rustsec_json::ToTree;
 use rustsec_policy::Ignored;
+use rustsec_report::{Members, put_tree};
 use serde_json::Value;
 use std::alloc::{AllocError, Global};
 

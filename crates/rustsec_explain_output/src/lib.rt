@@ -2,7 +2,6 @@
 #![tactic(auto)]
 
 mod entry_tree;
-mod object;
 mod rules;
 mod text;
 mod tree;

@@ -14,7 +14,6 @@ ghost use Rattle.rustsec_explain_output.specs.ExplainTree.{explain_tree, further
 ghost use Rattle.rustsec_explain_output.specs.ReasonWords.{reason_words};
 
 use crate::entry_tree::tree_of_entry;
-use crate::object::{Members, put_tree};
 use crate::rules::{Rules, entry_of};
 use crate::words::reason_words;
 use rustsec_error::Result;
@@ -22,6 +21,7 @@ use rustsec_explain::{Explained, Reason};
 use rustsec_json::ToTree;
 use rustsec_lock::SourceId;
 use rustsec_lock::package::Package;
+use rustsec_report::{Members, put_tree};
 use rustsec_versions::requirement_text;
 use semver::VersionReq;
 use serde_json::Value;

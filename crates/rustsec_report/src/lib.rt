@@ -24,6 +24,7 @@ pub use crate::binary_format::BinaryFormat;
 pub use crate::filter::filter_report_by_binary_type;
 pub use crate::generate::{find_vulnerabilities, find_warnings};
 pub use crate::info::{LockfileInfo, VulnerabilityInfo};
+pub use crate::object::{Members, put_tree};
 pub use crate::report::Report;
 pub use crate::report_ref::ReportRef;
 pub use crate::settings::Settings;

@@ -15,11 +15,15 @@ use serde_json::{Map, Value};
 use std::alloc::{AllocError, Global};
 
 /// The members of an object.
-pub(crate) type Members = Map<String, Value>;
+pub type Members = Map<String, Value>;
 
 /// Sets a key to a tree.
+///
+/// # Errors
+///
+/// Out of memory.
 #[tactic(auto, unfolding(crate::specs::Trees::with_members))]
-pub(crate) fn put_tree(
+pub fn put_tree(
     alloc: Global,
     members: &mut Members,
     key: &str,

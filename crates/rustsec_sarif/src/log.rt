@@ -9,7 +9,7 @@ ghost use Rattle.rustsec_check_output.specs.CheckTree.{tree_line};
 ghost use Rattle.rustsec_sarif.specs.SarifTree.{driver_entries, log_entries, run_entries, run_tree, sarif_tree, tool_tree, yanked_of};
 
 use crate::firsts::firsts;
-use crate::object::{Members, object_with, put_text, put_tree};
+use crate::object::{object_with, put_text};
 use crate::results::results_tree;
 use crate::rules::rule_trees;
 use crate::said::File;
@@ -17,6 +17,7 @@ use rustsec_check::{Finding, Yanked};
 use rustsec_check_output::Written;
 use rustsec_error::Result;
 use rustsec_places::Place;
+use rustsec_report::{Members, put_tree};
 use serde_json::Value;
 use std::alloc::{AllocError, Global};
 

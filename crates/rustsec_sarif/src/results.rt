@@ -8,13 +8,14 @@ ghost use Rattle.rustsec_sarif.specs.SarifTree.{finding_said, fingerprint_entrie
 
 use crate::firsts::rule_index;
 use crate::messages::{finding_words, fingerprint, level, yanked_words};
-use crate::object::{Members, message_tree, object_with, put_text, put_tree};
+use crate::object::{message_tree, object_with, put_text};
 use crate::rules::YANKED;
 use crate::said::{File, Said};
 use crate::uri::path_uri;
 use rustsec_check::{Finding, Yanked};
 use rustsec_lock::package::Package;
 use rustsec_places::Place;
+use rustsec_report::{Members, put_tree};
 use serde_json::Value;
 use std::alloc::{AllocError, Global};
 

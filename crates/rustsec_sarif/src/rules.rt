@@ -7,11 +7,12 @@ ghost use Rattle.rustsec_report.specs.Trees.{with_members};
 ghost use Rattle.rustsec_sarif.specs.SarifTree.{address_entries, class_entries, message_tree, properties_entries, properties_tree, rule_entries, rule_tree, said_entries, severity_entries, yanked_entries, yanked_rule_tree, yanked_rules};
 
 use crate::messages::{help_words, long_words, short_words};
-use crate::object::{Members, message_tree, put_text, put_tree};
+use crate::object::{message_tree, put_text};
 use crate::uri::address_uri;
 use rustsec_advisory::Address;
 use rustsec_check::{Finding, Yanked};
 use rustsec_check_output::rating::{kind_text, score_text, tenths_of};
+use rustsec_report::{Members, put_tree};
 use serde_json::Value;
 use std::alloc::{AllocError, Global};
 

@@ -1,14 +1,15 @@
-//! Tests of advisories by a query, for searches of a database.
+//! Tests of advisories by a query.
 
+use crate::query::Query;
 use rustsec_advisory::Advisory;
 use rustsec_lock::package::Package;
-use rustsec_query::Query;
 use rustsec_values::Predicate;
 
 /// The test whether an advisory matches a query.
 #[derive(Drop)]
-pub(crate) struct Matches<'a> {
-    pub(crate) query: &'a Query,
+pub struct Matches<'a> {
+    /// The query.
+    pub query: &'a Query,
 }
 
 impl<'a> Predicate<Advisory> for Matches<'a> {
@@ -23,9 +24,11 @@ impl<'a> Predicate<Advisory> for Matches<'a> {
 
 /// The test whether an advisory matches a query for a package.
 #[derive(Drop)]
-pub(crate) struct MatchesPackage<'a> {
-    pub(crate) query: &'a Query,
-    pub(crate) package: &'a Package,
+pub struct MatchesPackage<'a> {
+    /// The query.
+    pub query: &'a Query,
+    /// The package, whose name, version and source are asked for.
+    pub package: &'a Package,
 }
 
 impl<'a> Predicate<Advisory> for MatchesPackage<'a> {
