@@ -1,5 +1,6 @@
 pub mod Advised
 pub mod AsReport
+pub mod AsWarnings
 pub mod BothKinds
 pub mod Fixes
 pub mod FoundPackages

@@ -4,9 +4,9 @@ ghost use Rattle.std.specs.Prelude.{◌≡◌, ◌-◌, not, IfErr, IfOk, map};
 ghost use Rattle.std.specs.List.{filter, list_any};
 ghost use Rattle.rustsec_error.specs.Failure.{IsMemory};
 ghost use Rattle.rustsec_database.specs.Loaded.{has_id};
-ghost use Rattle.rustsec_report.specs.Report.{vulnerabilities};
+ghost use Rattle.rustsec_report.specs.Report.{vulnerabilities, warnings};
 ghost use Rattle.rustsec_lock.specs.Lockfile.{AreValid};
-ghost use Rattle.rustsec_check.specs.AsReport.{vulnerabilities_in};
+ghost use Rattle.rustsec_check.specs.AsReport.{vulnerabilities_in, warnings_among};
 ghost use Rattle.rustsec_check.specs.Checks.{IsCheckOf, any_severity, count_of, is_known, is_unused};
 ghost use Rattle.rustsec_check.specs.Pairs.{found};
 ghost use Rattle.rustsec_check.specs.Subjects.{subject_view};
@@ -137,6 +137,10 @@ pub fn check<'a>(alloc: Global, subject: Subject<'a>) -> Result<Check<'a>>
     // The findings that are vulnerabilities are those of a report with these settings.
     ensures as_reports { IfOk result (λ c. vulnerabilities_in c.findings
         ≡ vulnerabilities subject.entry.database.now subject.entry.lockfile.now.packages subject.entry.settings.now) }
+
+    // The findings that are warnings are those of the report, by their kinds.
+    ensures as_warnings { IfOk result (λ c. warnings_among c.findings
+        ≡ warnings subject.entry.database.now subject.entry.lockfile.now.packages subject.entry.settings.now) }
     ensures err { IfErr result IsMemory }
 {
     let subject = Viewed::new(subject);
