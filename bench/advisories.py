@@ -15,7 +15,7 @@ def words(r, n):
 
 
 def usual_file(r, number, packages=None):
-    """The name and text of an advisory as the database has them, about 2 kB: of one of 500 packages, or of so many in turn."""
+    """The name and text of an advisory as the database has them, about 2 kB: of one of 500 packages, or of as many in turn as are given."""
     year, name = 2016 + number % 10, f"crate-{number % packages if packages else r.randrange(500)}"
     major, minor, patch = r.randint(1, 3), r.randint(1, 9), r.randint(0, 9)
     text = f'''{FENCE}toml

@@ -42,7 +42,7 @@ def texts_of(package, is_old):
 
 
 def named(entry, packages, texts):
-    """The places of the package that an entry names, of which there is one or none."""
+    """The place of the package that an entry names, in a list; an empty list if there is none."""
     fitting = [i for i in range(len(packages)) if entry in texts[i]]
     local = [i for i in fitting if not packages[i].source]
     releases = {(packages[i].name, packages[i].version) for i in fitting}
@@ -198,7 +198,7 @@ def ignored_tree(case, package, kind, advisory):
 
 
 def notes_of_policy(asked):
-    """What the policy asks of the network, and of sources and yanked packages in vain, and its keys without effect."""
+    """What the policy wants from the network, and in vain about sources and yanked packages, and its keys without effect."""
     database, yanked = asked.database, asked.yanked
     network = (database.get("fetch", "url" in database), yanked.get("enabled", yanked.get("update_index", False)))
     idle = [f"`{key}` in [output]" for key in asked.shown]

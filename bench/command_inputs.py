@@ -49,7 +49,7 @@ def many_files(r, root):
 
 
 def root_of(r, folder, often=0.5):
-    """A root with an advisory or a few, of which one may be changed, as often as given; seldom one with thousands."""
+    """A root with an advisory or a few, one of them changed as often as given; seldom one with thousands."""
     root = os.path.join(folder, "root")
     os.makedirs(os.path.join(root, "crates"), exist_ok=True)
     databases.random_database(r, root)
@@ -81,7 +81,7 @@ def change_file(r, path, other):
 
 
 def changed_words(r, words):
-    """Words of which some are left out, doubled, exchanged or odd; mostly the words themselves."""
+    """Words, some of them left out, doubled, exchanged or odd; mostly the words themselves."""
     words = list(words)
     for _ in range(r.choice([0] * 8 + [1, 1, 2])):
         at, to = r.randrange(len(words) + 1), r.randrange(len(words) + 1)
@@ -90,7 +90,7 @@ def changed_words(r, words):
 
 
 def more_options(r):
-    """Options of a check, of which some values are odd."""
+    """Options of a check, some with odd values."""
     words = []
     for _ in range(r.choice([0, 0, 0, 1, 3])):
         option = r.choice([*ODD_VALUES, *FLAGS])
@@ -163,7 +163,7 @@ def change_case(r, case):
 
 
 def list_of(r, case):
-    """The input of `check-many`: paths of lockfiles, some of which are missing, refused or no paths at all."""
+    """The input of `check-many`: paths of lockfiles. Some are missing or refused, and some are not paths."""
     paths = [case.lock, case.root, policy_of(case), "", "absent", "\0", case.lock + "\r"]
     if r.random() < pieces.LARGE:
         return "".join(case.lock + "\n" for _ in range(LISTED)).encode()

@@ -73,7 +73,7 @@ def merged_patched_of_an_advisory(command, data, ours, theirs):
 
 
 def starts_in_some_file(command, data, ours, theirs):
-    """The two starts, in a file of a database that ours reads, and may refuse for where it stands."""
+    """The two starts, in a file of a database that ours reads, and may refuse for its place."""
     return starts_of_an_advisory(command, data, (ours[0], 0), theirs)
 
 

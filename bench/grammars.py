@@ -164,7 +164,7 @@ def every(read):
 
 
 def fields(required, null={}, default={}):
-    """An object: keys that must be there, keys where null stands for none, and keys with a default."""
+    """An object: keys that must be there, keys where null means none, and keys with a default."""
     def read(value):
         must(isinstance(value, dict))
         unknown = False
@@ -217,7 +217,7 @@ document = fields(
 
 
 def has_links(references):
-    """Whether each link to an advisory has an ID behind it."""
+    """Whether each link to an advisory has an ID after it."""
     front = "https://rustsec.org/advisories/"
     links = [r["url"][len(front):].encode()[:17] for r in references if r["url"].startswith(front)]
     return all(len(link) == 17 and is_id(link.decode()) for link in links)

@@ -1,6 +1,6 @@
 """Random inputs of `affected` and `ranges` that try to find a difference: bounds that touch or are equal,
 numbers at 2^64-1, chains of pre-releases, build metadata, wildcards, malformed lines, blank lines,
-carriage returns, bytes that are no UTF-8."""
+carriage returns, bytes that are not UTF-8."""
 from rules import LIMIT, Version
 
 PRES = [
@@ -90,7 +90,7 @@ def comparator(r, op, v):
 
 
 def between(r, low, high):
-    """A requirement whose interval is about from one point to another; None is no bound."""
+    """A requirement whose interval is about from one point to another; None means unbounded."""
     if low is None and high is None:
         return "*"
     if low is None:

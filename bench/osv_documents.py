@@ -253,7 +253,7 @@ def change_text(r, text):
 
 
 def broken(r):
-    """A document of which one place was changed: taken away, replaced, changed or doubled."""
+    """A document with one place changed: taken away, replaced, altered or doubled."""
     made = copy.deepcopy(document(r))
     holder, key = r.choice(places(made, []))
     way = r.random()

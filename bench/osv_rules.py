@@ -68,7 +68,7 @@ def items(check, unique=False):
 
 
 def fields(keys, required=(), more=True):
-    """An object: what stands at its keys, which must be there, and whether others may."""
+    """An object: what is at its keys, which must be there, and whether others may."""
     def check(place, value):
         if not isinstance(value, dict):
             yield "kind", place, value

@@ -191,7 +191,7 @@ def ended(r, data, other):
 
 
 def long(r, data, other):
-    """A piece so many times that time or memory beyond a multiple of the size would show."""
+    """A piece as often as is needed so that time or memory beyond a multiple of the size would show."""
     a = r.randrange(len(data) + 1)
     piece = data[a:a + r.choice([1, 2, 10, 50])] or b"a"
     return data[:a] + piece * (r.choice([100, 1000, 1000, 20_000]) // len(piece)) + data[a:]

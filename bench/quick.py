@@ -2,8 +2,8 @@
 goal, in a few minutes.
 
 A small C program, launch.c, starts each process and reports its processor time and the most memory that it held. The
-runs of a row take turns, and the best time of each program stands in the table. Beside a command over a database
-stands the time of limit.c, a C program that lists the same folders and reads each file once: "times the limit" is our
+runs of a row take turns, and the best time of each program is in the table. Beside a command over a database
+is the time of limit.c, a C program that lists the same folders and reads each file once: "times the limit" is our
 time by that one. `cc` builds both into a temporary folder.
 """
 import os
@@ -22,7 +22,7 @@ PACKAGES = 500
 
 class Row:
     """An operation: its name, the words and the input of a call, the goal of the ratio, how often it is run at the most,
-    and the words of the limit program, if it has one."""
+    and the words of the limit program, if any."""
 
     def __init__(self, name, words, goal, runs, data=os.devnull, limit=None):
         self.name, self.words, self.goal, self.runs, self.data, self.limit = name, words, goal, runs, data, limit

@@ -62,7 +62,7 @@ def block_end(text, i):
 
 
 def ghost_end(text, i):
-    """The same of a clause, in which a quote may end a name."""
+    """Likewise for a clause, in which a quote may end a name."""
     depth = 0
     while i < len(text):
         if text[i] == '"':
@@ -216,7 +216,7 @@ def read_item(text, item, indent, parent):
 
 
 def name_impl(item):
-    """The type that an `impl` is of, and its trait, if there is one."""
+    """The type that an `impl` is of, and its trait, if any."""
     header = re.sub(r"^impl\s*", "", " ".join(item.text.split()))
     if header.startswith("<"):
         depth = 0

@@ -15,7 +15,7 @@ compares take turns, and the ratio that tells most is the median of those of all
 Half of these ratios are between the quartiles.
 
 With --counts, the instructions of `check-many` and of that one process instead of times. They repeat from run to run, but
-say nothing about how long memory is waited for.
+do not show how long memory is waited for.
 
 Each table is there twice: for a database whose advisories are about 500 packages, so that there are many findings, and for
 one with a package for each advisory.
@@ -89,7 +89,7 @@ def single(options, root, lock, policy):
 
 
 def list_of(root, locks, number):
-    """A file with so many paths of lockfiles, these in turn."""
+    """A file with this number of paths of lockfiles, these in turn."""
     path = os.path.join(os.path.dirname(root), f"list-{number}")
     with open(path, "w") as f:
         f.writelines(locks[at % len(locks)] + "\n" for at in range(number))
