@@ -198,7 +198,7 @@ def ignored_tree(case, package, kind, advisory):
 
 
 def notes_of_policy(asked):
-    """What the policy wants from the network, and in vain about sources and yanked packages, and its keys without effect."""
+    """The notes on the policy: on the network, on sources and yanked packages that it asks in vain, on keys without effect."""
     database, yanked = asked.database, asked.yanked
     network = (database.get("fetch", "url" in database), yanked.get("enabled", yanked.get("update_index", False)))
     idle = [f"`{key}` in [output]" for key in asked.shown]

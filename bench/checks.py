@@ -190,7 +190,7 @@ class Asked:
         self.systems = r.sample(SYSTEMS, 1) if r.random() < 0.15 else []
         self.words_systems = r.sample(SYSTEMS, 1) if r.random() < 0.1 else []
         self.allows_empty = r.random() < 0.7
-        self.format = r.choice(["json", "terminal"]) if r.random() < 0.2 else None
+        self.format = r.choice(["json", "terminal", "sarif"]) if r.random() < 0.2 else None
         self.shown = {key: r.random() < 0.5 for key in ("quiet", "show_tree") if r.random() < 0.1}
         self.source = r.choice(["all", "public", "local"]) if r.random() < 0.15 else None
         self.database = {key: value for key, value in (
