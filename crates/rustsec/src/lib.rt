@@ -13,11 +13,11 @@ pub mod advisory {
         pub use rustsec_texts::{FunctionPath, Identifier};
     }
 
-    pub use rustsec_advisory::{Address, Advisory, Affected, Linter, Metadata, linter, metadata};
+    pub use rustsec_advisory::{Advisory, Affected, Linter, Metadata, linter, metadata};
     pub use rustsec_lock::Severity;
     pub use rustsec_texts::{
-        Category, Date, FunctionPath, Id, IdKind, Identifier, Informational, Keyword, License,
-        Parts,
+        Address, Category, Date, FunctionPath, Id, IdKind, Identifier, Informational, Keyword,
+        License, Parts,
     };
     pub use rustsec_versions::Versions;
 }

@@ -1,6 +1,6 @@
 -- The rows of a key call it unknown exactly if no reader asks for it.
 use Rattle.std.proofs.Common.{◌≡◌, ◌⊎◌, ◌++◌, ℕ, Bool, List, [], ◌∷◌, Option, Some, None, true, false, All, Contains, codes, flat_map, is_some, not, refl, sym, ap, true≢false, inl, inr}
-use Rattle.std.proofs.lemmas.Bool.{cond_both, or_from}
+use Rattle.std.proofs.lemmas.Bool.{cond_both, not-false, not-true, or_from}
 use Rattle.std.proofs.lemmas.List.Elements.{All-append, All-cons, All-contains, All-nil}
 use Rattle.std.specs.Cmp.Lexicographic.{bytes_decides}
 use Rattle.std.specs.List.{list_all}
@@ -110,14 +110,6 @@ module _ (P : LintError → Type 0) where
 abbrev pub linted_keys : List (List ℕ)
 linted_keys = codes "id" ∷ codes "categories" ∷ codes "collection" ∷ codes "informational" ∷ codes "url" ∷ codes "yanked" ∷ codes "license" ∷ quiet_keys
 
-false-from-not : (b : Bool) → not b ≡ true → b ≡ false
-false-from-not true h = sym h
-false-from-not false h = refl
-
-true-from-not : (b : Bool) → not b ≡ false → b ≡ true
-true-from-not true h = refl
-true-from-not false h = sym h
-
 module _ (draft : Option Bool) (m : Metadata) (key : List ℕ) (d : Data) where
   abbrev AdvisoryAgrees : List LintError → Type 0
   AdvisoryAgrees rows = IsUnknown ReadsMetadata (Some (codes "advisory")) key rows
@@ -161,8 +153,8 @@ module _ (draft : Option Bool) (m : Metadata) (key : List ℕ) (d : Data) where
       (λ is. named (codes "license") refl is _ (license-all IsOfValue value content m.license))
       (λ not_license. cond_both (not (is_one_of quiet_keys key)) _ _ AdvisoryAgrees
       (λ loud. unknown covered (or_from _ _ not_id (or_from _ _ not_categories (or_from _ _ not_collection (or_from _ _ not_informational
-      (or_from _ _ not_url (or_from _ _ not_yanked (or_from _ _ not_license (false-from-not (is_one_of quiet_keys key) loud)))))))))
-      (λ is. quiet included (true-from-not (is_one_of quiet_keys key) is)))))))))
+      (or_from _ _ not_url (or_from _ _ not_yanked (or_from _ _ not_license (not-true (is_one_of quiet_keys key) loud)))))))))
+      (λ is. quiet included (not-false (is_one_of quiet_keys key) is)))))))))
 
 -- ---- the sections `affected` and `versions`
 
@@ -181,18 +173,18 @@ module _ (a : Advisory) (key : List ℕ) where
       (λ not_functions. cond_both (not (is_one_of platform_keys key)) _ _ AffectedAgrees
       (λ other. inl (
         affected-unread key
-            (not-within affected_keys (codes "functions" ∷ platform_keys) refl key (or_from _ _ not_functions (false-from-not (is_one_of platform_keys key) other))),
+            (not-within affected_keys (codes "functions" ∷ platform_keys) refl key (or_from _ _ not_functions (not-true (is_one_of platform_keys key) other))),
         refl,
       ))
-      (λ is. affected-known (within platform_keys affected_keys refl key (true-from-not (is_one_of platform_keys key) is)) [] (All-nil IsOfValue)))
+      (λ is. affected-known (within platform_keys affected_keys refl key (not-false (is_one_of platform_keys key) is)) [] (All-nil IsOfValue)))
 
   abbrev VersionsAgree : List LintError → Type 0
   VersionsAgree rows = IsUnknown AreVersions (Some (codes "versions")) key rows ⊎ IsKnown AreVersions (Some (codes "versions")) key rows
 
   versions-agree : VersionsAgree (versions_rows key)
   versions-agree = cond_both (not (is_one_of versions_keys key)) _ _ VersionsAgree
-      (λ other. inl (versions-unread key (false-from-not (is_one_of versions_keys key) other), refl))
-      (λ is. inr (versions-read key (true-from-not (is_one_of versions_keys key) is), not-called [] (Some (codes "versions")) key (All-nil IsOfValue)))
+      (λ other. inl (versions-unread key (not-true (is_one_of versions_keys key) other), refl))
+      (λ is. inr (versions-read key (not-false (is_one_of versions_keys key) is), not-called [] (Some (codes "versions")) key (All-nil IsOfValue)))
 
 -- ---- the top of the document
 

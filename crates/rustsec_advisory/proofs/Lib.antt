@@ -6,7 +6,6 @@ pub mod KeyOrder
 pub mod KnownKeys
 pub mod LintRefusals
 pub mod Members
-pub mod PlainAddresses
 pub mod QuietKeys
 pub mod ReadKeys
 pub mod Rows

@@ -1,6 +1,6 @@
 -- A quiet key has no row.
 use Rattle.std.proofs.Common.{◌≡◌, ◌∙◌, ℕ, Bool, true, false, not, List, [], ◌∷◌, Option, ap, codes, refl, sym, true≢false, ⊎_elim}
-use Rattle.std.proofs.lemmas.Bool.{and_parts, or_cases, or_parts}
+use Rattle.std.proofs.lemmas.Bool.{and_parts, not-true, or_cases, or_parts}
 use Rattle.std.specs.Cmp.Lexicographic.{bytes_decides}
 use Rattle.std.specs.List.{list_all}
 use Rattle.std.specs.Str.{bytes_eq}
@@ -8,16 +8,12 @@ use Rattle.toml.specs.Data.{Data}
 use Rattle.rustsec_advisory.specs.LintErrors.{advisory_rows, is_one_of, quiet_keys}
 use Rattle.rustsec_advisory.specs.declared.metadata.Metadata.{Metadata}
 
-false_from_not : (b : Bool) → not b ≡ true → b ≡ false
-false_from_not true h = sym h
-false_from_not false h = refl
-
 -- of two lists of keys without a common one, a key of the first is not one of the second
 apart : (xs ys : List (List ℕ)) → list_all (λ k. not (is_one_of ys k)) xs ≡ true → (key : List ℕ) → is_one_of xs key ≡ true → is_one_of ys key ≡ false
 apart [] ys all key h = absurd (true≢false (sym h))
 apart (x ∷ xs) ys all key h =
     let parts = and_parts (not (is_one_of ys x)) (list_all (λ k. not (is_one_of ys k)) xs) all in
-    ⊎_elim (λ same. ap (is_one_of ys) ((bytes_decides key x).0 same) ∙ false_from_not (is_one_of ys x) parts.0) (apart xs ys parts.1 key)
+    ⊎_elim (λ same. ap (is_one_of ys) ((bytes_decides key x).0 same) ∙ not-true (is_one_of ys x) parts.0) (apart xs ys parts.1 key)
     (or_cases (bytes_eq key x) (is_one_of xs key) h)
 
 -- the keys that may have a row

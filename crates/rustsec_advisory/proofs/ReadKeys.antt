@@ -16,7 +16,7 @@ use Rattle.rustsec_texts.specs.Dates.{date_of}
 use Rattle.rustsec_texts.specs.Ids.{id_of}
 use Rattle.rustsec_texts.specs.Informational.{informational_of}
 use Rattle.rustsec_texts.specs.Licenses.{default_license, license_of}
-use Rattle.rustsec_advisory.specs.Addresses.{address_of}
+use Rattle.rustsec_texts.specs.Addresses.{address_of}
 use Rattle.rustsec_advisory.specs.Requirements.{requirements_of}
 use Rattle.rustsec_toml.specs.Fields.{defaulted, every, optional, required, text, value_or}
 use Rattle.rustsec_advisory.specs.Advisory.{AreVersions, IsAffectedAt}

@@ -1,4 +1,3 @@
-pub mod Addresses
 pub mod Advisory
 pub mod Affected
 pub mod EqualityLaws
@@ -9,5 +8,4 @@ pub mod KnownKeys
 pub mod LintErrors
 pub mod Lints
 pub mod Metadata
-pub mod PlainAddresses
 pub mod Requirements

@@ -10,7 +10,7 @@ use Rattle.rustsec_texts.specs.Dates.{date_of}
 use Rattle.rustsec_texts.specs.Ids.{id_of}
 use Rattle.rustsec_texts.specs.Informational.{informational_of}
 use Rattle.rustsec_texts.specs.Licenses.{default_license, license_of}
-use Rattle.rustsec_advisory.specs.Addresses.{address_of}
+use Rattle.rustsec_texts.specs.Addresses.{address_of}
 use Rattle.rustsec_advisory.specs.FieldGroups.{kinds_of, origin_of, subject_of, terms_of}
 use Rattle.rustsec_advisory.specs.declared.metadata.Kinds.{Kinds}
 use Rattle.rustsec_advisory.specs.declared.metadata.Metadata.{Metadata}

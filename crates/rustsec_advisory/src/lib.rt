@@ -1,7 +1,6 @@
 //! Advisories of the RustSec database: their files, and the linter for them.
 #![tactic(auto)]
 
-mod address;
 mod advisory;
 mod affected;
 mod front_matter;
@@ -12,10 +11,8 @@ mod lint_rules;
 mod lint_values;
 pub mod linter;
 pub mod metadata;
-mod plain_address;
 mod requirements;
 
-pub use crate::address::Address;
 pub use crate::advisory::{Advisory, first_line};
 pub use crate::affected::Affected;
 pub use crate::functions::Functions;

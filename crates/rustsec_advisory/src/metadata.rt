@@ -4,11 +4,10 @@ ghost use Rattle.std.specs.Prelude.{◌≡◌, IfErr, IfOk};
 ghost use Rattle.rustsec_advisory.specs.FieldGroups.{kinds_of, origin_of, subject_of, terms_of};
 ghost use Rattle.rustsec_error.specs.Failure.{IsMemory};
 
-use crate::address::Address;
 use rustsec_error::Result;
 use rustsec_lock::package::Name;
 use rustsec_lock::{Cvss, SourceId};
-use rustsec_texts::{Category, Collection, Date, Id, Informational, Keyword, License};
+use rustsec_texts::{Address, Category, Collection, Date, Id, Informational, Keyword, License};
 use rustsec_values::{ExactClone, ExactEq, Items, Text};
 use std::alloc::{AllocError, Global};
 

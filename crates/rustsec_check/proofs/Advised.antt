@@ -1,7 +1,8 @@
 -- Updates by what the findings about one package share.
-use Rattle.std.proofs.Common.{◌≡◌, ◌⊎◌, ◌==◌, ◌&&◌, ◌||◌, Bool, true, false, List, [], ◌∷◌, Option, Some, None, arith, inl, inr, length, not, refl, subst}
+use Rattle.std.proofs.Common.{◌≡◌, ◌⊎◌, ◌==◌, ◌||◌, Bool, true, false, List, [], ◌∷◌, Option, Some, None, arith, inl, inr, length, not, refl, subst}
 use Rattle.std.specs.List.{list_any}
-use Rattle.std.proofs.lemmas.Bool.{cases_Bool, eqb-true}
+use Rattle.std.proofs.lemmas.Bool.{cases_Bool, eqb-true, not-true, or_cases, or_from, or_right}
+use Rattle.std.specs.Cmp.{first_so, second_so}
 use Rattle.semver.specs.Parse.{Parts}
 use Rattle.rustsec_versions.specs.Equality.{lists_eq}
 use Rattle.rustsec_versions.specs.EqualityLaws.{lists_decides}
@@ -19,13 +20,6 @@ use Rattle.rustsec_check.proofs.Movers.{ids-alike, none-less}
 right-false : (a b : Bool) → (a || b) ≡ false → b ≡ false
 right-false true b h = cc h
 right-false false b h = h
-
-right-true : (a b : Bool) → b ≡ true → (a || b) ≡ true
-right-true true b h = refl
-right-true false b h = h
-
-both-false : (a b : Bool) → a ≡ false → b ≡ false → (a || b) ≡ false
-both-false a b h k = rw (h, k) refl
 
 left-true : (a b : Bool) → b ≡ false → (a || b) ≡ true → a ≡ true
 left-true true b h k = refl
@@ -53,13 +47,13 @@ module _ (a : Advisory) (others : List Advisory) (v : Parts) where
   free-with None free is = record {
     some = λ w e. cc e;
     least = λ w e u valid up h. cc e;
-    none = λ e u valid up. right-true (affected a.versions u) (is_affected (lists_of others) u) (is.none refl u valid up);
+    none = λ e u valid up. or_right (affected a.versions u) (is_affected (lists_of others) u) (is.none refl u valid up);
     itself = λ h. is.itself (free-others v h);
     plain = λ w e h. cc e;
   }
   free-with (Some w) free is = record {
     some = λ x e. subst (λ (x : Parts). IsVersion x × (is_at_most v x ≡ true) × (is_affected (lists_of (a ∷ others)) x ≡ false)) (some-same w x e)
-        ((is.some w refl).0, (is.some w refl).1, both-false (affected a.versions w) (is_affected (lists_of others) w) free (is.some w refl).2);
+        ((is.some w refl).0, (is.some w refl).1, or_from (affected a.versions w) (is_affected (lists_of others) w) free (is.some w refl).2);
     least = λ x e u valid up h. subst (λ (x : Parts). is_at_most x u ≡ true) (some-same w x e) (is.least w refl u valid up (free-others u h));
     none = λ e u valid up. cc e;
     itself = λ h. is.itself (free-others v h);
@@ -101,7 +95,7 @@ same-moves a kept v answer ls h m = record {
   from = m.from;
   below = m.below;
   held = m.held;
-  is_free = both-false (affected a.versions m.at) (is_affected (lists_of kept) m.at) (held-too a kept m.at h m.is_free) m.is_free;
+  is_free = or_from (affected a.versions m.at) (is_affected (lists_of kept) m.at) (held-too a kept m.at h m.is_free) m.is_free;
 }
 
 nothing : {A : Type 0} (xs : List A) → (length xs == 0) ≡ true → xs ≡ []
@@ -120,28 +114,12 @@ module _ (ids : List IdValue) (a : Advisory) (kept others : List Advisory) (v : 
 
 -- ---- updates
 
-and-left : (a b : Bool) → (a && b) ≡ true → a ≡ true
-and-left true b h = refl
-and-left false b h = cc h
-
-and-right : (a b : Bool) → (a && b) ≡ true → b ≡ true
-and-right true b h = h
-and-right false b h = cc h
-
-or-either : (a b : Bool) → (a || b) ≡ true → (a ≡ true) ⊎ (b ≡ true)
-or-either true b h = inl refl
-or-either false b h = inr h
-
-not-false : (b : Bool) → not b ≡ true → b ≡ false
-not-false true h = cc h
-not-false false h = refl
-
 pub advised : (p : PackageValue) (a : Advisory) (v : AdviceValue) → IsAdvice p v → is_same_with v a ≡ true
     → IsUpdateFor v.counted.ids (a ∷ []) v.counted.others p.version v.update
 advised p a v is same =
     let kept = in_force v.counted.ids v.counted.others in
-    let free = not-false (affects v.update.least_free a) (and-left (not (affects v.update.least_free a)) _ same) in
-    let either = or-either (length v.update.moved_by == 0) (list_any (λ b. lists_eq b.versions a.versions) kept) (and-right (not (affects v.update.least_free a)) _ same) in
+    let free = not-true (affects v.update.least_free a) (first_so (not (affects v.update.least_free a)) _ same) in
+    let either = or_cases (length v.update.moved_by == 0) (list_any (λ b. lists_eq b.versions a.versions) kept) (second_so (not (affects v.update.least_free a)) _ same) in
     record {
       least_free = free-with a v.counted.others p.version v.update.least_free free is.least_free;
       is_compatible = is.is_compatible;

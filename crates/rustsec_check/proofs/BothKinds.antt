@@ -3,7 +3,7 @@ use Rattle.std.proofs.Common.{◌≡◌, ◌∙◌, ◌&&◌, ℕ, Bool, true, f
 use Rattle.std.specs.Prelude.{if◌then◌else◌, is_some}
 use Rattle.std.specs.Bool.{beq}
 use Rattle.std.specs.List.{cons_option, filter, filter_map}
-use Rattle.std.proofs.lemmas.Bool.{cases_Bool}
+use Rattle.std.proofs.lemmas.Bool.{and_right, cases_Bool}
 use Rattle.rustsec_lock.specs.Package.{PackageValue}
 use Rattle.rustsec_texts.specs.declared.informational.Informational.{Informational}
 use Rattle.rustsec_advisory.specs.declared.advisory.Advisory.{Advisory}
@@ -13,10 +13,6 @@ use Rattle.rustsec_query.specs.Selects.{as_withdrawn, has_name, has_source, has_
 use Rattle.rustsec_report.specs.declared.settings.Settings.{Settings}
 use Rattle.rustsec_report.specs.Report.{informational_query, query_of}
 use Rattle.rustsec_check.specs.Pairs.{as_unwarned, as_vulnerable, as_wanted, query_of_both, vulnerable_at, wanted_at}
-
-and-false : (b c : Bool) → c ≡ false → (b && c) ≡ false
-and-false true c h = h
-and-false false c h = refl
 
 module _ (s : Settings) (placed : ℕ × PackageValue) where
   abbrev q : Asked
@@ -39,7 +35,7 @@ module _ (s : Settings) (placed : ℕ × PackageValue) where
   others a last = is_audited placed.1 && (before a && last)
 
   others-false : (a : Advisory) (last : Bool) → last ≡ false → others a last ≡ false
-  others-false a last h = and-false (is_audited placed.1) (before a && last) (and-false (before a) last h)
+  others-false a last h = and_right (is_audited placed.1) (before a && last) (and_right (before a) last h)
 
   finds-vulnerable : (a : Advisory) → finds (query_of s) placed.1 a ≡ others a (beq false (is_some a.metadata.informational))
   unfolding selects

@@ -1,7 +1,7 @@
 -- A check by the advisories that a test passes, among them each that bears on a package of the lockfile, is the check by all
 -- of them, once its ignored IDs go by the IDs of all.
-use Rattle.std.proofs.Common.{◌≡◌, ◌∙◌, ◌&&◌, ◌||◌, ◌+◌, ◌-◌, ◌++◌, ℕ, Bool, true, false, List, [], ◌∷◌, ap, inl, inr, length, map, nat_eq, not, refl, subst, sym}
-use Rattle.std.proofs.lemmas.Bool.{cases_Bool}
+use Rattle.std.proofs.Common.{◌≡◌, ◌∙◌, ◌&&◌, ◌+◌, ◌-◌, ◌++◌, ℕ, Bool, true, false, List, [], ◌∷◌, ap, inl, inr, length, map, nat_eq, not, refl, subst, sym}
+use Rattle.std.proofs.lemmas.Bool.{cases_Bool, or_left, or_right}
 use Rattle.std.specs.Cmp.{first_so, second_so}
 use Rattle.std.specs.Cmp.Lexicographic.{bytes_decides, pointwise}
 use Rattle.std.specs.List.{All, enumerate_from, filter, filter_map, flat_map, list_any}
@@ -106,19 +106,11 @@ mends-kept ids advisories test p passes a u h =
 
 -- ---- all packages
 
-left : (a b : Bool) → a ≡ true → (a || b) ≡ true
-left true b h = refl
-left false b h = absurd (cc h)
-
-right : (a b : Bool) → b ≡ true → (a || b) ≡ true
-right true b h = refl
-right false b h = h
-
 passes-first : (test : Advisory → Bool) (p : PackageValue) (ps : List PackageValue) → PassesBearing test (p ∷ ps) → Passes test p
-passes-first test p ps any a h = any a (left (bears_on a p) (bears_on_any ps a) h)
+passes-first test p ps any a h = any a (or_left (bears_on a p) (bears_on_any ps a) h)
 
 passes-rest : (test : Advisory → Bool) (p : PackageValue) (ps : List PackageValue) → PassesBearing test (p ∷ ps) → PassesBearing test ps
-passes-rest test p ps any a h = any a (right (bears_on a p) (bears_on_any ps a) h)
+passes-rest test p ps any a h = any a (or_right (bears_on a p) (bears_on_any ps a) h)
 
 found-from-kept : (advisories : List Advisory) (s : Settings) (test : Advisory → Bool) (n : ℕ) (packages : List PackageValue) → PassesBearing test packages
     → flat_map (found_at (filter test advisories) s) (enumerate_from n packages) ≡ flat_map (found_at advisories s) (enumerate_from n packages)

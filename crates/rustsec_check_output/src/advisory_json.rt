@@ -8,8 +8,9 @@ use crate::list_json::push_ids;
 use crate::part::{First, Key, push_first, push_key};
 use crate::quoted::push_quoted;
 use crate::rating::{score_text, severity_of, tenths_of};
-use rustsec_advisory::{Address, Metadata};
+use rustsec_advisory::Metadata;
 use rustsec_lock::Cvss;
+use rustsec_texts::Address;
 use std::alloc::{AllocError, Global};
 
 /// Appends the text of a vector, null without a vector.

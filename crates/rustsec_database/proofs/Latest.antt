@@ -1,16 +1,17 @@
 -- The latest of some dates, found in one pass.
-use Rattle.std.proofs.Common.{◌≡◌, ◌∙◌, ◌&&◌, ◌||◌, ℕ, Bool, true, false, cond, List, [], ◌∷◌, ◌++◌, Option, Some, None, refl, sym, ap, append-nil, append_assoc, inl, inr, subst, ◌+◌, ◌<◌, ◌≤◌, get_or, length, map, take}
+use Rattle.std.proofs.Common.{◌≡◌, ◌∙◌, ◌||◌, ℕ, Bool, true, false, cond, List, [], ◌∷◌, ◌++◌, Option, Some, None, refl, sym, ap, append-nil, append_assoc, inl, inr, subst, ◌+◌, ◌<◌, ◌≤◌, get_or, length, map, take}
 use Rattle.std.specs.Cmp.Lexicographic.{bytes_decides, pointwise, slice_cmp, texts_ties}
 use Rattle.std.specs.List.{find, list_all, list_any}
 use Rattle.std.specs.Ordering.{is_eq, is_gt, is_le, nat_cmp, ordering_reverse}
 use Rattle.std.specs.Prelude.{nat_eq}
 use Rattle.std.specs.declared.cmp.Ordering.{Ordering}
 use Rattle.std.specs.declared.cmp.Ordering.TheVariants as ordering
-use Rattle.std.proofs.lemmas.Bool.{cases_Bool}
+use Rattle.std.proofs.lemmas.Bool.{and_from, cases_Bool, or_left, or_right}
 use Rattle.std.proofs.lemmas.Cmp.{nat_list_cmp_total, tied_itself, upto}
 use Rattle.std.proofs.lemmas.List.Folds.{list_all-append, list_any-append}
 use mathlib.Core.Bool.{true≢false}
 use Rattle.std.proofs.lemmas.List.{map-append, take_all, take_more}
+use Rattle.std.specs.Cmp.{first_so, second_so}
 use Rattle.rustsec_advisory.specs.declared.advisory.Advisory.{Advisory}
 use Rattle.rustsec_database.specs.Latest.{last_date, later, latest}
 
@@ -60,24 +61,6 @@ till-till d e f h k =
 
 -- ---- lists of dates
 
-left : (a b : Bool) → (a && b) ≡ true → a ≡ true
-left true b h = refl
-left false b h = cc h
-
-right : (a b : Bool) → (a && b) ≡ true → b ≡ true
-right true b h = h
-right false b h = cc h
-
-both : (a b : Bool) → a ≡ true → b ≡ true → (a && b) ≡ true
-both a b h k = rw (h, k) refl
-
-either-second : (a b : Bool) → b ≡ true → (a || b) ≡ true
-either-second true b h = refl
-either-second false b h = h
-
-either-first : (a b : Bool) → a ≡ true → (a || b) ≡ true
-either-first a b h = rw h refl
-
 other-one : (a b : Bool) → a ≡ false → (a || b) ≡ true → b ≡ true
 other-one a b h k = rw h at k
 
@@ -85,28 +68,28 @@ other-one a b h k = rw h at k
 all-same : (p : List ℕ → Bool) (d : List ℕ) (ds : List (List ℕ)) → list_all p ds ≡ true → list_any (same d) ds ≡ true → p d ≡ true
 all-same p d [] h k = cc k
 all-same p d (x ∷ xs) h k = elim (cases_Bool (same d x)) [
-  | inl is ↦ ap p (sym ((bytes_decides x d).0 is)) ∙ left (p x) (list_all p xs) h
-  | inr other ↦ all-same p d xs (right (p x) (list_all p xs) h) (other-one (same d x) (list_any (same d) xs) other k)
+  | inl is ↦ ap p (sym ((bytes_decides x d).0 is)) ∙ first_so (p x) (list_all p xs) h
+  | inr other ↦ all-same p d xs (second_so (p x) (list_all p xs) h) (other-one (same d x) (list_any (same d) xs) other k)
 ]
 
 -- dates that are not after one are not after a later one
 all-later : (d e : List ℕ) (ds : List (List ℕ)) → till d e ≡ true → list_all (λ x. till x d) ds ≡ true → list_all (λ x. till x e) ds ≡ true
 all-later d e [] h k = refl
 all-later d e (x ∷ xs) h k =
-    both (till x e) (list_all (λ y. till y e) xs) (till-till x d e (left (till x d) (list_all (λ y. till y d) xs) k) h)
-    (all-later d e xs h (right (till x d) (list_all (λ y. till y d) xs) k))
+    and_from (till x e) (list_all (λ y. till y e) xs) (till-till x d e (first_so (till x d) (list_all (λ y. till y d) xs) k) h)
+    (all-later d e xs h (second_so (till x d) (list_all (λ y. till y d) xs) k))
 
 find-only : (p : List ℕ → Bool) (d : List ℕ) → p d ≡ true → ((x : List ℕ) → till x d ≡ true → p x ≡ true → x ≡ d) → (xs : List (List ℕ))
     → list_all (λ x. till x d) xs ≡ true → list_any (same d) xs ≡ true → find p xs ≡ Some d
 find-only p d holds only [] h k = cc k
 find-only p d holds only (x ∷ xs) h k = elim (cases_Bool (p x)) [
-  | inl passes ↦ rw passes (ap Some (only x (left (till x d) (list_all (λ y. till y d) xs) h) passes))
+  | inl passes ↦ rw passes (ap Some (only x (first_so (till x d) (list_all (λ y. till y d) xs) h) passes))
   | inr other ↦
       let differs : same d x ≡ false = elim (cases_Bool (same d x)) [
         | inl is ↦ absurd (true≢false (sym (ap p ((bytes_decides x d).0 is) ∙ holds) ∙ other))
         | inr unlike ↦ unlike
       ] in
-      rw other (find-only p d holds only xs (right (till x d) (list_all (λ y. till y d) xs) h) (other-one (same d x) (list_any (same d) xs) differs k))
+      rw other (find-only p d holds only xs (second_so (till x d) (list_all (λ y. till y d) xs) h) (other-one (same d x) (list_any (same d) xs) differs k))
 ]
 
 -- ---- the latest one
@@ -128,16 +111,16 @@ latest-start = refl
 one-more : (d other : List ℕ) (ds : List (List ℕ)) (b : Bool) → till d other ≡ b → IsLatest ds (Some other)
     → IsLatest (ds ++ d ∷ []) (cond b (Some other) (Some d))
 one-more d other ds true h k = (
-  list_all-append (λ x. till x other) ds (d ∷ []) ∙ both (list_all (λ x. till x other) ds) _ k.0 (both (till d other) true h refl),
-  list_any-append (same other) ds (d ∷ []) ∙ either-first (list_any (same other) ds) _ k.1,
+  list_all-append (λ x. till x other) ds (d ∷ []) ∙ and_from (list_all (λ x. till x other) ds) _ k.0 (and_from (till d other) true h refl),
+  list_any-append (same other) ds (d ∷ []) ∙ or_left (list_any (same other) ds) _ k.1,
 )
 one-more d other ds false h k = (
-  list_all-append (λ x. till x d) ds (d ∷ []) ∙ both (list_all (λ x. till x d) ds) _ (all-later other d ds (till-turned d other h) k.0) (both (till d d) true (till-self d) refl),
-  list_any-append (same d) ds (d ∷ []) ∙ either-second (list_any (same d) ds) _ (either-first (same d d) false ((bytes_decides d d).1 refl)),
+  list_all-append (λ x. till x d) ds (d ∷ []) ∙ and_from (list_all (λ x. till x d) ds) _ (all-later other d ds (till-turned d other h) k.0) (and_from (till d d) true (till-self d) refl),
+  list_any-append (same d) ds (d ∷ []) ∙ or_right (list_any (same d) ds) _ (or_left (same d d) false ((bytes_decides d d).1 refl)),
 )
 
 pub latest-more : (ds : List (List ℕ)) (o : Option (List ℕ)) (d : List ℕ) → IsLatest ds o → IsLatest (ds ++ d ∷ []) (later o d)
-latest-more ds None d h = rw h (both (till d d) true (till-self d) refl, either-first (same d d) false ((bytes_decides d d).1 refl))
+latest-more ds None d h = rw h (and_from (till d d) true (till-self d) refl, or_left (same d d) false ((bytes_decides d d).1 refl))
 latest-more ds (Some other) d h = one-more d other ds (till d other) refl h
 
 -- ---- the dates of advisories

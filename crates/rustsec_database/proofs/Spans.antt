@@ -1,6 +1,6 @@
 -- No version outside of the span of some requirements is affected.
-use Rattle.std.proofs.Common.{◌≡◌, ◌∙◌, ◌&&◌, ◌||◌, ◌++◌, ◌==◌, ℕ, Bool, true, false, List, [], ◌∷◌, Option, None, Some, ap, arith, inl, inr, length, not, refl, subst, sym}
-use Rattle.std.proofs.lemmas.Bool.{cases_Bool}
+use Rattle.std.proofs.Common.{◌≡◌, ◌∙◌, ◌&&◌, ◌||◌, ◌++◌, ◌==◌, ℕ, true, false, List, [], ◌∷◌, Option, None, Some, ap, arith, inl, inr, length, not, refl, subst, sym}
+use Rattle.std.proofs.lemmas.Bool.{and_from, cases_Bool, or_left, or_right}
 use Rattle.std.proofs.lemmas.Grind.{common_steps}
 use Rattle.std.proofs.lemmas.List.Elements.{filter_map-append}
 use Rattle.std.proofs.lemmas.List.Folds.{list_any-append}
@@ -26,9 +26,6 @@ use Rattle.rustsec_database.specs.Spans.{end_at, end_by, first_end, first_start,
 
 -- ---- one requirement
 
-both : (a b : Bool) → a ≡ true → b ≡ true → (a && b) ≡ true
-both a b x y = λ i. x i && y i
-
 nothing : (xs : List ℕ) → (length xs == 0) ≡ true → xs ≡ []
 nothing [] h = refl
 nothing (x ∷ xs) h = grind (arith, common_steps)
@@ -49,7 +46,7 @@ named-by c x h =
     let third : fits (unwrap_or c.3 0) ≡ true = and-second (fits (unwrap_or c.2 0)) (fits (unwrap_or c.3 0)) more in
     let pre : is_pre_release c.4 ≡ true = ap is_pre_release none in
     record {
-      names = both _ _ first (both _ _ second (both _ _ third pre));
+      names = and_from _ _ first (and_from _ _ second (and_from _ _ third pre));
       base = (λ i. (c.1, unwrap_or c.2 0, unwrap_or c.3 0, none i, [])) ∙ some-same _ _ t.1;
     }
 
@@ -66,7 +63,7 @@ from-at op.GreaterEq c x v is h at =
     record {
       interval = record { start = inclusive (base_version c); end = unbounded };
       is = (λ i. admitted (only_if ((n.names i) && true) (of_one (is i) c)));
-      held = both _ _ from refl;
+      held = and_from _ _ from refl;
     }
 from-at op.Greater c x v is h at = cc h
 from-at op.Less c x v is h at = cc h
@@ -111,21 +108,14 @@ start-holds (c ∷ d ∷ rest) x v h at = cc h
 abbrev SomeHolds : List (List Held) → Parts → Type 0
 SomeHolds rs v = list_any (λ i. holds i v) (filter_map interval_of rs) ≡ true
 
-left : (a b : Bool) → a ≡ true → (a || b) ≡ true
-left a b h = ap (λ c. c || b) h
-
-right : (a b : Bool) → b ≡ true → (a || b) ≡ true
-right true b h = refl
-right false b h = h
-
 here : (r : List Held) (rs : List (List Held)) (v : Parts) → HoldsBy r v → SomeHolds (r ∷ rs) v
 here r rs v h =
     ap (λ (o : Option Interval). list_any (λ i. holds i v) (cons_option o (filter_map interval_of rs))) h.is
-    ∙ left (holds h.interval v) (list_any (λ i. holds i v) (filter_map interval_of rs)) h.held
+    ∙ or_left (holds h.interval v) (list_any (λ i. holds i v) (filter_map interval_of rs)) h.held
 
 further : (o : Option Interval) (is : List Interval) (v : Parts) → list_any (λ i. holds i v) is ≡ true → list_any (λ i. holds i v) (cons_option o is) ≡ true
 further None is v h = h
-further (Some i) is v h = right (holds i v) (list_any (λ i. holds i v) is) h
+further (Some i) is v h = or_right (holds i v) (list_any (λ i. holds i v) is) h
 
 first-end-step : (o : Option Parts) (r : List Held) (rs : List (List Held)) (x v : Parts) → end_by r ≡ o → or_else o (first_end rs) ≡ Some x
     → is_at_most x v ≡ true → (first_end rs ≡ Some x → SomeHolds rs v) → SomeHolds (r ∷ rs) v
@@ -153,10 +143,10 @@ joined rs qs v =
     ∙ list_any-append (λ i. holds i v) (filter_map interval_of rs) (filter_map interval_of qs)
 
 in-front : (rs qs : List (List Held)) (v : Parts) → SomeHolds rs v → SomeHolds (rs ++ qs) v
-in-front rs qs v h = joined rs qs v ∙ left _ _ h
+in-front rs qs v h = joined rs qs v ∙ or_left _ _ h
 
 at-back : (rs qs : List (List Held)) (v : Parts) → SomeHolds qs v → SomeHolds (rs ++ qs) v
-at-back rs qs v h = joined rs qs v ∙ right _ _ h
+at-back rs qs v h = joined rs qs v ∙ or_right _ _ h
 
 -- ---- the span
 
@@ -188,7 +178,7 @@ from-span ls v (Some x) is h = elim (cases_Bool (is_at_most x v)) [
 -- an affected version is in the span
 pub in-span : (ls : Lists) (v : Parts) → affected ls v ≡ true → in_range (span_of ls) v ≡ true
 unfolding span_of
-in-span ls v h = both _ _ (from-span ls v (first_start ls.unaffected) refl h) (till-span ls v (first_end ls.patched) refl h)
+in-span ls v h = and_from _ _ (from-span ls v (first_start ls.unaffected) refl h) (till-span ls v (first_end ls.patched) refl h)
 
 past : (ls : Lists) (v w : Parts) (o : Option Parts) → first_end ls.patched ≡ o → is_until o v ≡ false → is_at_most v w ≡ true → affected ls w ≡ false
 past ls v w None is h at = cc h

@@ -7,6 +7,7 @@ use Rattle.std.specs.HashMap as hash
 use Rattle.std.specs.HashMap.{HashMap, Updates}
 use Rattle.std.specs.List.{filter, find, list_any, position_from}
 use Rattle.std.specs.Option.{option_eq}
+use Rattle.std.proofs.lemmas.Bool.{and_from, and_left, and_right}
 use denote.Enum.Bare.{sameb}
 use Rattle.semver.specs.Parse.{Parts}
 use Rattle.rustsec_versions.specs.acceptance.Lists.{affected}
@@ -72,17 +73,6 @@ new-in-table list a id m same table none =
 
 -- ---- the index of a collection
 
-both : (a b : Bool) → a ≡ true → b ≡ true → (a && b) ≡ true
-both true b h k = k
-both false b h k = absurd (cc h)
-
-second-fails : (a b : Bool) → b ≡ false → (a && b) ≡ false
-second-fails true b h = h
-second-fails false b h = refl
-
-first-fails : (a b : Bool) → a ≡ false → (a && b) ≡ false
-first-fails a b h = rw h refl
-
 pub name-back : (a b : List ℕ) → pointwise nat_eq a b ≡ false → pointwise nat_eq b a ≡ false
 name-back a b h = is-false (pointwise nat_eq b a) (λ t. cc (sym h ∙ (bytes_decides a b).1 (sym ((bytes_decides b a).0 t))))
 
@@ -92,14 +82,14 @@ index-step : (c : Collection) (before : List Advisory) (a : Advisory) (slot : �
     → cond b (with_slot slot (slots_at a.metadata.«package» old)) (slots_at name old) ≡ places_from (is_under c name) 0 (before ++ a ∷ [])
 index-step c before a slot old name true is under at index =
     let same : a.metadata.«package» ≡ name = (bytes_decides a.metadata.«package» name).0 is in
-    let here : is_under c name a ≡ true = both _ _ under ((bytes_decides name a.metadata.«package»).1 (sym same)) in
+    let here : is_under c name a ≡ true = and_from _ _ under ((bytes_decides name a.metadata.«package»).1 (sym same)) in
     let places = places_from (is_under c name) 0 before in
     let slots : slots_at a.metadata.«package» old ≡ places = ap (λ n. slots_at n old) same ∙ index name in
     (λ i. with_slot (at i) (slots i))
     ∙ (with_slot-last places (length before) (places-below (is_under c name) 0 (length before) before (sym (plus-zero (length before))))
     ∙ (ap (λ (n : ℕ). places ++ n ∷ []) (plus-zero (length before)) ∙ sym (places-in (is_under c name) 0 before a here)))
 index-step c before a slot old name false is under at index =
-    index name ∙ sym (places-out (is_under c name) 0 before a (second-fails _ _ (name-back a.metadata.«package» name is)))
+    index name ∙ sym (places-out (is_under c name) 0 before a (and_right _ _ (name-back a.metadata.«package» name is)))
 
 pub indexed-in : (c : Collection) (before : List Advisory) (a : Advisory) (slot : ℕ) (old new : List (List ℕ × List ℕ))
     → option_eq (sameb collection) (Some c) a.metadata.collection ≡ true
@@ -111,7 +101,7 @@ indexed-in c before a slot old new under put at index name =
 pub indexed-out : (c : Collection) (before : List Advisory) (a : Advisory) (old : List (List ℕ × List ℕ))
     → option_eq (sameb collection) (Some c) a.metadata.collection ≡ false → IsIndexOf c before old → IsIndexOf c (before ++ a ∷ []) old
 indexed-out c before a old under index name =
-    index name ∙ sym (places-out (is_under c name) 0 before a (first-fails _ _ under))
+    index name ∙ sym (places-out (is_under c name) 0 before a (and_left _ _ under))
 
 -- the index of the first advisories, with one more
 pub index-more : (c : Collection) (all : List Advisory) (i : ℕ) (a : Advisory) (slot : ℕ) (old new : List (List ℕ × List ℕ)) → i < length all → a ≡ get_or all i a
@@ -135,7 +125,7 @@ pub selected-under : (q : Asked) (c : Collection) (name : List ℕ) (a : Advisor
     → selects q a ≡ true → is_under c name a ≡ true
 selected-under q c name a of named h =
     let two = first-two q a h in
-    both _ _
+    and_from _ _
     (subst (λ o. if_there (λ c. option_eq (sameb collection) (Some c) a.metadata.collection) o ≡ true) (sym of) (first_so (in_collection q a) (has_name q a) two))
     (subst (λ o. if_there (λ n. pointwise nat_eq n a.metadata.«package») o ≡ true) (sym named) (second_so (in_collection q a) (has_name q a) two))
 

@@ -17,8 +17,8 @@ use rustsec_versions::Versions;
 use std::alloc::Global;
 use std::marker::Model;
 
-/// The packages of a lockfile, with an index by their names. Contracts see it as the list of the packages. As a test it
-/// passes the advisories that are about one of them and affect its version.
+/// The packages of a lockfile, with an index by their names. Contracts see it as the list of the packages. As a predicate it
+/// holds for the advisories that are about one of them and affect its version.
 #[derive(Drop)]
 pub struct Locked<'a> {
     packages: &'a [Package],
@@ -128,8 +128,8 @@ fn bears_on_some(span: &Span, packages: &[Package], slots: &[Slot]) -> bool
     slots.iter().any(|slot| bears_at(span, packages, *slot))
 }
 
-/// The packages of a lockfile, with an index by their names. Contracts see it as the list of the packages. As a test it
-/// passes the advisories that bear on one of them: those about it, unless the first patched requirement that is `>=` of a
+/// The packages of a lockfile, with an index by their names. Contracts see it as the list of the packages. As a predicate it
+/// holds for the advisories that bear on one of them: those about it, unless the first patched requirement that is `>=` of a
 /// release alone has a release that is not above the locked version. Such an advisory affects neither that version nor a
 /// later one.
 #[derive(Drop)]

@@ -20,7 +20,7 @@ pub(crate) enum PlacementError {
     FileName,
     /// The folder is not named after the package.
     Folder,
-    /// The folder is not in a collection.
+    /// The folder is in no collection.
     Parent,
     /// The advisory names another collection than that of the folder.
     Collection,
@@ -126,7 +126,7 @@ fn message(
             "another folder, expected `{package}`, the package"
         ),
         PlacementError::Parent => {
-            format!(in alloc; "the folder is not in a collection, expected `crates` or `rust`")
+            format!(in alloc; "the folder is in no collection, expected `crates` or `rust`")
         }
         PlacementError::Collection => {
             format!(in alloc; "another `collection` in [advisory], expected that of the folder")

@@ -1,7 +1,7 @@
 -- A document without signs has no form.
 use Rattle.std.proofs.Common.{◌≡◌, ◌∙◌, ◌==◌, ◌&&◌, ◌||◌, ◌-◌, ℕ, zero, suc, Bool, true, false, if◌then◌else◌, List, [], ◌∷◌, ◌++◌, Option, None, Some, ap, append-nil, append_assoc, arith, inl, inr, length, not, refl, slice_index, sym, take, true≢false}
 use Rattle.std.specs.Char.{is_digit}
-use Rattle.std.proofs.lemmas.Bool.{cases_Bool}
+use Rattle.std.proofs.lemmas.Bool.{and_left, and_right, cases_Bool}
 use Rattle.toml_parser.specs.Lexical.{backslash, colon, first, left_brace, left_bracket, right_brace, right_bracket, line_feed}
 use Rattle.rustsec_places.specs.Places.{after_token, next_token, up_to}
 use Rattle.rustsec_edition.specs.Forms.{after_bracket, first_form, first_from, form_at, has_line_feed_after, has_new_escape, is_in_table, is_last_comma, is_new_string, is_short_time, is_table_end, is_table_split, last}
@@ -50,13 +50,6 @@ no_signs earlier before [] h k = refl
 no_signs earlier before (b ∷ bs) h k =
     front earlier before b bs (or_first (is_sign earlier before b) _ h) (or_first (b == left_brace && not (closes 100 [] (b ∷ bs))) _ k)
     ∙ no_signs before b bs (or_second (is_sign earlier before b) _ h) (or_second (b == left_brace && not (closes 100 [] (b ∷ bs))) _ k)
-
-first_false : (a b : Bool) → a ≡ false → (a && b) ≡ false
-first_false a b h = rw h refl
-
-and_false : (a b : Bool) → b ≡ false → (a && b) ≡ false
-and_false true b h = h
-and_false false b h = refl
 
 -- ---- what a token shows where no sign comes
 
@@ -190,7 +183,7 @@ all_false : {A : Type 0} (a b c d : Bool) (w x y z : A) → a ≡ false → b �
 all_false a b c d w x y z e f g h = rw (e, f, g, h) refl
 
 no_string : (text : List ℕ) → IsClean text → is_new_string text ≡ false
-no_string text h = and_false _ _ (no_escape (length text - length (after_token text)) text h)
+no_string text h = and_right _ _ (no_escape (length text - length (after_token text)) text h)
 
 -- a token other than a left brace, outside of a table
 no_form : (brackets : List ℕ) (before : ℕ) (text : List ℕ) → IsClean text → NoBrace brackets → (first text == left_brace) ≡ false → form_at brackets before text ≡ None
@@ -198,7 +191,7 @@ no_form brackets before text h k other =
     let now = brace_at brackets (length brackets - 1) k in
     let open_then = after_bracket (first text) brackets in
     let later = brace_at open_then (length open_then - 1) (brace_after (first text) brackets k other) in
-    all_false _ _ _ _ form.Time form.Escape form.Comma form.LineFeed (no_time before text h) (no_string text h) (first_false _ _ now) (first_false _ _ later)
+    all_false _ _ _ _ form.Time form.Escape form.Comma form.LineFeed (no_time before text h) (no_string text h) (and_left _ _ now) (and_left _ _ later)
 
 -- a left brace, outside of a table, if no line feed follows it
 no_form_brace : (brackets : List ℕ) (before : ℕ) (bs : List ℕ) → IsClean (left_brace ∷ bs) → NoBrace brackets → breaks_table [] (left_brace ∷ bs) ≡ false
@@ -207,7 +200,7 @@ no_form_brace brackets before bs h k whole =
     let text = left_brace ∷ bs in
     let now = brace_at brackets (length brackets - 1) k in
     let feed : has_line_feed_after text ≡ false = or_second (is_table_end [] text) (is_table_split [] text) whole in
-    all_false _ _ _ _ form.Time form.Escape form.Comma form.LineFeed (no_time before text h) (no_string text h) (first_false _ _ now) (and_false _ _ feed)
+    all_false _ _ _ _ form.Time form.Escape form.Comma form.LineFeed (no_time before text h) (no_string text h) (and_left _ _ now) (and_right _ _ feed)
 
 -- a token that keeps each table whole
 no_form_whole : (brackets : List ℕ) (before : ℕ) (text : List ℕ) → IsClean text → breaks_table brackets text ≡ false → form_at brackets before text ≡ None

@@ -5,6 +5,7 @@ use Rattle.std.specs.Bool.{beq}
 use Rattle.std.specs.List.{cons_option, list_any}
 use Rattle.std.proofs.lemmas.List.Elements.{filter_map-append}
 use Rattle.std.proofs.lemmas.List.Folds.{list_any-append}
+use Rattle.std.proofs.lemmas.Bool.{not-false}
 use Rattle.semver.specs.Parse.{Held, Parts}
 use Rattle.rustsec_versions.specs.interval.Interval.{Interval, holds}
 use Rattle.rustsec_versions.specs.acceptance.Lists.{affected}
@@ -135,13 +136,9 @@ some-row s a p =
     ∙ all-tests (is_default_there p.source) (in_collection q a) (has_name q a) (affected a.versions p.version) (has_source q a) (is_severe q a)
     (on_arch q a) (on_os q a) (is_some a.metadata.withdrawn) (is_some a.metadata.informational) (gives s a.metadata.informational) (is_ignored s a)))
 
-is-so : (b : Bool) → not b ≡ false → b ≡ true
-is-so true h = refl
-is-so false h = absurd (cc h)
-
 pub complete : (s : Settings) (a : Advisory) (p : PackageValue) → (reasons_of s a p ≡ []) ↔ (is_finding s a p ≡ true)
 unfolding reasons_of
 complete s a p = (
-  λ h. is-so (is_finding s a p) (sym (some-row s a p) ∙ none-apply (rows s a p) h),
+  λ h. not-false (is_finding s a p) (sym (some-row s a p) ∙ none-apply (rows s a p) h),
   λ h. no-reasons (rows s a p) (some-row s a p ∙ ap not h),
 )

@@ -1,11 +1,12 @@
 -- Names in lower case are ASCII.
-use Rattle.std.proofs.Common.{◌≡◌, ◌<◌, ◌&&◌, ◌+◌, ◌++◌, ℕ, zero, suc, Bool, true, false, List, [], ◌∷◌, arith, drop, get_or, length, refl, subst, take, Some}
+use Rattle.std.proofs.Common.{◌≡◌, ◌<◌, ◌+◌, ◌++◌, ℕ, zero, suc, Bool, true, false, List, [], ◌∷◌, arith, drop, get_or, length, refl, subst, take, Some}
 use Rattle.std.specs.Char.{to_ascii_lowercase}
 use Rattle.std.specs.Cmp.{first_so, second_so}
 use Rattle.std.specs.List.{list_all}
 use Rattle.std.specs.Str.{IsAscii}
 use Rattle.std.proofs.lemmas.Bool.Decides.{nat_tests}
 use Rattle.std.proofs.lemmas.List.{get_or-drop, map-append, take_more}
+use Rattle.std.proofs.lemmas.Bool.{and_right}
 use Rattle.rustsec_values.specs.Reading.{only_if}
 use Rattle.rustsec_index.specs.IndexPath.{is_name_byte, lower_case}
 
@@ -23,14 +24,10 @@ lower-ascii (b ∷ bs) h (suc i) = lower-ascii bs (second_so (is_name_byte b) _ 
 
 -- ---- names, byte by byte
 
-and-none : (a b : Bool) → b ≡ false → (a && b) ≡ false
-and-none true b h = h
-and-none false b h = refl
-
 pub all-stops : (p : ℕ → Bool) (xs : List ℕ) (i d : ℕ) → i < length xs → p (get_or xs i d) ≡ false → list_all p xs ≡ false
 all-stops p [] i d l h = absurd (omega arith)
 all-stops p (x ∷ xs) zero d l h = rw h refl
-all-stops p (x ∷ xs) (suc i) d l h = and-none (p x) (list_all p xs) (all-stops p xs i d (omega arith) h)
+all-stops p (x ∷ xs) (suc i) d l h = and_right (p x) (list_all p xs) (all-stops p xs i d (omega arith) h)
 
 pub all-push : (p : ℕ → Bool) (xs : List ℕ) (x : ℕ) → list_all p xs ≡ true → p x ≡ true → list_all p (xs ++ x ∷ []) ≡ true
 all-push p [] x h e = rw e refl

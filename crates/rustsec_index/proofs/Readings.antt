@@ -1,10 +1,11 @@
 -- The answers that were read, one name after another.
-use Rattle.std.proofs.Common.{◌≡◌, ◌∙◌, ◌+◌, ◌<◌, ◌||◌, ◌++◌, ℕ, Bool, true, false, cond, List, [], ◌∷◌, Option, Some, None, ap, get_or, inl, inr, length, nat_eq, refl, sym, take}
+use Rattle.std.proofs.Common.{◌≡◌, ◌∙◌, ◌+◌, ◌<◌, ◌++◌, ℕ, Bool, true, false, cond, List, [], ◌∷◌, Option, Some, None, ap, get_or, inl, inr, length, nat_eq, refl, sym, take}
 use Rattle.std.specs.Prelude.{◌⊎◌, is_some, option_copied}
 use Rattle.std.specs.Borrow.{Bor}
 use Rattle.std.specs.Cmp.Lexicographic.{bytes_decides, pointwise}
 use Rattle.std.proofs.lemmas.List.{take_more}
 use Rattle.std.proofs.lemmas.List.Folds.{list_any-append}
+use Rattle.std.proofs.lemmas.Bool.{or_cases}
 use Rattle.rustsec_folders.specs.Allowed.{Allowed, AllowSame}
 use Rattle.rustsec_lock.specs.Package.{PackageValue}
 use Rattle.rustsec_registry.specs.Lookups.{Answer, at}
@@ -48,16 +49,12 @@ added-now allowed place name old new answer set none h = record {
 
 -- ---- the names of packages
 
-or-true : (a b : Bool) → (a || b) ≡ true → (a ≡ true) ⊎ (b ≡ true)
-or-true true b h = inl refl
-or-true false b h = inr h
-
 named : (name : List ℕ) (ps : List PackageValue) (p : PackageValue) → has_name name (ps ++ p ∷ []) ≡ true
     → (has_name name ps ≡ true) ⊎ (name ≡ p.name)
 named name ps p h =
-    elim (or-true _ _ (sym (list_any-append (λ (q : PackageValue). pointwise nat_eq name q.name) ps (p ∷ [])) ∙ h)) [
+    elim (or_cases _ _ (sym (list_any-append (λ (q : PackageValue). pointwise nat_eq name q.name) ps (p ∷ [])) ∙ h)) [
       | inl before ↦ inl before
-      | inr now ↦ elim (or-true (pointwise nat_eq name p.name) false now) [
+      | inr now ↦ elim (or_cases (pointwise nat_eq name p.name) false now) [
         | inl same ↦ inr ((bytes_decides name p.name).0 same)
         | inr none ↦ cc none
       ]

@@ -4,6 +4,8 @@ use Rattle.std.specs.Prelude.{⊤}
 use Rattle.std.proofs.lemmas.List.Elements.{All-head, All-tail}
 use Rattle.std.specs.Cmp.Lexicographic.{bytes_decides}
 use Rattle.std.specs.Str.{bytes_eq}
+use Rattle.std.proofs.lemmas.Bool.{not-true}
+use Rattle.std.specs.Cmp.{first_so, second_so}
 use Rattle.serde_json.specs.Data.{Data, Members, no_members}
 use Rattle.serde_json.specs.Find.{as_null, get_member}
 use Rattle.serde_json.specs.View.{items_of}
@@ -64,18 +66,6 @@ second-false : (a b : Bool) → (a || b) ≡ false → b ≡ false
 second-false true b h = cc h
 second-false false b h = h
 
-not-true : (a : Bool) → not a ≡ true → a ≡ false
-not-true true h = cc h
-not-true false h = refl
-
-both-first : (a b : Bool) → (a && b) ≡ true → a ≡ true
-both-first true b h = refl
-both-first false b h = cc h
-
-both-second : (a b : Bool) → (a && b) ≡ true → b ≡ true
-both-second true b h = h
-both-second false b h = cc h
-
 -- a key of a list differs from one that the list does not have
 differs : (q k : List ℕ) (ks : List (List ℕ)) → has_key q ks ≡ true → has_key k ks ≡ false → q ≡ k → ⊥
 differs q k ks h new e = cc (subst (λ (x : List ℕ). has_key x ks ≡ true) e h, new)
@@ -114,11 +104,11 @@ module _ {S : Type 0} where
   members-held no_more s ms d none = tt
   members-held (field f part fs) s ms d none =
       let more = put_some f.key (f.tree (part s)) ms in
-      let new = not-true _ (both-first _ _ d) in
+      let new = not-true _ (first_so _ _ d) in
       let absent : AreAbsent (keys_in fs) more =
       (λ q h. put-other q f.key (f.tree (part s)) ms (differs q f.key (keys_in fs) h new) ∙ none q (later q f.key (keys_in fs) h)) in (
         members-other fs s f.key more new ∙ put-found f.key (f.tree (part s)) ms (none f.key (here f.key (keys_in fs))),
-        members-held fs s more (both-second _ _ d) absent,
+        members-held fs s more (second_so _ _ d) absent,
       )
     where
       later : (q k : List ℕ) (ks : List (List ℕ)) → has_key q ks ≡ true → has_key q (k ∷ ks) ≡ true

@@ -1,7 +1,7 @@
 -- The codecs of values that print a text and are parsed from it: their tree is that text.
 use Rattle.std.specs.Prelude.{ℕ, List}
 use Rattle.rustsec_json.specs.Codecs.{Codec, text_codec, word_codec}
-use Rattle.rustsec_advisory.specs.Addresses.{address_of}
+use Rattle.rustsec_texts.specs.Addresses.{address_of}
 use Rattle.rustsec_lock.specs.Cvss.{cvss_of, cvss_text}
 use Rattle.rustsec_lock.specs.Platforms.{arch_of, arch_text, os_of, os_text}
 use Rattle.rustsec_lock.specs.declared.cvss.Cvss.{Cvss}

@@ -6,13 +6,12 @@ ghost use Rattle.rustsec_json.specs.Fields.{text};
 use crate::make::ToTree;
 use crate::read::{FromTree, read_text};
 use crate::refusal::unexpected_error;
-use rustsec_advisory::Address;
 use rustsec_error::Result;
 use rustsec_lock::package::Name;
 use rustsec_lock::platforms::{Arch, OS};
 use rustsec_lock::{Cvss, SourceId};
 use rustsec_texts::{
-    Category, Collection, Date, FunctionPath, Id, Informational, Keyword, License,
+    Address, Category, Collection, Date, FunctionPath, Id, Informational, Keyword, License,
 };
 use rustsec_values::Text;
 use serde_json::Value;
@@ -165,7 +164,7 @@ impl ToTree for Address {
 
 impl FromTree for Address {
     ghost use Rattle.rustsec_json.specs.Fields.{text};
-    ghost use Rattle.rustsec_advisory.specs.Addresses.{address_of};
+    ghost use Rattle.rustsec_texts.specs.Addresses.{address_of};
 
     ghost reads = { text (address_of) };
 

@@ -1,7 +1,8 @@
 -- Accepted lists with two patched requirements whose intervals do not overlap.
-use Rattle.std.proofs.Common.{◌≡◌, ◌∙◌, ◌&&◌, ◌||◌, ◌++◌, Bool, true, false, List, [], ◌∷◌, Option, None, Some, ap, arith, get_or, length, map, refl, sym, true≢false}
+use Rattle.std.proofs.Common.{◌≡◌, ◌∙◌, ◌||◌, ◌++◌, Bool, true, false, List, [], ◌∷◌, Option, None, Some, ap, arith, get_or, length, map, refl, sym, true≢false}
 use Rattle.std.specs.Prelude.{filter_map, is_some}
 use Rattle.std.specs.List.{list_any}
+use Rattle.std.specs.Cmp.{first_so, second_so}
 use Rattle.semver.specs.Parse.{Held}
 use Rattle.rustsec_versions.specs.acceptance.Lists.{Lists, accepted, accepted_apart, all_admissible}
 use Rattle.rustsec_versions.specs.acceptance.Sweep.{are_clear, clashes, tag, tagged}
@@ -22,14 +23,6 @@ some-interval : (o : Option Interval) → is_some o ≡ true → (i : Interval) 
 some-interval None h = absurd (true≢false (sym h))
 some-interval (Some i) h = (i, refl)
 
-first-so : (a b : Bool) → (a && b) ≡ true → a ≡ true
-first-so true b h = refl
-first-so false b h = absurd (true≢false (sym h))
-
-second-so : (a b : Bool) → (a && b) ≡ true → b ≡ true
-second-so true b h = h
-second-so false b h = absurd (true≢false (sym h))
-
 -- a patched interval clashes with an unaffected one if they overlap
 as-unaffected : (i : Interval) (is : List Interval) → list_any (clashes (tag true i)) (map (tag false) is) ≡ list_any (clashes (tag false i)) (map (tag false) is)
 as-unaffected i [] = refl
@@ -47,8 +40,8 @@ two-accepted : (p q : List Held) (us : List (List Held)) → AreApart p q → ac
 two-accepted p q us apart h =
     let ls : Lists = record { patched = p ∷ q ∷ []; unaffected = us } in
     let all : all_admissible (p ∷ q ∷ us) ≡ true = accepted-all ls h in
-    let i = some-interval (interval_of p) (first-so _ _ all) in
-    let j = some-interval (interval_of q) (first-so _ _ (second-so (is_some (interval_of p)) _ all)) in
+    let i = some-interval (interval_of p) (first_so _ _ all) in
+    let j = some-interval (interval_of q) (first_so _ _ (second_so (is_some (interval_of p)) _ all)) in
     let plain = overlap-plain i.0 j.0 (interval_of-sound p i.0 i.1) (interval_of-sound q j.0 j.1) in
     accepted-clear (record { patched = []; unaffected = p ∷ q ∷ us }) all
     ∙ two-clear p q us i.0 j.0 i.1 j.1 (sym plain ∙ apart i.0 j.0 i.1 j.1) (sym (accepted-clear ls all) ∙ h)

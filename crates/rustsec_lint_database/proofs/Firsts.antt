@@ -6,6 +6,7 @@ use Rattle.std.proofs.lemmas.Option.{slice_get-map}
 use Rattle.std.specs.BTreeMap as tree
 use Rattle.std.specs.BTreeMap.{BTreeMap, Updates}
 use Rattle.std.specs.List.{find}
+use Rattle.std.proofs.lemmas.Bool.{false_from_ne_true}
 use Rattle.rustsec_folders.specs.Allowed.{Allowed, AllowSame}
 use Rattle.rustsec_folders.specs.Listed.{Pairwise, Paths}
 use Rattle.rustsec_folders.proofs.Lists.{pairwise-step, pairwise-weaker}
@@ -75,10 +76,6 @@ found-some id (g ∷ files) k h =
 
 -- ---- the table after one more file
 
-is-false : (b : Bool) → (b ≡ true → ⊥) → b ≡ false
-is-false true h = absurd (h refl)
-is-false false h = refl
-
 -- the file has no ID
 pub firsts-none : (firsts : BTreeMap IdValue ℕ) (files : List FileLint) (f : FileLint) → f.id ≡ None → AreFirsts firsts files → AreFirsts firsts (files ++ f ∷ [])
 firsts-none firsts files f none table q =
@@ -108,7 +105,7 @@ new-step files f id q o true is has none at =
     let here : has_id q f ≡ true = rw has ((id_decides q id).1 (sym same)) in
     sym (index-last q files f nowhere here)
 new-step files f id q o false is has none at =
-    let apart : id_eq q id ≡ false = is-false (id_eq q id) (λ t. cc (sym is ∙ (id_decides id q).1 (sym ((id_decides q id).0 t)))) in
+    let apart : id_eq q id ≡ false = false_from_ne_true (id_eq q id) (λ t. cc (sym is ∙ (id_decides id q).1 (sym ((id_decides q id).0 t)))) in
     let other : has_id q f ≡ false = rw has apart in
     at ∙ sym (index-other q files f other)
 

@@ -6,7 +6,7 @@ use Rattle.rustsec_versions.specs.interval.Interval.{Interval, overlap}
 use Rattle.rustsec_versions.specs.order.Precedence.{version_order}
 use Rattle.rustsec_versions.specs.requirement.Requirement.{interval_of}
 use Rattle.rustsec_lock.specs.Source.{Source, url_of}
-use Rattle.rustsec_advisory.specs.Addresses.{address_of}
+use Rattle.rustsec_texts.specs.Addresses.{address_of}
 use Rattle.rustsec_advisory.specs.declared.advisory.Advisory.{Advisory}
 use Rattle.rustsec_lint_database.specs.Remarks.{unless}
 use Rattle.rustsec_lint_database.specs.declared.remark.Remark.{Remark}

@@ -1,16 +1,17 @@
 //! What the Rust crate refuses of an advisory.
 
 ghost use Rattle.std.specs.Prelude.{◌≡◌, ◌++◌, IfOk, OnOk, is_some, true};
-ghost use Rattle.rustsec_advisory.specs.Addresses.{address_of};
+ghost use Rattle.rustsec_texts.specs.Addresses.{address_of};
 ghost use Rattle.rustsec_versions.specs.Views.{comparators_of};
 ghost use Rattle.rustsec_versions.specs.acceptance.Lists.{accepted_apart};
 ghost use Rattle.rustsec_lint_database.specs.Upstream.{AreApart, overlap_remarks, source_remarks, upstream_remarks};
 
 use crate::lines::{KeyIn, push_remarks};
 use crate::remark::{Remark, RemarkKind, push_remark};
-use rustsec_advisory::{Address, Advisory};
+use rustsec_advisory::Advisory;
 use rustsec_error::ErrorKind;
 use rustsec_lock::SourceId;
+use rustsec_texts::Address;
 use rustsec_values::{Items, Text};
 use rustsec_versions::{UnaffectedRange, Versions};
 use semver::{Version, VersionReq};

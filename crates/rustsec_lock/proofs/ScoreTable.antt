@@ -1,6 +1,6 @@
 -- Facts about each combination of values, by a test of all of them.
 use Rattle.std.proofs.Common.{◌≡◌, ℕ, ◌+◌, ◌-◌, ◌*◌, ◌^◌, ◌≤◌, ◌&&◌, ◌||◌, Bool, true, false, not, refl, nat_eq, nat_le, eq-eqb, ap, ◌<◌}
-use Rattle.std.proofs.lemmas.Bool.{eqb-true, le-leb, leb-true}
+use Rattle.std.proofs.lemmas.Bool.{eqb-true, le-leb, leb-true, not-true}
 use Rattle.std.specs.Cmp.{first_so, second_so}
 use Rattle.rustsec_lock.specs.declared.metrics.AttackComplexity.{AttackComplexity}
 use Rattle.rustsec_lock.specs.declared.metrics.AttackComplexity.TheVariants as attack_complexity
@@ -98,10 +98,6 @@ either : (s t : Bool) → (s || t) ≡ true → s ≡ false → t ≡ true
 either true t h e = cc e
 either false t h e = h
 
-not_false : (t : Bool) → not t ≡ true → t ≡ false
-not_false true h = cc h
-not_false false h = refl
-
 -- only the sub-score without any loss is 0, and any other one is at least 0.22
 pub harmless_without_score : (c : Confidentiality) (i : Integrity) (a : Availability) → iss_of c i a ≡ 0 → is_harmless c i a ≡ true
 harmless_without_score c i a e =
@@ -111,7 +107,7 @@ harmless_without_score c i a e =
 pub harmful_with_score : (c : Confidentiality) (i : Integrity) (a : Availability) → 0 < iss_of c i a → is_harmless c i a ≡ false
 harmful_with_score c i a h =
     let whole = at_loss (λ x y z. not (nat_le 1 (iss_of x y z)) || not (is_harmless x y z)) refl c i a in
-    not_false _ (either (not (nat_le 1 (iss_of c i a))) _ whole (ap not (le-leb 1 (iss_of c i a) h)))
+    not-true _ (either (not (nat_le 1 (iss_of c i a))) _ whole (ap not (le-leb 1 (iss_of c i a) h)))
 
 pub low_score : (c : Confidentiality) (i : Integrity) (a : Availability) → 0 < iss_of c i a → thousandths 220 ≤ iss_of c i a
 low_score c i a h =

@@ -1,5 +1,5 @@
 -- No byte of an escaped text starts structure.
-use Rattle.std.proofs.Common.{◌≡◌, ◌∙◌, ◌&&◌, ◌||◌, ◌==◌, ◌+◌, ◌/◌, ◌%◌, ◌<◌, ◌≤◌, ℕ, Bool, true, false, List, [], ◌∷◌, ◌++◌, refl, arith, flat_map, nat_le, nat_lt, zero, suc, le-leb, lt-ltb}
+use Rattle.std.proofs.Common.{◌≡◌, ◌∙◌, ◌||◌, ◌==◌, ◌+◌, ◌/◌, ◌%◌, ◌<◌, ◌≤◌, ℕ, Bool, true, false, List, [], ◌∷◌, ◌++◌, refl, arith, flat_map, nat_le, nat_lt, zero, suc, le-leb, lt-ltb}
 use Rattle.std.specs.Prelude.{if◌then◌else◌, codes}
 use Rattle.std.specs.Char.{encode_utf8, is_ascii_alphanumeric}
 use Rattle.std.specs.Char.Escape.{escape_unicode}
@@ -7,16 +7,11 @@ use Rattle.std.specs.Fmt.{decimal, digit_glyph, digits, digits_onto}
 use Rattle.std.specs.List.{list_all}
 use Rattle.std.specs.Str.{chars}
 use Rattle.std.proofs.lemmas.List.Folds.{list_all-append}
+use Rattle.std.proofs.lemmas.Bool.{and_from, or_left}
 use Rattle.rustsec_shown.specs.Shown.{is_hidden}
 use Rattle.rustsec_markdown.specs.Escaped.{escaped, escaped_char, is_harmless, is_linking, is_plain, joiner, parted, reference, referred}
 
 -- ---- truth tables
-
-both : (a b : Bool) → a ≡ true → b ≡ true → (a && b) ≡ true
-both a b h k = rw (h, k) refl
-
-first : (a b : Bool) → a ≡ true → (a || b) ≡ true
-first a b h = rw h refl
 
 third : (a b c d : Bool) → c ≡ true → ((a || (b || c)) || d) ≡ true
 third true b c d h = refl
@@ -26,7 +21,7 @@ third false false c d h = rw h refl
 -- ---- lists
 
 joined : (xs ys : List ℕ) → list_all is_harmless xs ≡ true → list_all is_harmless ys ≡ true → list_all is_harmless (xs ++ ys) ≡ true
-joined xs ys h k = list_all-append is_harmless xs ys ∙ both (list_all is_harmless xs) (list_all is_harmless ys) h k
+joined xs ys h k = list_all-append is_harmless xs ys ∙ and_from (list_all is_harmless xs) (list_all is_harmless ys) h k
 
 each : (f : ℕ → List ℕ) → ((c : ℕ) → list_all is_harmless (f c) ≡ true) → (cs : List ℕ) → list_all is_harmless (flat_map f cs) ≡ true
 each f h [] = refl
@@ -38,12 +33,12 @@ chosen true xs ys h k = h refl
 chosen false xs ys h k = k refl
 
 more : (b : ℕ) (bs : List ℕ) → is_harmless b ≡ true → list_all is_harmless bs ≡ true → list_all is_harmless (b ∷ bs) ≡ true
-more b bs h k = both (is_harmless b) (list_all is_harmless bs) h k
+more b bs h k = and_from (is_harmless b) (list_all is_harmless bs) h k
 
 -- ---- bytes
 
 plain : (c : ℕ) → is_plain c ≡ true → is_harmless c ≡ true
-plain c h = first (is_plain c) (c == 35 || (c == 38 || c == 59)) h
+plain c h = or_left (is_plain c) (c == 35 || (c == 38 || c == 59)) h
 
 high : (b : ℕ) → 128 ≤ b → is_harmless b ≡ true
 high b h = third (is_ascii_alphanumeric b) (b == 32) (nat_le 128 b) (b == 35 || (b == 38 || b == 59)) (le-leb 128 b h)

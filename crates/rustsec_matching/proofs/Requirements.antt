@@ -2,6 +2,7 @@
 use Rattle.std.proofs.Common.{◌≡◌, ◌∙◌, Bool, List, [], ◌∷◌, Option, None, Some, false, true, ap, refl, subst, sym}
 use Rattle.std.specs.Prelude.{◌&&◌}
 use Rattle.std.specs.List.{list_all}
+use Rattle.std.specs.Cmp.{first_so}
 use Rattle.semver.specs.EvalViews.{matches_views, view_op}
 use Rattle.semver.specs.Parse.{Held, Parts}
 use Rattle.rustsec_values.specs.Reading.{only_if}
@@ -12,10 +13,6 @@ use Rattle.rustsec_versions.specs.requirement.Requirement.{admitted, is_admissib
 -- the interval and the comparator agree on a version
 abbrev pub AgreeOn : Held → Interval → Parts → Type 0
 AgreeOn c i v = holds i v ≡ view_op c.0 c v
-
-and-first : (a b : Bool) → (a && b) ≡ true → a ≡ true
-and-first true b h = refl
-and-first false b h = cc h
 
 pub and-true : (a : Bool) → (a && true) ≡ a
 and-true true = refl
@@ -42,7 +39,7 @@ pub some-same : (i j : Interval) → Some i ≡ Some j → i ≡ j
 some-same i j is = cc is
 
 admitted-some : (j i : Interval) (b : Bool) → is_admissible j ≡ b → only_if b (Some j) ≡ Some i → (Some j ≡ Some i) × (reaches precedence i.start i.end ≡ true)
-admitted-some j i true good is = (is, subst (λ (k : Interval). reaches precedence k.start k.end ≡ true) (some-same j i is) (and-first _ _ good))
+admitted-some j i true good is = (is, subst (λ (k : Interval). reaches precedence k.start k.end ≡ true) (some-same j i is) (first_so _ _ good))
 admitted-some j i false bad is = cc is
 
 pub admitted-is : (o : Option Interval) (i : Interval) → admitted o ≡ Some i → (o ≡ Some i) × (reaches precedence i.start i.end ≡ true)

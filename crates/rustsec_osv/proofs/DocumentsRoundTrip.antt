@@ -6,7 +6,7 @@ use Rattle.serde_json.specs.Find.{as_null}
 use Rattle.rustsec_json.specs.Codecs.{list_codec, object_codec}
 use Rattle.rustsec_json.specs.TextCodecs.{id_codec, path_codec}
 use Rattle.rustsec_json.proofs.CodecsRoundTrip.{IsLawful, any-text-again, left_out-again, list-again, object-again, optional-again, text-again, word-again}
-use Rattle.rustsec_advisory.specs.Addresses.{address_of}
+use Rattle.rustsec_texts.specs.Addresses.{address_of}
 use Rattle.rustsec_lock.specs.Cvss.{cvss_of, cvss_text}
 use Rattle.rustsec_lock.specs.Platforms.{arch_of, arch_text, os_of, os_text}
 use Rattle.rustsec_texts.specs.Categories.{category_name, category_of}

@@ -11,7 +11,7 @@ use Rattle.rustsec_values.specs.Reading.{◌>>=◌, only_if}
 use Rattle.rustsec_json.specs.Codecs.{Codec, IfThere, Object, again_where, any_text, defaulted, field, left_out, list_codec, no_more, object_codec, object_of, objects_of, optional, required}
 use Rattle.rustsec_json.specs.Fields as reader
 use Rattle.rustsec_json.specs.TextCodecs.{address_codec, arch_codec, category_codec, id_codec, informational_codec, os_codec, path_codec, vector_codec}
-use Rattle.rustsec_advisory.specs.Addresses.{address_of}
+use Rattle.rustsec_texts.specs.Addresses.{address_of}
 use Rattle.rustsec_lock.specs.Cvss.{base_text, cvss_of}
 use Rattle.rustsec_lock.specs.declared.cvss.Cvss.TheVariants as cvss
 use Rattle.rustsec_osv.specs.DocumentKinds.{reference_kind_name, reference_kind_of}

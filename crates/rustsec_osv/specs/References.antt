@@ -4,7 +4,7 @@
 use Rattle.std.specs.Prelude.{ℕ, Bool, ◌&&◌, ◌||◌, List, [], ◌∷◌, ◌++◌, Option, Some, codes, if◌then◌else◌, map, nat_eq, option_to_list}
 use Rattle.std.specs.List.{starts_with}
 use Rattle.rustsec_values.specs.Reading.{◌>>=◌}
-use Rattle.rustsec_advisory.specs.Addresses.{address_of}
+use Rattle.rustsec_texts.specs.Addresses.{address_of}
 use Rattle.rustsec_advisory.specs.declared.metadata.Metadata.{Metadata}
 use Rattle.rustsec_osv.specs.declared.reference.OsvReference.{OsvReference}
 use Rattle.rustsec_osv.specs.declared.reference.OsvReferenceKind.{OsvReferenceKind}

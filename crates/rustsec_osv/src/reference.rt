@@ -5,8 +5,8 @@ ghost use Rattle.std.specs.Prelude.{◌≡◌, IfErr, IfOk, None, Some};
 ghost use Rattle.rustsec_osv.specs.DocumentKinds.{reference_kind_name, reference_kind_of};
 ghost use Rattle.rustsec_error.specs.Failure.{IsMemory, IsRefusal};
 
-use rustsec_advisory::Address;
 use rustsec_error::{ErrorKind, Result, text_error};
+use rustsec_texts::Address;
 use rustsec_values::{ClosedEnum, ExactClone, ExactEq, from_name};
 use std::alloc::Global;
 

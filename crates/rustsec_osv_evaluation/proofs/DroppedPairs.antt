@@ -2,7 +2,7 @@
 use Rattle.std.proofs.Common.{◌≡◌, ◌∙◌, ◌&&◌, Bool, true, false, cond, List, [], ◌∷◌, ap, inl, inr, map, refl, sym}
 use Rattle.std.specs.Prelude.{not}
 use Rattle.std.specs.List.{AllByRecursion}
-use Rattle.std.proofs.lemmas.Bool.{cases_Bool}
+use Rattle.std.proofs.lemmas.Bool.{and_parts, cases_Bool}
 use Rattle.semver.specs.Parse.{Parts}
 use Rattle.rustsec_versions.specs.order.Precedence.{is_at_most, is_below}
 use Rattle.rustsec_versions.proofs.lemmas.order.PrecedenceLaws.{at_most-trans, below-at_most, below-not_at_most, not_at_most}
@@ -13,10 +13,6 @@ use Rattle.rustsec_osv_evaluation.specs.Pairs.{are_at_one, at, normalized}
 use Rattle.rustsec_osv_evaluation.proofs.OneOrder.{Other, Own, tie}
 use Rattle.rustsec_osv_evaluation.proofs.Saying.{say, say-fixed, say-fixed_above, say-introduced, say-introduced_above}
 use Rattle.rustsec_osv_evaluation.proofs.Turning.{Turns}
-
-both-true : (a b : Bool) → (a && b) ≡ true → (a ≡ true) × (b ≡ true)
-both-true true b h = (refl, h)
-both-true false b h = cc h
 
 second-false : (a b : Bool) → a ≡ true → (a && b) ≡ false → b ≡ false
 second-false true b h k = k
@@ -156,18 +152,18 @@ pair-says : (v : Parts) (first : Bool) (e f : Event) (es : List Event) → Turns
 pair-says v first (introduced w) (fixed x) es t one = elim (cases_Bool (is_at_most w v)) [
   | inl low ↦
       say-introduced v w (not first) (fixed x ∷ es) low
-      ∙ (say-fixed v x true es (at_most-trans x w v (both-true _ _ one).1 low) ∙ sym (ap (λ b. say v (not b) es) t.0))
+      ∙ (say-fixed v x true es (at_most-trans x w v (and_parts _ _ one).1 low) ∙ sym (ap (λ b. say v (not b) es) t.0))
   | inr high ↦
       say-introduced_above v w (not first) (fixed x ∷ es) high
-      ∙ say-fixed_above v x (not first) es (not-higher x w v (both-true _ _ one).0 high)
+      ∙ say-fixed_above v x (not first) es (not-higher x w v (and_parts _ _ one).0 high)
 ]
 pair-says v first (fixed w) (introduced x) es t one = elim (cases_Bool (is_at_most w v)) [
   | inl low ↦
       say-fixed v w (not first) (introduced x ∷ es) low
-      ∙ (say-introduced v x false es (at_most-trans x w v (both-true _ _ one).1 low) ∙ sym (ap (λ b. say v (not b) es) t.0))
+      ∙ (say-introduced v x false es (at_most-trans x w v (and_parts _ _ one).1 low) ∙ sym (ap (λ b. say v (not b) es) t.0))
   | inr high ↦
       say-fixed_above v w (not first) (introduced x ∷ es) high
-      ∙ say-introduced_above v x (not first) es (not-higher x w v (both-true _ _ one).0 high)
+      ∙ say-introduced_above v x (not first) es (not-higher x w v (and_parts _ _ one).0 high)
 ]
 pair-says v first (introduced w) (introduced x) es t one = cc t.1.0
 pair-says v first (fixed w) (fixed x) es t one = cc t.1.0

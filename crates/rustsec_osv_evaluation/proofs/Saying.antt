@@ -2,7 +2,7 @@
 use Rattle.std.proofs.Common.{◌≡◌, ◌∙◌, ◌&&◌, ◌||◌, Bool, true, false, cond, List, [], ◌∷◌, ap, inl, inr, map, refl, sym}
 use Rattle.std.specs.Prelude.{filter, not}
 use Rattle.std.specs.List.{AllByRecursion, fold, list_any}
-use Rattle.std.proofs.lemmas.Bool.{cases_Bool}
+use Rattle.std.proofs.lemmas.Bool.{cases_Bool, or_left}
 use Rattle.std.proofs.lemmas.List.Elements.{recursion_from_All}
 use Rattle.std.proofs.Common.{suc, arith}
 use Rattle.semver.specs.Parse.{Parts}
@@ -33,10 +33,6 @@ starts_false : (es : List Event) → ends_with false es ≡ ends_introduced es
 starts_false [] = refl
 starts_false (e ∷ es) = refl
 
-or-true : (a b : Bool) → a ≡ true → (a || b) ≡ true
-or-true true b h = refl
-or-true false b h = cc h
-
 or-false : (a b : Bool) → a ≡ false → (a || b) ≡ b
 or-false true b h = cc h
 or-false false b h = refl
@@ -50,7 +46,7 @@ not-and-false true b h = cc h
 not-and-false false b h = refl
 
 pub say-introduced : (v w : Parts) (before : Bool) (es : List Event) → is_at_most w v ≡ true → say v before (introduced w ∷ es) ≡ say v true es
-say-introduced v w before es h = ap (λ b. say v b es) (or-true (is_at_most w v) before h)
+say-introduced v w before es h = ap (λ b. say v b es) (or_left (is_at_most w v) before h)
 
 pub say-introduced_above : (v w : Parts) (before : Bool) (es : List Event) → is_at_most w v ≡ false
     → say v before (introduced w ∷ es) ≡ say v before es

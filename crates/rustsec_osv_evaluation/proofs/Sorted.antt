@@ -3,6 +3,7 @@ use Rattle.std.proofs.Common.{◌≡◌, ◌∙◌, ◌+◌, ◌<◌, ◌||◌, 
 use Rattle.std.specs.List.{list_any}
 use Rattle.std.specs.List.Sorted.{IsSorted, IsSortedByKey}
 use Rattle.std.proofs.lemmas.List.{map_more}
+use Rattle.std.proofs.lemmas.Bool.{or_left, or_right}
 use Rattle.rustsec_versions.specs.order.Precedence.{precedence}
 use Rattle.rustsec_versions.proofs.lemmas.order.PrecedenceLaws.{not_below}
 use Rattle.rustsec_versions.proofs.lemmas.order.Rising.{IsSorted-from, Rises}
@@ -77,16 +78,8 @@ and-no false b both h k = k
 
 -- ---- an element that passes a test
 
-or-left : (a b : Bool) → a ≡ true → (a || b) ≡ true
-or-left true b h = refl
-or-left false b h = cc h
-
-or-right : (a b : Bool) → b ≡ true → (a || b) ≡ true
-or-right true b h = refl
-or-right false b h = h
-
 pub any-at : {X Y : Type 0} (f : Y → X) (p : X → Bool) (ys : List Y) (i : ℕ) (y : Y) → i < length ys → y ≡ get_or ys i y → p (f y) ≡ true
     → list_any p (map f ys) ≡ true
 any-at f p [] i y low is h = absurd (omega arith)
-any-at f p (z ∷ ys) zero y low is h = or-left (p (f z)) (list_any p (map f ys)) (ap (λ q. p (f q)) (sym is) ∙ h)
-any-at f p (z ∷ ys) (suc i) y low is h = or-right (p (f z)) (list_any p (map f ys)) (any-at f p ys i y (omega arith) is h)
+any-at f p (z ∷ ys) zero y low is h = or_left (p (f z)) (list_any p (map f ys)) (ap (λ q. p (f q)) (sym is) ∙ h)
+any-at f p (z ∷ ys) (suc i) y low is h = or_right (p (f z)) (list_any p (map f ys)) (any-at f p ys i y (omega arith) is h)

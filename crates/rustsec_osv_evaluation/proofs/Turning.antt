@@ -1,8 +1,8 @@
 -- The events of rising ranges rise, and take turns: an introduction, then a fix.
 use Rattle.std.proofs.Common.{◌≡◌, Bool, true, false, List, [], ◌∷◌, Option, Some, None, map, refl, subst}
 use Rattle.std.specs.List.{AllByRecursion, list_all}
-use Rattle.std.proofs.Common.{◌&&◌}
 use Rattle.std.proofs.lemmas.List.Elements.{recursion_from_All}
+use Rattle.std.specs.Cmp.{first_so, second_so}
 use Rattle.semver.specs.Grammar.{IsValid}
 use Rattle.semver.specs.Parse.{Parts}
 use Rattle.rustsec_versions.specs.ranges.AcceptedRanges.{AreMergedRanges}
@@ -31,17 +31,9 @@ abbrev AllInOrder : List Range → Type 0
 AllInOrder [] = Unit {0}
 AllInOrder (r ∷ rs) = (is_in_order r.introduced r.fixed ≡ true) × AllInOrder rs
 
-both-first : (a b : Bool) → (a && b) ≡ true → a ≡ true
-both-first true b h = refl
-both-first false b h = cc h
-
-both-second : (a b : Bool) → (a && b) ≡ true → b ≡ true
-both-second true b h = h
-both-second false b h = cc h
-
 in_order-to : (rs : List Range) → list_all (λ r. is_in_order r.introduced r.fixed) rs ≡ true → AllInOrder rs
 in_order-to [] h = tt
-in_order-to (r ∷ rs) h = (both-first _ _ h, in_order-to rs (both-second _ _ h))
+in_order-to (r ∷ rs) h = (first_so _ _ h, in_order-to rs (second_so _ _ h))
 
 rest : (r : Range) (rs : List Range) → AllFollowed (r ∷ rs) → AllFollowed rs
 rest r [] a = tt

@@ -1,7 +1,7 @@
 -- Escaped texts have none of the bytes that begin and end tags and the values of attributes, so those bytes of a page are
 -- those of its own markup.
 use Rattle.std.proofs.Common.{◌≡◌, ℕ, suc, ◌<◌, ◌≤◌, ◌+◌, ◌/◌, ◌%◌, ◌++◌, ◌∙◌, ◌||◌, ◌==◌, Bool, true, false, cond, if◌then◌else◌, nat_lt, List, [], ◌∷◌, ap, ap₂, arith, codes, length, get_or, refl, sym, append-nil, inl, inr}
-use Rattle.std.proofs.lemmas.Bool.{cases_lt, false≢true, ne_eqb}
+use Rattle.std.proofs.lemmas.Bool.{cases_lt, false≢true, ne_eqb, or_from}
 use Rattle.std.proofs.lemmas.List.Elements.{filter-append}
 use Rattle.std.proofs.lemmas.Str.{encode_ascii, encodes-append, inside_one}
 use Rattle.std.specs.Char.{digit_char}
@@ -14,15 +14,11 @@ use Rattle.rustsec_page.specs.Pieces.{Piece, bytes_of, card, content, drawing, f
 
 -- ---- bytes
 
-either_false : (a b : Bool) → a ≡ false → b ≡ false → (a || b) ≡ false
-either_false false b h k = k
-either_false true b h k = h
-
 -- a number that is not one of the four
 other_than : (x : ℕ) → (x ≡ 60 → ⊥) → (x ≡ 62 → ⊥) → (x ≡ 34 → ⊥) → (x ≡ 39 → ⊥) → is_mark x ≡ false
 other_than x l g q s =
-    either_false (x == 60) _ (ne_eqb x 60 l) (either_false (x == 62) _ (ne_eqb x 62 g)
-    (either_false (x == 34) (x == 39) (ne_eqb x 34 q) (ne_eqb x 39 s)))
+    or_from (x == 60) _ (ne_eqb x 60 l) (or_from (x == 62) _ (ne_eqb x 62 g)
+    (or_from (x == 34) (x == 39) (ne_eqb x 34 q) (ne_eqb x 39 s)))
 
 high_one : (x : ℕ) → 64 ≤ x → is_mark x ≡ false
 high_one x h = other_than x (λ e. omega (arith, e, h)) (λ e. omega (arith, e, h)) (λ e. omega (arith, e, h)) (λ e. omega (arith, e, h))

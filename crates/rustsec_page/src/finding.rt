@@ -13,8 +13,9 @@ use crate::line::{Line, push_line};
 use crate::links::{push_linked, push_path};
 use crate::mended::push_mended;
 use crate::pieces::{push_card, push_content, push_item};
-use rustsec_advisory::{Address, Metadata};
+use rustsec_advisory::Metadata;
 use rustsec_lock::package::Package;
+use rustsec_texts::Address;
 use std::alloc::{AllocError, Global};
 
 /// Appends the description of an advisory.

@@ -236,8 +236,9 @@ fn with_nearest_in<T: ClosedEnum>(alloc: Global, error: Error, value: Option<&Va
     }
 }
 
-/// Returns the error about a value that is neither a word nor a list of words; the given error for any other value.
-fn with_kinds(alloc: Global, section: Section<'_>, key: &str, error: Error) -> Error
+/// Makes the error for a value at a key that is neither a string nor an array. Any other value, and out of memory, keep
+/// their error.
+fn kinds_error(alloc: Global, section: Section<'_>, key: &str, error: Error) -> Error
     ensures kind { IsOfKind error.kind result }
     ensures memory { IsMemory error → IsMemory result }
 {
@@ -267,7 +268,7 @@ fn words_at<T: FromText + ClosedEnum>(
             Ok(words) => Ok(words),
             Err(error) => {
                 let error = with_nearest_in::<T>(alloc, error, section.get(key));
-                Err(with_kinds(alloc, section, key, error))
+                Err(kinds_error(alloc, section, key, error))
             }
         },
     }

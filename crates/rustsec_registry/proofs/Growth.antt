@@ -1,10 +1,11 @@
 -- How the kept answers grow.
-use Rattle.std.proofs.Common.{◌≡◌, ◌≢◌, ◌∙◌, ◌+◌, ◌<◌, get_or, length, map, take, drop, ◌||◌, ◌++◌, ◌⊎◌, inl, inr, ℕ, Bool, true, false, cond, List, [], ◌∷◌, Option, Some, None, nat_eq, refl, sym, ap}
+use Rattle.std.proofs.Common.{◌≡◌, ◌≢◌, ◌∙◌, ◌+◌, ◌<◌, get_or, length, map, take, drop, ◌++◌, ◌⊎◌, inl, inr, ℕ, true, false, cond, List, [], ◌∷◌, Option, Some, None, nat_eq, refl, sym, ap}
 use Rattle.std.specs.Prelude.{Contains, IfErr, IfOk, IsSome, OnOk, Result, Ok, Err, is_some}
 use Rattle.std.specs.Borrow.{Bor}
 use Rattle.std.specs.Cmp.Lexicographic.{bytes_decides, pointwise}
 use Rattle.std.proofs.lemmas.List.Folds.{Any-from_list_any, list_any-append, list_any-from_Any}
 use Rattle.std.proofs.lemmas.List.{map-append, map_more, take-append-drop}
+use Rattle.std.proofs.lemmas.Bool.{cases_Bool, or_cases, or_parts}
 use Rattle.rustsec_error.specs.Failure.{Failure}
 use Rattle.rustsec_error.specs.declared.error.ErrorKind.TheVariants as kind
 use Rattle.rustsec_lock.specs.Package.{PackageValue}
@@ -12,28 +13,18 @@ use Rattle.rustsec_registry.specs.Lookups.{Answer, AreAnswers, IsKeptOf, IsKeptO
 use Rattle.rustsec_registry.specs.Packages.{AreDistinctPackages, has_name}
 use Rattle.rustsec_registry.specs.Yanked.{AreKept, Grows}
 
--- ---- tests
-
-or-false : (a b : Bool) → (a || b) ≡ false → (a ≡ false) × (b ≡ false)
-or-false true b h = cc h
-or-false false b h = (refl, h)
-
-or-true : (a b : Bool) → (a || b) ≡ true → (a ≡ true) ⊎ (b ≡ true)
-or-true true b h = inl refl
-or-true false b h = inr h
-
 -- ---- names of packages
 
 -- a name of packages, and of one more
 named-both : (name : List ℕ) (ps qs : List PackageValue) → has_name name (ps ++ qs) ≡ true → (has_name name ps ≡ true) ⊎ (has_name name qs ≡ true)
-named-both name ps qs h = or-true _ _ (sym (list_any-append (λ (p : PackageValue). pointwise nat_eq name p.name) ps qs) ∙ h)
+named-both name ps qs h = or_cases _ _ (sym (list_any-append (λ (p : PackageValue). pointwise nat_eq name p.name) ps qs) ∙ h)
 
 unnamed-both : (name : List ℕ) (ps qs : List PackageValue) → has_name name (ps ++ qs) ≡ false → (has_name name ps ≡ false) × (has_name name qs ≡ false)
-unnamed-both name ps qs h = or-false _ _ (sym (list_any-append (λ (p : PackageValue). pointwise nat_eq name p.name) ps qs) ∙ h)
+unnamed-both name ps qs h = or_parts _ _ (sym (list_any-append (λ (p : PackageValue). pointwise nat_eq name p.name) ps qs) ∙ h)
 
 -- a name of one package
 named-one : (name : List ℕ) (p : PackageValue) → has_name name (p ∷ []) ≡ true → name ≡ p.name
-named-one name p h = elim (or-true (pointwise nat_eq name p.name) false h) [
+named-one name p h = elim (or_cases (pointwise nat_eq name p.name) false h) [
   | inl same ↦ (bytes_decides name p.name).0 same
   | inr none ↦ cc none
 ]
@@ -45,12 +36,8 @@ named-among ps qs name among h =
     let there = among here.1 (here.0, here.2, here.3) in
     list_any-from_Any (λ (p : PackageValue). pointwise nat_eq name p.name) qs (there.0, here.1, there.1, there.2, here.4)
 
-cases-bool : (b : Bool) → (b ≡ true) ⊎ (b ≡ false)
-cases-bool true = inl refl
-cases-bool false = inr refl
-
 unnamed-among : (ps qs : List PackageValue) (name : List ℕ) → ((p : PackageValue) → Contains ps p → Contains qs p) → has_name name qs ≡ false → has_name name ps ≡ false
-unnamed-among ps qs name among h = elim (cases-bool (has_name name ps)) [
+unnamed-among ps qs name among h = elim (cases_Bool (has_name name ps)) [
   | inl yes_there ↦ cc (sym (named-among ps qs name among yes_there) ∙ h)
   | inr not_there ↦ not_there
 ]
@@ -83,11 +70,11 @@ pub grows-new : (p : PackageValue) (old new : List (List ℕ × Kept)) (key : Li
 grows-new p old new key kept is none put =
     let are = put-at p.name key old new kept is put in
     record {
-      same = λ name k h. elim (cases-bool (pointwise nat_eq name p.name)) [
+      same = λ name k h. elim (cases_Bool (pointwise nat_eq name p.name)) [
         | inl same ↦ cc (sym h ∙ ap (λ n. at n old) ((bytes_decides name p.name).0 same) ∙ none)
         | inr other ↦ are name ∙ rw other h
       ];
-      others = λ name h. are name ∙ rw (or-false (pointwise nat_eq name p.name) false h).0 refl;
+      others = λ name h. are name ∙ rw (or_parts (pointwise nat_eq name p.name) false h).0 refl;
     }
 
 pub here-now : (name key : List ℕ) (old new : List (List ℕ × Kept)) (kept : Kept) → key ≡ name → IsPut key old new kept → IsSome (at name new)
@@ -123,7 +110,7 @@ pub given-new : (answers : List ℕ → Answer → Type 0) (name key : List ℕ)
     → IsKeptOfSome (answers name) kept → AreAnswers answers old → AreAnswers answers new
 given-new answers name key old new kept is put this all q k h =
     let are = put-at name key old new kept is put in
-    elim (cases-bool (pointwise nat_eq q name)) [
+    elim (cases_Bool (pointwise nat_eq q name)) [
       | inl same ↦
           let found : Some kept ≡ Some k = sym (are q ∙ rw same refl) ∙ h in
           let value : kept ≡ k = cc found in

@@ -1,6 +1,7 @@
 -- The report of advisories and packages is the report of the files and the table that they come from.
 use Rattle.std.proofs.Common.{◌≡◌, ◌↔◌, ℕ, Bool, true, false, not, Contains, List, [], ◌∷◌, map, None, Option, Some, inl, inr, refl, sym, ap, subst}
 use Rattle.std.specs.List.{filter}
+use Rattle.std.proofs.lemmas.Bool.{not-true, not_from_false}
 use Rattle.toml.specs.Data.{Members}
 use Rattle.toml.specs.Parse.{parse_document}
 use Rattle.rustsec_values.specs.Reading.{◌>>=◌}
@@ -41,13 +42,6 @@ module _ (files : List SourceFile) (advisories : List Advisory) (loaded : AreLoa
 
 -- ---- pairs
 
-not-false : (b : Bool) → not b ≡ true → b ≡ false
-not-false true h = cc h
-not-false false h = refl
-
-not-true : (b : Bool) → b ≡ false → not b ≡ true
-not-true b h = rw h refl
-
 module _ (files : List SourceFile) (advisories : List Advisory) (loaded : AreLoaded files advisories) (packages : List PackageValue)
     (s : Settings) (q : Asked) where
   counted : Vulnerability → Bool
@@ -80,7 +74,7 @@ module _ (files : List SourceFile) (advisories : List Advisory) (loaded : AreLoa
         is_locked = contained packages m.0.of o.0;
         is_held = held files advisories loaded m.0.by o.1;
         is_found = o.2;
-        counts = subst (λ (x : Vulnerability). is_among s.ignore x.advisory.id ≡ false) (sym m.2) (not-false _ c.1);
+        counts = subst (λ (x : Vulnerability). is_among s.ignore x.advisory.id ≡ false) (sym m.2) (not-true _ c.1);
         is = sym m.2;
       }
 
@@ -90,7 +84,7 @@ module _ (files : List SourceFile) (advisories : List Advisory) (loaded : AreLoa
       let p = to-pairs h.of h.by (among packages h.of h.is_locked) (held-among files advisories loaded h.by h.is_held) h.is_found in
       let m = made as_vulnerability (pairs advisories packages q) (pair_of h.of h.by) p in
       subst (Among (without s.ignore (found advisories packages q))) (sym h.is)
-      (kept counted (found advisories packages q) (vulnerability_of h.by h.of) m (not-true _ h.counts))
+      (kept counted (found advisories packages q) (vulnerability_of h.by h.of) m (not_from_false _ h.counts))
 
 -- ---- warnings
 

@@ -1,8 +1,9 @@
 -- The report by the advisories that affect a package of the lockfile is the report by all advisories.
-use Rattle.std.proofs.Common.{◌≡◌, ◌∙◌, ◌&&◌, ◌||◌, ◌++◌, Bool, true, false, List, [], ◌∷◌, Some, map, nat_eq, refl, sym, ap}
+use Rattle.std.proofs.Common.{◌≡◌, ◌∙◌, ◌&&◌, ◌++◌, Bool, true, List, [], ◌∷◌, Some, map, nat_eq, refl, sym, ap}
 use Rattle.std.specs.Cmp.{first_so, second_so}
 use Rattle.std.specs.Cmp.Lexicographic.{bytes_decides, pointwise}
 use Rattle.std.specs.List.{filter}
+use Rattle.std.proofs.lemmas.Bool.{and_from, or_left, or_right}
 use Rattle.toml.specs.Data.{Members}
 use Rattle.rustsec_folders.specs.declared.source_file.SourceFile.{SourceFile}
 use Rattle.rustsec_versions.specs.acceptance.Lists.{affected}
@@ -30,10 +31,6 @@ first-three q a h =
     first_so _ (has_source q a) (first_so _ (is_severe q a) (first_so _ (on_arch q a) (first_so _ (on_os q a)
     (first_so _ (of_year q a) (first_so _ (as_withdrawn q a) (first_so _ (as_informational q a) h))))))
 
-both : (a b : Bool) → a ≡ true → b ≡ true → (a && b) ≡ true
-both true b h k = k
-both false b h k = absurd (cc h)
-
 -- an advisory that a query finds for a package is about it, and affects its version
 found-touches : (q : Asked) (p : PackageValue) (a : Advisory) → finds q p a ≡ true → touches a p ≡ true
 found-touches q p a h =
@@ -42,18 +39,10 @@ found-touches q p a h =
     let two = first_so (in_collection asked a && has_name asked a) (has_version asked a) three in
     let named : pointwise nat_eq p.name a.metadata.«package» ≡ true = second_so (in_collection asked a) (has_name asked a) two in
     let version : affected a.versions p.version ≡ true = second_so (in_collection asked a && has_name asked a) (has_version asked a) three in
-    both _ _
+    and_from _ _
     ((bytes_decides a.metadata.«package» p.name).1 (sym ((bytes_decides p.name a.metadata.«package»).0 named))) version
 
 -- ---- all pairs
-
-left : (a b : Bool) → a ≡ true → (a || b) ≡ true
-left true b h = refl
-left false b h = absurd (cc h)
-
-right : (a b : Bool) → b ≡ true → (a || b) ≡ true
-right true b h = refl
-right false b h = h
 
 pair-of : PackageValue → Advisory → Pair
 pair-of p a = record { of = p; by = a }
@@ -64,8 +53,8 @@ unfolding pairs pair-of
 pairs-kept advisories q [] test only = refl
 pairs-kept advisories q (p ∷ packages) test only =
     let first : pairs_of (filter test advisories) q p ≡ pairs_of advisories q p =
-    ap (map (pair-of p)) (narrow test (finds q p) (λ a h. only a (left (touches a p) (touches_any packages a) (found-touches q p a h))) advisories) in
-    let rest = pairs-kept advisories q packages test (λ a h. only a (right (touches a p) (touches_any packages a) h)) in
+    ap (map (pair-of p)) (narrow test (finds q p) (λ a h. only a (or_left (touches a p) (touches_any packages a) (found-touches q p a h))) advisories) in
+    let rest = pairs-kept advisories q packages test (λ a h. only a (or_right (touches a p) (touches_any packages a) h)) in
     λ i. first i ++ rest i
 
 -- ---- the report

@@ -6,6 +6,7 @@ use Rattle.std.specs.Bool.{beq}
 use Rattle.std.specs.Cmp.{first_so, second_so}
 use Rattle.std.specs.List.{All, filter}
 use Rattle.std.specs.Option.{option_eq}
+use Rattle.std.proofs.lemmas.Bool.{not-true}
 use denote.Enum.Bare.{same_true, sameb}
 use Rattle.rustsec_lock.specs.Package.{PackageValue}
 use Rattle.rustsec_texts.specs.Informational.{kind_of_warnings}
@@ -47,10 +48,6 @@ none_there : {A : Type 0} (o : Option A) → beq false (is_some o) ≡ true → 
 none_there None h = refl
 none_there (Some x) h = cc h
 
-not_false : (b : Bool) → not b ≡ true → b ≡ false
-not_false true h = cc h
-not_false false h = refl
-
 -- matches, without ignored advisories
 module _ (s : Settings) (P : Vulnerability → Type 0) (vs : List Vulnerability) (all : All P vs) where
   counted : Vulnerability → Bool
@@ -61,7 +58,7 @@ module _ (s : Settings) (P : Vulnerability → Type 0) (vs : List Vulnerability)
   without-all =
       let kept = All-filter counted P vs all in
       let passed = filter_passes counted vs in
-      λ k d l. (kept k d l, not_false _ (passed k d l))
+      λ k d l. (kept k d l, not-true _ (passed k d l))
 
 -- ---- vulnerabilities
 
@@ -74,7 +71,7 @@ vulnerabilities-all advisories packages s =
     let all : All Q (found advisories packages (query_of s)) =
     All-map Q as_vulnerability (pairs advisories packages (query_of s)) (pairs-all (λ (pair : Pair). Q (as_vulnerability pair)) advisories (query_of s) each packages) in
     All-weaker (λ (v : Vulnerability). Q v × (is_among s.ignore v.advisory.id ≡ false)) (IsVulnerability s)
-    (λ v h. record { in_force = record { stands = h.0.0; counts = h.1 }; not_informational = h.0.1 }) _ (without-all s Q (found advisories packages (query_of s)) all)
+    (λ v h. record { in_force = record { not_withdrawn = h.0.0; counts = h.1 }; not_informational = h.0.1 }) _ (without-all s Q (found advisories packages (query_of s)) all)
 
 -- ---- warnings
 
@@ -98,7 +95,7 @@ warning_of s k v c h =
     record {
       advisory = v.advisory;
       by = refl;
-      in_force = record { stands = c.0; counts = c.1 };
+      in_force = record { not_withdrawn = c.0; counts = c.1 };
       informational = g.0;
       informs = g.1;
       gives = g.2;

@@ -13,7 +13,7 @@ use Rattle.rustsec_report.specs.declared.warning.Warning.{Warning}
 
 -- an advisory that is neither withdrawn nor ignored
 pub record IsInForce (s : Settings) (m : Metadata) : Type 0 where
-  pub stands : m.withdrawn ≡ None
+  pub not_withdrawn : m.withdrawn ≡ None
   pub counts : is_among s.ignore m.id ≡ false
 
 -- a vulnerability whose advisory is in force and not informational

@@ -8,9 +8,10 @@ ghost use Rattle.rustsec_versions.specs.Views.{comparators_of};
 ghost use Rattle.rustsec_sarif.specs.SarifTree.{help_words};
 ghost use Rattle.rustsec_sarif.specs.SarifWords.{address_words, command_words, doubled, doubled_char, finding_words, fingerprint, further_words, incompatible_words, level, locked_words, long_words, or_else, package_words, patched_words, short_words, subject_words, update_words, yanked_words};
 
-use rustsec_advisory::{Address, Advisory, Metadata};
+use rustsec_advisory::{Advisory, Metadata};
 use rustsec_check::{Finding, Yanked};
 use rustsec_lock::package::Package;
+use rustsec_texts::Address;
 use rustsec_versions::requirement_text;
 use semver::{Version, VersionReq};
 use std::alloc::{AllocError, Global};

@@ -9,10 +9,10 @@ ghost use Rattle.rustsec_sarif.specs.SarifTree.{address_entries, class_entries, 
 use crate::messages::{help_words, long_words, short_words};
 use crate::object::{message_tree, put_text};
 use crate::uri::address_uri;
-use rustsec_advisory::Address;
 use rustsec_check::{Finding, Yanked};
 use rustsec_check_output::rating::{kind_text, score_text, tenths_of};
 use rustsec_report::{Members, put_tree};
+use rustsec_texts::Address;
 use serde_json::Value;
 use std::alloc::{AllocError, Global};
 

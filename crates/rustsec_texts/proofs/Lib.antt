@@ -5,4 +5,5 @@ pub mod Dashes
 pub mod FileParts
 pub mod Numerals
 pub mod OtherNames
+pub mod PlainAddresses
 pub mod Slices

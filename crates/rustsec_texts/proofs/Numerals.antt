@@ -1,18 +1,14 @@
 -- `parse` answers the number of the definitions; bounds on the value of digits.
 use Rattle.std.proofs.Common.{◌≡◌, ℕ, ◌<◌, ◌^◌, Bool, true, false, ◌&&◌, List, [], ◌∷◌, length, Option, Some, None, Result, Ok, Err, SomeIff, IfSome, nat_lt, refl, sym, ap, ◌∙◌, arith, subst}
-use Rattle.std.proofs.lemmas.Bool.{and_from, lt-ltb, ltb-true}
+use Rattle.std.proofs.lemmas.Bool.{and_from, and_parts, lt-ltb, ltb-true}
 use Rattle.std.proofs.lemmas.Str.Parse.{IsNumeralModel, digits_value_short, numerals_by_value, tells_all_ascii_digits, without_leading_plus_none}
 use Rattle.std.specs.Char.{is_ascii_digit}
-use Rattle.std.specs.Cmp.{first_so, second_so}
 use Rattle.std.specs.List.{list_all}
 use Rattle.std.specs.Str.{all_ascii_digits}
 use Rattle.std.specs.Str.Parse.{IsNumeral, ParsesUnsigned, digits_value, without_leading_plus}
 use Rattle.std.specs.Result.{result_ok}
 use Rattle.rustsec_values.specs.Reading.{only_if}
 use Rattle.rustsec_texts.specs.Numbers.{number_of, numeral_of}
-
-both : (a b : Bool) → (a && b) ≡ true → (a ≡ true) × (b ≡ true)
-both a b h = (first_so a b h, second_so a b h)
 
 -- std's test for digits is that of the definition
 all-digits : (ds : List ℕ) → list_all is_ascii_digit ds ≡ all_ascii_digits ds
@@ -28,8 +24,8 @@ fits ds = nat_lt 0 (length ds) && (list_all is_ascii_digit ds && nat_lt (digits_
 
 fits-numeral : (ds : List ℕ) → fits ds ≡ true → IsNumeral 10 ds × (digits_value 10 ds < 2 ^ 32)
 fits-numeral ds h =
-    let (some, rest) = both (nat_lt 0 (length ds)) _ h in
-    let (digits, low) = both (list_all is_ascii_digit ds) _ rest in
+    let (some, rest) = and_parts (nat_lt 0 (length ds)) _ h in
+    let (digits, low) = and_parts (list_all is_ascii_digit ds) _ rest in
     ((ltb-true 0 (length ds) some, model.to ds (sym (all-digits ds) ∙ digits)), ltb-true _ (2 ^ 32) low)
 
 numeral-fits : (ds : List ℕ) → IsNumeral 10 ds × (digits_value 10 ds < 2 ^ 32) → fits ds ≡ true

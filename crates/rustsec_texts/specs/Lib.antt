@@ -1,3 +1,4 @@
+pub mod Addresses
 pub mod Categories
 pub mod Collections
 pub mod Dates
@@ -9,4 +10,5 @@ pub mod Numbers
 pub mod Parts
 pub mod Paths
 pub mod PatternCuts
+pub mod PlainAddresses
 pub mod WarningKinds

@@ -1,6 +1,7 @@
 //! Small texts of advisories, each with its grammar, and the parts of an advisory file.
 #![tactic(auto)]
 
+mod address;
 mod category;
 mod collection;
 mod date;
@@ -13,8 +14,10 @@ mod keyword;
 mod license;
 mod numbers;
 mod parts;
+mod plain_address;
 mod warning_kind;
 
+pub use crate::address::Address;
 pub use crate::category::Category;
 pub use crate::collection::Collection;
 pub use crate::date::Date;

@@ -10,13 +10,13 @@ use crate::sorted_map::SortedMap;
 pub trait Predicate<T> {
     ghost holds: { Self → T → Bool };
 
-    /// Returns whether an element passes.
+    /// Returns whether the predicate holds for an element.
     fn holds(&self, element: &T) -> bool
         ensures { result ≡ Self.holds self.now element.now };
 }
 
 impl<T: Drop> Items<T> {
-    /// Keeps the elements that pass a test, in their order. It takes no memory.
+    /// Keeps the elements for which a predicate holds, in their order. It takes no memory.
     pub fn retain<P: Predicate<T>>(&mut self, test: &P)
         ensures { self.new ≡ filter (P.holds test.now) self.old }
     {
@@ -25,8 +25,8 @@ impl<T: Drop> Items<T> {
 }
 
 impl<K: Ord + Drop, T: Drop> SortedMap<K, Items<T>> {
-    /// Keeps the elements of each list that pass a test, in their order, and every key, even if its list becomes
-    /// empty. It takes no memory.
+    /// Keeps the elements of each list for which a predicate holds, in their order, and every key, even if its list
+    /// becomes empty. It takes no memory.
     pub fn retain_in_each<P: Predicate<T>>(&mut self, test: &P)
         ensures { self.new ≡ map (λ e. (e.0, filter (P.holds test.now) e.1)) self.old }
     {

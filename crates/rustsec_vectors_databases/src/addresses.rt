@@ -1,8 +1,8 @@
 //! Addresses at the border between plain ones, which are kept as they are written, and those that the crate `url` parses or
 //! refuses. The expected texts are those of `URL` of Node.js 20.
 
-use rustsec_advisory::Address;
 use rustsec_error::{Error, ErrorKind};
+use rustsec_texts::Address;
 use std::alloc::Global;
 use std::process::Abort;
 use std::test::Fail;

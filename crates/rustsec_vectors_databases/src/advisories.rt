@@ -1,11 +1,11 @@
 //! Advisory files: which texts are advisories, and what is read of them.
 
-use rustsec_advisory::{Address, Advisory, Affected, Metadata};
+use rustsec_advisory::{Advisory, Affected, Metadata};
 use rustsec_error::ErrorKind;
 use rustsec_fixtures::{VALID, acceptance, acceptance_with, changed, kind_of};
 use rustsec_lock::platforms::{Arch, OS};
 use rustsec_lock::{Cvss, Severity};
-use rustsec_texts::{FunctionPath, Id, License};
+use rustsec_texts::{Address, FunctionPath, Id, License};
 use semver::{Version, VersionReq};
 use std::alloc::Global;
 use std::process::Abort;

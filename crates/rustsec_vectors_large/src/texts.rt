@@ -3,7 +3,7 @@
 
 use crate::numbers::LONG;
 use rustsec::database::{Database, Query};
-use rustsec_advisory::{Address, Linter, linter};
+use rustsec_advisory::{Linter, linter};
 use rustsec_error::{Error, ErrorKind, FromText};
 use rustsec_fixtures::{VALID, changed, interval, kind_of, requirements};
 use rustsec_folders::{FolderEntry, SourceFile};
@@ -11,8 +11,8 @@ use rustsec_lock::package::{Name, Package};
 use rustsec_lock::platforms::{Arch, OS};
 use rustsec_lock::{Cvss, Lockfile, SourceId};
 use rustsec_texts::{
-    Category, Collection, Date, FunctionPath, Id, Identifier, Informational, Keyword, License,
-    WarningKind,
+    Address, Category, Collection, Date, FunctionPath, Id, Identifier, Informational, Keyword,
+    License, WarningKind,
 };
 use rustsec_values::Text;
 use rustsec_versions::{

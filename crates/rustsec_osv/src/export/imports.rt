@@ -12,9 +12,8 @@ use crate::affected::OsvAffected;
 use crate::document::OsvAdvisory;
 use crate::export::members::ECOSYSTEM;
 use crate::reference::OsvReference;
-use rustsec_advisory::Address;
 use rustsec_error::{ErrorKind, Result, text_error};
-use rustsec_texts::Id;
+use rustsec_texts::{Address, Id};
 use rustsec_values::Items;
 use std::alloc::{AllocError, Global};
 

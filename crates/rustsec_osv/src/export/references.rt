@@ -1,17 +1,16 @@
 //! Builds the references of an advisory's document (OSV schema, `references`).
 
 ghost use Rattle.std.specs.Prelude.{◌≡◌, ◌++◌, ◌∷◌, [], All, IfErr, IfOk, None, OnOk, Some, map, option_to_list};
-ghost use Rattle.rustsec_advisory.specs.Addresses.{address_of};
+ghost use Rattle.rustsec_texts.specs.Addresses.{address_of};
 ghost use Rattle.rustsec_error.specs.Failure.{IsRefusal};
 ghost use Rattle.rustsec_osv.specs.DocumentCodec.{IsReferenceAgain};
 ghost use Rattle.rustsec_osv.specs.References.{advisory_page, has, is_advisory, is_package, is_report, kind_of, own_pages, package_page, reference_of};
 
 use crate::reference::{OsvReference, OsvReferenceKind};
-use rustsec_advisory::Address;
 use rustsec_advisory::metadata::Origin;
 use rustsec_error::{ErrorKind, Result};
 use rustsec_lock::package::Name;
-use rustsec_texts::Id;
+use rustsec_texts::{Address, Id};
 use rustsec_values::Items;
 use std::alloc::{AllocError, Global};
 

@@ -64,7 +64,7 @@ fn opposite_bound(bound: &Bound) -> std::result::Result<Bound, AllocError>
 }
 
 /// Appends the gap before an interval with this start, if the start is bounded.
-fn add_interval_before(
+fn add_gap_before(
     from: Bound,
     start: &Bound,
     complement: &mut Vec<AffectedInterval>,
@@ -89,7 +89,7 @@ pub(crate) fn complement(
     let mut complement = Vec::new(alloc);
     let mut from = Bound::Unbounded;
     for interval in intervals {
-        add_interval_before(from, interval.start(), &mut complement)?;
+        add_gap_before(from, interval.start(), &mut complement)?;
         match opposite_bound(interval.end())? {
             Bound::Unbounded => return Ok(complement),
             next => from = next,

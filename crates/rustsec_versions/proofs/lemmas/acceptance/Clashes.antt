@@ -7,6 +7,7 @@ use Rattle.std.specs.declared.cmp.Ordering.{Ordering}
 use Rattle.std.proofs.lemmas.Bool.Decides.{nat_tests}
 use Rattle.std.proofs.lemmas.List.{map-append}
 use Rattle.std.proofs.lemmas.List.Elements.{filter_map-append}
+use Rattle.std.proofs.lemmas.Bool.{not-true}
 use Rattle.semver.specs.Parse.{Held, Parts}
 use Rattle.rustsec_versions.specs.interval.Apart.{are_apart}
 use Rattle.rustsec_versions.specs.interval.Interval.{Endpoint, Interval, exclusive, holds, inclusive, is_after, is_before, overlap, reaches, unbounded}
@@ -265,10 +266,6 @@ pub none-clash : (c : TaggedInterval) (cs : List TaggedInterval) → list_any (o
 none-clash c [] h = refl
 none-clash c (d ∷ cs) h =
     rw (no-clash (c.is_patched && d.is_patched) (overlap precedence c.interval d.interval) (or-first _ _ h)) (none-clash c cs (or-second _ _ h))
-
-not-true : (b : Bool) → not b ≡ true → b ≡ false
-not-true true h = cc h
-not-true false h = refl
 
 pub apart-clear : (cs : List TaggedInterval) → are_apart precedence (spans cs) ≡ true → are_clear cs ≡ true
 apart-clear [] h = refl

@@ -3,6 +3,7 @@ use Rattle.std.proofs.Common.{◌≡◌, ◌&&◌, ◌||◌, Bool, true, false, 
 use Rattle.std.specs.Prelude.{Contains, not}
 use Rattle.std.specs.List.{list_any}
 use Rattle.std.proofs.lemmas.List.Sorted.{list_any-IsPermutation}
+use Rattle.std.proofs.lemmas.Bool.{not-true}
 use Rattle.rustsec_versions.specs.interval.Interval.{overlap}
 use Rattle.rustsec_versions.specs.order.Precedence.{precedence}
 use Rattle.rustsec_versions.specs.acceptance.Sweep.{TaggedInterval, are_clear, clashes}
@@ -37,10 +38,6 @@ clear_shuffled (turn x y xs) =
     ap (λ (o : Bool). not (o || list_any (clashes x) xs) && (not (list_any (clashes y) xs) && are_clear xs)) (clashes-sym x y)
     ∙ clear-opposite_bound (clashes y x) (list_any (clashes x) xs) (list_any (clashes y) xs) (are_clear xs)
 clear_shuffled (both s t) = clear_shuffled s ∙ clear_shuffled t
-
-not-true : (b : Bool) → not b ≡ true → b ≡ false
-not-true true h = cc h
-not-true false h = refl
 
 -- one that is not patched clashes with what it overlaps
 one-clash : (p q o : Bool) → p ≡ false → o ≡ true → (not (p && q) && o) ≡ true

@@ -2,7 +2,7 @@
 use Rattle.std.proofs.Common.{◌≡◌, ◌&&◌, ◌||◌, ◌⊎◌, Bool, true, false, List, [], ◌∷◌, refl, sym, ap, ◌∙◌, inl, inr, subst}
 use Rattle.std.specs.Prelude.{Contains, not}
 use Rattle.std.specs.List.{list_any}
-use Rattle.std.proofs.lemmas.Bool.{cases_Bool}
+use Rattle.std.proofs.lemmas.Bool.{and_from, cases_Bool, not-true, or_cases, or_left, or_parts, or_right}
 use Rattle.semver.specs.Parse.{Parts}
 use Rattle.rustsec_versions.specs.interval.Apart.{are_apart}
 use Rattle.rustsec_versions.specs.interval.Interval.{Endpoint, Interval, holds, is_after, is_before, overlap, reaches}
@@ -17,28 +17,6 @@ use Rattle.rustsec_versions.proofs.lemmas.lists.Contained.{contains-cases, conta
 use Rattle.rustsec_versions.proofs.lemmas.requirement.Sound.{admissible-reaches, and-first, and-second}
 
 -- ---- small steps
-
-and-both : (a b : Bool) → a ≡ true → b ≡ true → (a && b) ≡ true
-and-both a b h k = rw (h, k) refl
-
-or-first : (a b : Bool) → a ≡ true → (a || b) ≡ true
-or-first a b h = rw h refl
-
-or-second : (a b : Bool) → b ≡ true → (a || b) ≡ true
-or-second true b h = refl
-or-second false b h = h
-
-or-cases : (a b : Bool) → (a || b) ≡ true → (a ≡ true) ⊎ (b ≡ true)
-or-cases true b h = inl refl
-or-cases false b h = inr h
-
-or-none : (a b : Bool) → (a || b) ≡ false → (a ≡ false) × (b ≡ false)
-or-none true b h = cc h
-or-none false b h = (refl, h)
-
-not-true : (b : Bool) → not b ≡ true → b ≡ false
-not-true true h = cc h
-not-true false h = refl
 
 weaker : (a b : Bool) → (a ≡ true → b ≡ true) → b ≡ (a || b)
 weaker true b h = h refl
@@ -100,7 +78,7 @@ all-reach (i ∷ is) all k c = elim (contains-cases k i is c) [
 -- ---- chains
 
 overlap-self : (k : Interval) → reaches precedence k.start k.end ≡ true → overlap precedence k k ≡ true
-overlap-self k near = and-both _ _ near near
+overlap-self k near = and_from _ _ near near
 
 overlap-flipped : (x y : Interval) → overlap precedence x y ≡ true → overlap precedence y x ≡ true
 overlap-flipped x y h = overlap-sym precedence y x ∙ h
@@ -177,8 +155,8 @@ module _ (i j : Interval) (rest : List Interval) (all : AllAdmissible (i ∷ j �
   -- what an interval overlaps, its image overlaps
   taken : (x y : Interval) → Stands i j rest x y → (k : Interval) → reaches precedence k.start k.end ≡ true → overlap precedence x k ≡ true
       → overlap precedence y k ≡ true
-  taken x y first k near h = stretched-overlap i j begins meet k near ∙ or-first _ _ h
-  taken x y second k near h = stretched-overlap i j begins meet k near ∙ or-second _ _ h
+  taken x y first k near h = stretched-overlap i j begins meet k near ∙ or_left _ _ h
+  taken x y second k near h = stretched-overlap i j begins meet k near ∙ or_right _ _ h
   taken x y (other z c) k near h = h
 
   -- what the image overlaps, some interval overlaps that is joined with the first one
@@ -187,14 +165,14 @@ module _ (i j : Interval) (rest : List Interval) (all : AllAdmissible (i ∷ j �
   given x y first k near h =
       let at-i = contains-here i (j ∷ rest) in
       let at-j = contains-there j i (j ∷ rest) (contains-here j rest) in
-      elim (or-cases _ _ (sym (stretched-overlap i j begins meet k near) ∙ h)) [
+      elim (or_cases _ _ (sym (stretched-overlap i j begins meet k near) ∙ h)) [
         | inl a ↦ (i, at-i, itself i, itself i, a)
         | inr b ↦ (j, at-j, onward i j at-j meet (itself j), onward j i at-i (overlap-flipped i j meet) (itself i), b)
       ]
   given x y second k near h =
       let at-i = contains-here i (j ∷ rest) in
       let at-j = contains-there j i (j ∷ rest) (contains-here j rest) in
-      elim (or-cases _ _ (sym (stretched-overlap i j begins meet k near) ∙ h)) [
+      elim (or_cases _ _ (sym (stretched-overlap i j begins meet k near) ∙ h)) [
         | inl a ↦ (i, at-i, onward j i at-i (overlap-flipped i j meet) (itself i), onward i j at-j meet (itself j), a)
         | inr b ↦ (j, at-j, itself j, itself j, b)
       ]
@@ -257,8 +235,8 @@ module _ (i j : Interval) (rest : List Interval) (all : AllAdmissible (i ∷ j �
 any-none : (i : Interval) (is : List Interval) → list_any (overlap precedence i) is ≡ false → (k : Interval) → Contains is k → overlap precedence i k ≡ false
 any-none i [] far k c = absurd (contains-nil k c)
 any-none i (j ∷ is) far k c = elim (contains-cases k j is c) [
-  | inl e ↦ subst (λ (x : Interval). overlap precedence i x ≡ false) e (or-none _ _ far).0
-  | inr d ↦ any-none i is (or-none _ _ far).1 k d
+  | inl e ↦ subst (λ (x : Interval). overlap precedence i x ≡ false) e (or_parts _ _ far).0
+  | inr d ↦ any-none i is (or_parts _ _ far).1 k d
 ]
 
 module _ (i : Interval) (is : List Interval) (all : AllAdmissible (i ∷ is)) (far : list_any (overlap precedence i) is ≡ false) where

@@ -2,7 +2,7 @@
 use Rattle.std.proofs.Common.{◌≡◌, ◌⊎◌, ◌++◌, ◌&&◌, ◌||◌, ◌∙◌, Bool, true, false, List, [], ◌∷◌, IsPermutation, append-nil, append_assoc, inl, inr, refl, sym}
 use Rattle.std.specs.Prelude.{Contains, filter_map, is_some, not}
 use Rattle.std.specs.List.{list_any}
-use Rattle.std.proofs.lemmas.Bool.{cases_Bool}
+use Rattle.std.proofs.lemmas.Bool.{and_left, and_right, cases_Bool}
 use Rattle.std.proofs.lemmas.List.{map-append}
 use Rattle.std.proofs.lemmas.List.Elements.{filter_map-append}
 use Rattle.std.proofs.lemmas.List.Folds.{list_all-append, list_any-append}
@@ -77,22 +77,14 @@ module _ (ls : Lists) (xs ys : List TaggedInterval) (same : IsPermutation (all_t
     | inr other ↦ accepted-refused ls other
   ]
 
-and-false_left : (a b : Bool) → a ≡ false → (a && b) ≡ false
-and-false_left true b h = cc h
-and-false_left false b h = refl
-
-and-false_right : (a b : Bool) → b ≡ false → (a && b) ≡ false
-and-false_right true b h = h
-and-false_right false b h = refl
-
 pub admissible-append : (rs qs : List (List Held)) → all_admissible (rs ++ qs) ≡ (all_admissible rs && all_admissible qs)
 admissible-append rs qs = list_all-append (λ r. is_some (interval_of r)) rs qs
 
 pub refused-left : (rs qs : List (List Held)) → all_admissible rs ≡ false → all_admissible (rs ++ qs) ≡ false
-refused-left rs qs h = admissible-append rs qs ∙ and-false_left _ _ h
+refused-left rs qs h = admissible-append rs qs ∙ and_left _ _ h
 
 pub refused-right : (rs qs : List (List Held)) → all_admissible qs ≡ false → all_admissible (rs ++ qs) ≡ false
-refused-right rs qs h = admissible-append rs qs ∙ and-false_right _ _ h
+refused-right rs qs h = admissible-append rs qs ∙ and_right _ _ h
 
 tagged-parts : (b : Bool) (rs qs : List (List Held)) → tagged b (rs ++ qs) ≡ tagged b rs ++ tagged b qs
 tagged-parts b rs qs = rw (filter_map-append interval_of rs qs) (map-append (tag b) (filter_map interval_of rs) (filter_map interval_of qs))

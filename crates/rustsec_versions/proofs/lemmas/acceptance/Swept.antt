@@ -7,7 +7,7 @@ use Rattle.std.specs.Option.{option_map}
 use Rattle.std.specs.Ordering.{is_le, is_lt, ordering_reverse}
 use Rattle.std.specs.declared.cmp.Ordering.{Ordering}
 use Rattle.std.specs.declared.cmp.Ordering.TheVariants.{Less, Equal, Greater}
-use Rattle.std.proofs.lemmas.Bool.{cases_Bool}
+use Rattle.std.proofs.lemmas.Bool.{and_right, cases_Bool}
 use Rattle.semver.specs.Parse.{Parts}
 use Rattle.rustsec_versions.specs.ranges.Complement.{start_order, start_order_total}
 use Rattle.rustsec_versions.specs.interval.Interval.{Endpoint, Interval, holds, overlap, reaches}
@@ -240,16 +240,12 @@ swept-some c (x ∷ xs) ms r e = elim (cases_Bool (overlap version_order c.inter
 not-clear : (n o a b : Bool) → n ≡ false → o ≡ true → (not ((not n && o) || a) && b) ≡ false
 not-clear n o a b h k = rw (h, k) refl
 
-and-false : (a b : Bool) → b ≡ false → (a && b) ≡ false
-and-false true b h = h
-and-false false b h = refl
-
 swept-none : (c : TaggedInterval) (xs : List TaggedInterval) → AreReady (spans (c ∷ xs)) → swept c xs ≡ None → are_clear (c ∷ xs) ≡ false
 unfolding swept
 swept-none c [] r e = cc e
 swept-none c (x ∷ xs) r e = elim (cases_Bool (overlap version_order c.interval x.interval)) [
   | inr far ↦
-      and-false _ _ (swept-none x xs (ready-tail c.interval x.interval (spans xs) r) (mapped-none c (swept x xs) (rw far at e)))
+      and_right _ _ (swept-none x xs (ready-tail c.interval x.interval (spans xs) r) (mapped-none c (swept x xs) (rw far at e)))
   | inl near ↦
       let meets = sym (overlap-plain c.interval x.interval r.sound.0 r.sound.1.0) ∙ near in
       elim (cases_Bool (c.is_patched && x.is_patched)) [

@@ -1,7 +1,7 @@
 -- Precedence is a total order: laws of its tests.
-use Rattle.std.proofs.Common.{◌≡◌, Bool, true, false, refl, sym, ap, ◌∙◌, inl, inr}
+use Rattle.std.proofs.Common.{◌≡◌, true, false, refl, sym, ap, ◌∙◌, inl, inr}
 use Rattle.std.specs.Prelude.{not}
-use Rattle.std.proofs.lemmas.Bool.{cases_Bool}
+use Rattle.std.proofs.lemmas.Bool.{cases_Bool, not-false, not-true}
 use Rattle.std.specs.BTreeMap.Comparable.{le_lt_trans}
 use Rattle.std.specs.Ordering.{is_le, is_lt, ordering_reverse}
 use Rattle.std.specs.Cmp.{IsTotalOrder, nat_cmp_total, on_total, then_total}
@@ -31,14 +31,6 @@ lt-Less Greater h = cc h
 
 pub at_most-below : (a b c : Parts) → is_at_most a b ≡ true → is_below b c ≡ true → is_below a c ≡ true
 at_most-below a b c h k = ap is_lt (le_lt_trans total a b c h (lt-Less _ k))
-
-not-true : (b : Bool) → not b ≡ true → b ≡ false
-not-true true h = cc h
-not-true false h = refl
-
-not-false : (b : Bool) → not b ≡ false → b ≡ true
-not-false true h = refl
-not-false false h = cc h
 
 -- what is not below is at or above
 pub not_below : (a b : Parts) → is_below a b ≡ false → is_at_most b a ≡ true

@@ -1,9 +1,9 @@
 -- A binary search: what it finds among gaps that follow one another, and how many comparisons it makes.
-use Rattle.std.proofs.Common.{◌≡◌, ◌+◌, ◌<◌, ◌≤◌, ◌^◌, ◌&&◌, ℕ, zero, suc, Bool, true, false, List, [], ◌∷◌, Option, None, Some, length, map, get_or, refl, subst, sym, arith, inl, inr, ◌∙◌, ◌-◌, ◌⊎◌}
+use Rattle.std.proofs.Common.{◌≡◌, ◌+◌, ◌<◌, ◌≤◌, ◌^◌, ℕ, zero, suc, true, false, List, [], ◌∷◌, Option, None, Some, length, map, get_or, refl, subst, sym, arith, inl, inr, ◌∙◌, ◌-◌, ◌⊎◌}
 use Rattle.std.specs.List.{AllAdjacentBelow, list_any}
 use Rattle.std.specs.Prelude.{is_some}
 use Rattle.std.proofs.Math.Nat.{pow-suc, pow-zero}
-use Rattle.std.proofs.lemmas.Bool.{cases_Bool}
+use Rattle.std.proofs.lemmas.Bool.{and_from, and_left, and_right, cases_Bool}
 use Rattle.std.proofs.lemmas.Nat.{pow_pos}
 use Rattle.std.proofs.lemmas.List.{get_or-map, get_or_default}
 use Rattle.std.proofs.Math.ListN.{length-map}
@@ -66,25 +66,13 @@ three (suc k) (suc m) = elim (three k m) [
   | inr (inr high) ↦ inr (inr (omega arith))
 ]
 
-and-both : (a b : Bool) → a ≡ true → b ≡ true → (a && b) ≡ true
-and-both true b h k = k
-and-both false b h k = cc h
-
-and-first : (a b : Bool) → a ≡ false → (a && b) ≡ false
-and-first true b h = cc h
-and-first false b h = refl
-
-and-second : (a b : Bool) → b ≡ false → (a && b) ≡ false
-and-second true b h = h
-and-second false b h = refl
-
 -- no gap begins at or below the version
 pub in-none : (gs : List Interval) (v : Parts) → ((k : ℕ) (d : Interval) → k < length gs → is_after (get_or gs k d).start v ≡ false) → list_any (λ g. holds g v) gs ≡ false
-in-none gs v h = list_any_none (λ g. holds g v) gs (λ k d l. and-first _ _ (h k d l))
+in-none gs v h = list_any_none (λ g. holds g v) gs (λ k d l. and_left _ _ (h k d l))
 
 before-end : (gs : List Interval) (v : Parts) (k : ℕ) (d : Interval) → AreInTurn gs → k + 1 < length gs → is_after (get_or gs (k + 1) d).start v ≡ true
     → holds (get_or gs k d) v ≡ false
-before-end gs v k d t l h = and-second _ _ (t.turn v k d l h).1
+before-end gs v k d t l h = and_right _ _ (t.turn v k d l h).1
 
 -- the last gap that begins at or below the version decides
 pub in-last : (gs : List Interval) (v : Parts) (m : ℕ) (e : Interval) → AreInTurn gs → m < length gs
@@ -92,12 +80,12 @@ pub in-last : (gs : List Interval) (v : Parts) (m : ℕ) (e : Interval) → AreI
     → ((k : ℕ) (d : Interval) → m + 1 ≤ k → k < length gs → is_after (get_or gs k d).start v ≡ false)
     → list_any (λ g. holds g v) gs ≡ is_before (get_or gs m e).end v
 in-last gs v m e t l before after = elim (cases_Bool (is_before (get_or gs m e).end v)) [
-  | inl inside ↦ list_any_at (λ g. holds g v) gs m e l (and-both _ _ (before m e (omega arith)) inside) ∙ sym inside
+  | inl inside ↦ list_any_at (λ g. holds g v) gs m e l (and_from _ _ (before m e (omega arith)) inside) ∙ sym inside
   | inr over ↦
       list_any_none (λ g. holds g v) gs (λ k d here. elim (three k m) [
         | inl low ↦ before-end gs v k d t (omega arith) (before (k + 1) d (omega arith))
-        | inr (inl same) ↦ rw (same, get_or_default gs m d e l) (and-second _ _ over)
-        | inr (inr high) ↦ and-first _ _ (after k d (omega arith) here)
+        | inr (inl same) ↦ rw (same, get_or_default gs m d e l) (and_right _ _ over)
+        | inr (inr high) ↦ and_left _ _ (after k d (omega arith) here)
       ]) ∙ sym over
 ]
 

@@ -5,7 +5,7 @@ use Rattle.rustsec_versions.proofs.ranges.complement.complement.Goals as goal
 
 pub returns-in-Unbounded : goal.returns-in-Unbounded
 returns-in-Unbounded c =
-    let done = rw c.start.ensures at c.in_ok-add_interval_before.ensures in
+    let done = rw c.start.ensures at c.in_ok-add_gap_before.ensures in
     let over = rw (c.end.ensures, c.in-Unbounded.is) at c.in_ok-next.ensures in
     done
     ∙ sym (walk-over c.loop-interval.complement.items (endpoint_of c.loop-interval.from) c.args.intervals.now c.loop-interval.interval-index
@@ -14,7 +14,7 @@ returns-in-Unbounded c =
 
 pub loop-interval-preserved : goal.loop-interval-preserved
 loop-interval-preserved c =
-    let done = rw c.start.ensures at c.in_ok-add_interval_before.ensures in
+    let done = rw c.start.ensures at c.in_ok-add_gap_before.ensures in
     let next = rw c.end.ensures at c.in_ok-next.ensures in
     rw done
     (sym (walk-on c.loop-interval.complement.items (endpoint_of c.loop-interval.from) (endpoint_of c.in_ok-next.next) c.args.intervals.now

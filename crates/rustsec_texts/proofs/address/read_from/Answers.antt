@@ -1,8 +1,8 @@
 use Rattle.std.proofs.Common.{◌≡◌, ◌∙◌, IsAscii, None, ap, subst}
 use Rattle.url.specs.Parts.{serialize}
 use Rattle.url.proofs.Theorems.{parse_url_idempotent}
-use Rattle.rustsec_advisory.specs.Addresses.{printed}
-use Rattle.rustsec_advisory.proofs.address.read_from.Goals as goal
+use Rattle.rustsec_texts.specs.Addresses.{printed}
+use Rattle.rustsec_texts.proofs.address.read_from.Goals as goal
 
 pub invariant_of-result : goal.invariant_of-result
 invariant_of-result c =

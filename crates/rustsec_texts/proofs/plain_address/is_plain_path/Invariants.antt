@@ -1,7 +1,7 @@
 use Rattle.std.proofs.Common.{◌≡◌, map, true}
 use Rattle.std.specs.List.{list_all}
-use Rattle.rustsec_advisory.specs.PlainAddresses.{is_plain_segment}
-use Rattle.rustsec_advisory.proofs.plain_address.is_plain_path.Given as goal
+use Rattle.rustsec_texts.specs.PlainAddresses.{is_plain_segment}
+use Rattle.rustsec_texts.proofs.plain_address.is_plain_path.Given as goal
 
 -- each segment so far is plain
 abbrev pub invariant-loop-segment : goal.invariant-loop-segment

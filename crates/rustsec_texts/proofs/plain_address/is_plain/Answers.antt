@@ -1,6 +1,6 @@
 use Rattle.std.proofs.Common.{◌∙◌, sym}
-use Rattle.rustsec_advisory.proofs.PlainAddresses.{plain-address}
-use Rattle.rustsec_advisory.proofs.plain_address.is_plain.Goals as goal
+use Rattle.rustsec_texts.proofs.PlainAddresses.{plain-address}
+use Rattle.rustsec_texts.proofs.plain_address.is_plain.Goals as goal
 
 pub returns-in-Some : goal.returns-in-Some
 returns-in-Some c = λ is. record {

@@ -4,9 +4,9 @@ use Rattle.std.specs.Str.Iter.{split_has_more, split_pattern, split_text}
 use Rattle.std.proofs.lemmas.Iterator.Consumers.{YieldsList-end}
 use Rattle.std.proofs.lemmas.Iterator.Splits.{YieldsList-from_str_split}
 use Rattle.std.proofs.lemmas.List.{map-append}
-use Rattle.rustsec_advisory.specs.PlainAddresses.{is_plain_segment}
-use Rattle.rustsec_advisory.proofs.PlainAddresses.{one-more}
-use Rattle.rustsec_advisory.proofs.plain_address.is_plain_path.Goals as goal
+use Rattle.rustsec_texts.specs.PlainAddresses.{is_plain_segment}
+use Rattle.rustsec_texts.proofs.PlainAddresses.{one-more}
+use Rattle.rustsec_texts.proofs.plain_address.is_plain_path.Goals as goal
 
 pub loop-segment-preserved : goal.loop-segment-preserved
 loop-segment-preserved c =

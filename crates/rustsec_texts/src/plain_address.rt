@@ -2,8 +2,8 @@
 
 ghost use Rattle.std.specs.Prelude.{◌≡◌, ◌++◌, ◌∷◌, IfSome, IsTrue, codes, true};
 ghost use Rattle.std.specs.List.{list_all};
-ghost use Rattle.rustsec_advisory.specs.Addresses.{IsAddress};
-ghost use Rattle.rustsec_advisory.specs.PlainAddresses.{is_domain_byte, is_label_byte, is_last_label, is_plain_segment, is_segment_byte, segments};
+ghost use Rattle.rustsec_texts.specs.Addresses.{IsAddress};
+ghost use Rattle.rustsec_texts.specs.PlainAddresses.{is_domain_byte, is_label_byte, is_last_label, is_plain_segment, is_segment_byte, segments};
 
 /// Returns whether a byte may be in a label of a plain domain.
 fn is_label_byte(b: u8) -> bool

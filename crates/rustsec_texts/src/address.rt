@@ -5,7 +5,7 @@ ghost use Rattle.std.specs.Cmp.{partial_equiv_from_equiv};
 ghost use Rattle.std.specs.Cmp.Lexicographic.{bytes_decides, nat_list_eq_equiv, pointwise};
 ghost use Rattle.url.specs.Parser.{parse_url};
 ghost use Rattle.url.specs.Parts.{serialize};
-ghost use Rattle.rustsec_advisory.specs.Addresses.{address_of, unless_no_room};
+ghost use Rattle.rustsec_texts.specs.Addresses.{address_of, unless_no_room};
 ghost use Rattle.rustsec_error.specs.Failure.{IsMemory, IsRefusal};
 
 use crate::plain_address::is_plain;
@@ -25,7 +25,7 @@ pub struct Address {
 
 impl Model for Address {
     ghost use Rattle.std.specs.Prelude.{ℕ, List};
-    ghost use Rattle.rustsec_advisory.specs.Addresses.{IsAddress};
+    ghost use Rattle.rustsec_texts.specs.Addresses.{IsAddress};
 
     ghost Value = { List ℕ };
 
@@ -185,7 +185,7 @@ impl AsStr for Address {
 }
 
 impl FromText for Address {
-    ghost use Rattle.rustsec_advisory.specs.Addresses.{address_of};
+    ghost use Rattle.rustsec_texts.specs.Addresses.{address_of};
 
     ghost reads = { address_of };
 

@@ -2,7 +2,7 @@
 use Rattle.std.proofs.Common.{◌≡◌, ◌∙◌, ◌==◌, ◌&&◌, ◌||◌, ◌<◌, ◌++◌, ℕ, Bool, true, false, cond, not, All, List, [], ◌∷◌, None, Some, ap, append-nil, arith, codes, drop, inl, length, length-append, lit<, refl, slice_index, sym}
 use Rattle.std.specs.Char.{is_ascii_digit, is_ascii_lowercase, is_ascii_uppercase, is_digit, to_ascii_lowercase}
 use Rattle.std.specs.List.{list_all, onto_first}
-use Rattle.std.proofs.lemmas.Bool.{and_parts, both_ways, cond-false}
+use Rattle.std.proofs.lemmas.Bool.{and_parts, both_ways, cond-false, not-true}
 use Rattle.std.proofs.lemmas.Bool.Decides.{nat_tests}
 use Rattle.std.proofs.lemmas.List.Elements.{All-append, All-cons, All-nil, All-weaker}
 use Rattle.url.specs.declared.sets.TheConstants.{FORBIDDEN_DOMAIN, PATH}
@@ -17,8 +17,8 @@ use Rattle.url.specs.Scheme.{IsScheme, default_port, is_slash, scheme_len, schem
 use Rattle.url.proofs.InputLemmas.{All_from_list_all, IsNot, Passes, is_empty_nonempty, lowercase_other, map_fixed, rsplit_once_at}
 use Rattle.url.proofs.SetLemmas.{kept_from_passes}
 use Rattle.url.proofs.Theorems.{parse_url-serialize_special}
-use Rattle.rustsec_advisory.specs.Addresses.{address_of, printed}
-use Rattle.rustsec_advisory.specs.PlainAddresses.{IsPlain, is_domain_byte, is_label_byte, is_last_label, is_plain_segment, is_segment_byte, segments}
+use Rattle.rustsec_texts.specs.Addresses.{address_of, printed}
+use Rattle.rustsec_texts.specs.PlainAddresses.{IsPlain, is_domain_byte, is_label_byte, is_last_label, is_plain_segment, is_segment_byte, segments}
 
 -- one more value that passes a test
 pub one-more : {A : Type 0} (test : A → Bool) (xs : List A) (x : A) → list_all test xs ≡ true → test x ≡ true → list_all test (xs ++ x ∷ []) ≡ true
@@ -105,17 +105,13 @@ segment-no-slash b is = grind (arith, nat_tests)
 segment-no-percent : (b : ℕ) → is_segment_byte b ≡ true → (b == 37) ≡ false
 segment-no-percent b is = grind (arith, nat_tests)
 
-not-from : (b : Bool) → not b ≡ true → b ≡ false
-not-from false e = refl
-not-from true e = sym e
-
 no-dots : (segment : List ℕ) → is_plain_segment segment ≡ true → dot_count segment ≡ 0
 unfolding dot_count
 no-dots [] is = refl
 no-dots (b ∷ segment) is =
     let both = and_parts (not (b == 46)) (list_all is_segment_byte (b ∷ segment)) is in
     let first = and_parts (is_segment_byte b) (list_all is_segment_byte segment) both.1 in
-    rw (not-from (b == 46) both.0, segment-no-percent b first.0) refl
+    rw (not-true (b == 46) both.0, segment-no-percent b first.0) refl
 
 is-segment : (segment : List ℕ) → is_plain_segment segment ≡ true → IsSegment SpecialNotFile segment
 is-segment segment is =
