@@ -28,8 +28,8 @@ fn output_of<F: Folders, R: Read>(
     ensures same { AllowSame (F.allowed folders.old) (F.allowed folders.new) }
 {
     match command {
-        Command::Affected => affected::affected_of(alloc, input),
-        Command::Ranges => ranges::ranges_of(alloc, input),
+        Command::Affected => affected::reader_output(alloc, input),
+        Command::Ranges => ranges::reader_output(alloc, input),
         Command::Lint(path) => Ok(lint::lint_output(alloc, folders, path)?),
         Command::Osv(path, modified) => Ok(osv::osv_output(alloc, folders, path, modified)?),
         Command::Report(root, lock) => Ok(report::report(alloc, folders, root, lock)?),

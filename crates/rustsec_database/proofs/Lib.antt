@@ -8,6 +8,7 @@ pub mod OnlyWithId
 pub mod Opening
 pub mod Pairs
 pub mod Places
+pub mod Postings
 pub mod Slots
 pub mod Spans
 pub mod Tables

@@ -4,10 +4,8 @@ use Rattle.std.proofs.lemmas.Bool.{and_from, cases_Bool, or_left, or_right}
 use Rattle.std.proofs.lemmas.Grind.{common_steps}
 use Rattle.std.proofs.lemmas.List.Elements.{filter_map-append}
 use Rattle.std.proofs.lemmas.List.Folds.{list_any-append}
-use Rattle.std.proofs.lemmas.Option.{slice_get-map}
 use Rattle.std.specs.Prelude.{unwrap_or}
-use Rattle.std.specs.List.{cons_option, filter_map, list_any, slice_get}
-use Rattle.std.specs.Option.{option_map}
+use Rattle.std.specs.List.{cons_option, filter_map, list_any}
 use Rattle.semver.specs.Grammar.{is_pre_release}
 use Rattle.semver.specs.Parse.{Held, Parts}
 use Rattle.semver.specs.declared.Op.{Op}
@@ -20,9 +18,7 @@ use Rattle.rustsec_versions.specs.ranges.Ranges.{in_range, is_from, is_until}
 use Rattle.rustsec_versions.specs.requirement.Requirement.{admitted, base_version, fits, interval_of, names_version, of_one}
 use Rattle.rustsec_versions.proofs.lemmas.order.PrecedenceLaws.{at_most-trans, not_at_most, not_below}
 use Rattle.rustsec_versions.proofs.lemmas.requirement.Sound.{and-first, and-second, only_if-true, some-same}
-use Rattle.rustsec_advisory.specs.declared.advisory.Advisory.{Advisory}
-use Rattle.rustsec_query.specs.Selects.{if_there}
-use Rattle.rustsec_database.specs.Spans.{end_at, end_by, first_end, first_start, is_near, or_else, release_of, span_of, spans_of, start_at, start_by}
+use Rattle.rustsec_database.specs.Spans.{end_at, end_by, first_end, first_start, or_else, release_of, span_of, start_at, start_by}
 
 -- ---- one requirement
 
@@ -188,14 +184,3 @@ past ls v w (Some x) is h at = ended ls x w is (at_most-trans x v w (not_below v
 pub past-span : (ls : Lists) (v w : Parts) → is_until (span_of ls).fixed v ≡ false → is_at_most v w ≡ true → affected ls w ≡ false
 unfolding span_of
 past-span ls v w h at = past ls v w (first_end ls.patched) refl h at
-
--- ---- the spans of advisories
-
-span-at : (advisories : List Advisory) (n : ℕ) (a : Advisory) → Some a ≡ slice_get advisories n → slice_get (spans_of advisories) n ≡ Some (span_of a.versions)
-span-at advisories n a is = slice_get-map (λ (b : Advisory). span_of b.versions) advisories n ∙ ap (option_map (λ (b : Advisory). span_of b.versions)) (sym is)
-
--- the span of an advisory that affects the version that is asked for holds it
-pub near-at : (advisories : List Advisory) (version : Option Parts) (n : ℕ) (a : Advisory) → Some a ≡ slice_get advisories n
-    → if_there (affected a.versions) version ≡ true → is_near (spans_of advisories) version n ≡ true
-near-at advisories None n a is h = refl
-near-at advisories (Some v) n a is h = ap (if_there (λ s. in_range s v)) (span-at advisories n a is) ∙ in-span a.versions v h

@@ -1,13 +1,12 @@
 -- The tables of a database after one more advisory is stored.
-use Rattle.std.proofs.Common.{◌≡◌, ◌∙◌, ◌+◌, ◌<◌, ◌++◌, ◌&&◌, ◌||◌, ℕ, Bool, true, false, cond, IsSome, List, [], ◌∷◌, None, Option, Some, get_or, is_some, length, nat_eq, take, refl, subst, sym, ap, arith}
-use Rattle.std.proofs.lemmas.List.{length-take-le, take_more}
+use Rattle.std.proofs.Common.{◌≡◌, ◌∙◌, ◌+◌, ◌++◌, ◌&&◌, ◌||◌, ℕ, Bool, true, false, cond, IsSome, List, [], ◌∷◌, None, Option, Some, is_some, length, nat_eq, refl, subst, sym, ap, arith}
 use Rattle.std.specs.Cmp.{first_so, second_so}
 use Rattle.std.specs.Cmp.Lexicographic.{bytes_decides, pointwise}
 use Rattle.std.specs.HashMap as hash
 use Rattle.std.specs.HashMap.{HashMap, Updates}
-use Rattle.std.specs.List.{filter, find, list_any, position_from}
+use Rattle.std.specs.List.{find, list_any, position_from}
 use Rattle.std.specs.Option.{option_eq}
-use Rattle.std.proofs.lemmas.Bool.{and_from, and_left, and_right}
+use Rattle.std.proofs.lemmas.Bool.{and_from}
 use denote.Enum.Bare.{sameb}
 use Rattle.semver.specs.Parse.{Parts}
 use Rattle.rustsec_versions.specs.acceptance.Lists.{affected}
@@ -20,10 +19,8 @@ use Rattle.rustsec_lock.specs.Package.{PackageValue}
 use Rattle.rustsec_query.specs.Query.{Asked, of_package}
 use Rattle.rustsec_query.specs.Selects.{as_informational, as_withdrawn, has_name, has_source, has_version, if_there, in_collection, is_severe, of_year, on_arch, on_os, selects}
 use Rattle.rustsec_database.specs.Loaded.{has_id, is_known}
-use Rattle.rustsec_database.specs.Places.{IsIndexOf, IsTableOf, at_places, is_under, places_from}
-use Rattle.rustsec_database.specs.Slots.{slots_at, with_slot}
-use Rattle.rustsec_database.proofs.Places.{find-any, first-last, first-other, is-false, narrow, none-at, places-below, places-in, places-out, taken}
-use Rattle.rustsec_database.proofs.Slots.{with_slot-last}
+use Rattle.rustsec_database.specs.Places.{IsTableOf, is_under}
+use Rattle.rustsec_database.proofs.Places.{find-any, first-last, first-other, is-false, none-at}
 
 -- ---- the table of IDs
 
@@ -71,45 +68,10 @@ new-in-table list a id m same table none =
     none-at (has_id a.metadata.id) 0 list (sym none ∙ (table id ∙ ap (λ i. position_from (has_id i) 0 list) same)) in
     sym (find-any (has_id a.metadata.id) list) ∙ ap is_some (sym found)
 
--- ---- the index of a collection
+-- ---- names
 
 pub name-back : (a b : List ℕ) → pointwise nat_eq a b ≡ false → pointwise nat_eq b a ≡ false
 name-back a b h = is-false (pointwise nat_eq b a) (λ t. cc (sym h ∙ (bytes_decides a b).1 (sym ((bytes_decides b a).0 t))))
-
-index-step : (c : Collection) (before : List Advisory) (a : Advisory) (slot : ℕ) (old : List (List ℕ × List ℕ)) (name : List ℕ) (b : Bool)
-    → pointwise nat_eq a.metadata.«package» name ≡ b → option_eq (sameb collection) (Some c) a.metadata.collection ≡ true
-    → slot ≡ length before → IsIndexOf c before old
-    → cond b (with_slot slot (slots_at a.metadata.«package» old)) (slots_at name old) ≡ places_from (is_under c name) 0 (before ++ a ∷ [])
-index-step c before a slot old name true is under at index =
-    let same : a.metadata.«package» ≡ name = (bytes_decides a.metadata.«package» name).0 is in
-    let here : is_under c name a ≡ true = and_from _ _ under ((bytes_decides name a.metadata.«package»).1 (sym same)) in
-    let places = places_from (is_under c name) 0 before in
-    let slots : slots_at a.metadata.«package» old ≡ places = ap (λ n. slots_at n old) same ∙ index name in
-    (λ i. with_slot (at i) (slots i))
-    ∙ (with_slot-last places (length before) (places-below (is_under c name) 0 (length before) before (sym (plus-zero (length before))))
-    ∙ (ap (λ (n : ℕ). places ++ n ∷ []) (plus-zero (length before)) ∙ sym (places-in (is_under c name) 0 before a here)))
-index-step c before a slot old name false is under at index =
-    index name ∙ sym (places-out (is_under c name) 0 before a (and_right _ _ (name-back a.metadata.«package» name is)))
-
-pub indexed-in : (c : Collection) (before : List Advisory) (a : Advisory) (slot : ℕ) (old new : List (List ℕ × List ℕ))
-    → option_eq (sameb collection) (Some c) a.metadata.collection ≡ true
-    → ((name : List ℕ) → slots_at name new ≡ cond (pointwise nat_eq a.metadata.«package» name) (with_slot slot (slots_at a.metadata.«package» old)) (slots_at name old))
-    → slot ≡ length before → IsIndexOf c before old → IsIndexOf c (before ++ a ∷ []) new
-indexed-in c before a slot old new under put at index name =
-    put name ∙ index-step c before a slot old name (pointwise nat_eq a.metadata.«package» name) refl under at index
-
-pub indexed-out : (c : Collection) (before : List Advisory) (a : Advisory) (old : List (List ℕ × List ℕ))
-    → option_eq (sameb collection) (Some c) a.metadata.collection ≡ false → IsIndexOf c before old → IsIndexOf c (before ++ a ∷ []) old
-indexed-out c before a old under index name =
-    index name ∙ sym (places-out (is_under c name) 0 before a (and_left _ _ under))
-
--- the index of the first advisories, with one more
-pub index-more : (c : Collection) (all : List Advisory) (i : ℕ) (a : Advisory) (slot : ℕ) (old new : List (List ℕ × List ℕ)) → i < length all → a ≡ get_or all i a
-    → slot ≡ i → ((before : List Advisory) → slot ≡ length before → IsIndexOf c before old → IsIndexOf c (before ++ a ∷ []) new)
-    → IsIndexOf c (take i all) old → IsIndexOf c (take (i + 1) all) new
-index-more c all i a slot old new l is at put index =
-    let below : slot ≡ length (take i all) = at ∙ sym (length-take-le i all (omega (arith, l))) in
-    subst (λ (b : List Advisory). IsIndexOf c b new) (ap (λ x. take i all ++ x ∷ []) is ∙ sym (take_more all i a l)) (put (take i all) below index)
 
 -- ---- queries
 
@@ -143,11 +105,3 @@ selected-affecting q version a at h =
 pub selected-of : (q : Asked) (p : PackageValue) (c : Collection) (a : Advisory) → q.collection ≡ Some c → selects (of_package q p) a ≡ true
     → is_under c p.name a ≡ true
 selected-of q p c a of h = selected-under (of_package q p) c p.name a (sym of) refl h
-
--- the places of an index are enough for a test that only advisories of its collection and name pass
-pub by-index : (test : Advisory → Bool) (c : Collection) (name : List ℕ) (advisories : List Advisory) (slots : List ℕ)
-    → ((a : Advisory) → test a ≡ true → is_under c name a ≡ true) → slots ≡ places_from (is_under c name) 0 advisories
-    → filter test (at_places slots advisories) ≡ filter test advisories
-by-index test c name advisories slots under are =
-    ap (λ ps. filter test (at_places ps advisories)) are
-    ∙ (ap (filter test) (taken (is_under c name) advisories) ∙ narrow (is_under c name) test under advisories)

@@ -5,5 +5,6 @@ pub mod Loaded
 pub mod Opened
 pub mod Placement
 pub mod Places
+pub mod Postings
 pub mod Slots
 pub mod Spans

@@ -32,14 +32,6 @@ at_places places xs = filter_map (slice_get xs) places
 abbrev pub is_under : Collection → List ℕ → Advisory → Bool
 is_under c name a = option_eq (sameb collection) (Some c) a.metadata.collection && pointwise nat_eq name a.metadata.«package»
 
--- the index of a collection: it maps each name to the places of its advisories
-abbrev pub IsIndexOf : Collection → List Advisory → List (List ℕ × List ℕ) → Type 0
-IsIndexOf c advisories index = (name : List ℕ) → slots_at name index ≡ places_from (is_under c name) 0 advisories
-
--- the indexes of both collections
-abbrev pub AreIndexesOf : List Advisory → List (List ℕ × List ℕ) → List (List ℕ × List ℕ) → Type 0
-AreIndexesOf advisories crates rust = IsIndexOf kind.Crates advisories crates × IsIndexOf kind.Rust advisories rust
-
 -- the table of IDs: it maps each ID to the place of its advisory
 abbrev pub IsTableOf : {S : Type 0} → List Advisory → HashMap IdValue ℕ S → Type 0
 IsTableOf advisories table = (id : IdValue) → hash.get id_eq table id ≡ position_from (has_id id) 0 advisories

@@ -1,14 +1,12 @@
 -- The versions between which all those are that an advisory leaves affected, by its requirements of one comparator.
-use Rattle.std.specs.Prelude.{◌&&◌, ◌==◌, ℕ, Bool, List, [], ◌∷◌, Option, None, Some, length, map, slice_get, unwrap_or}
+use Rattle.std.specs.Prelude.{◌&&◌, ◌==◌, List, [], ◌∷◌, Option, None, Some, length, unwrap_or}
 use Rattle.semver.specs.Parse.{Held, Parts}
 use Rattle.semver.specs.declared.Op.{Op}
 use Rattle.semver.specs.declared.Op.TheVariants as op
 use Rattle.rustsec_values.specs.Reading.{only_if}
 use Rattle.rustsec_versions.specs.acceptance.Lists.{Lists}
-use Rattle.rustsec_versions.specs.ranges.Ranges.{Range, in_range}
+use Rattle.rustsec_versions.specs.ranges.Ranges.{Range}
 use Rattle.rustsec_versions.specs.requirement.Requirement.{fits}
-use Rattle.rustsec_advisory.specs.declared.advisory.Advisory.{Advisory}
-use Rattle.rustsec_query.specs.Selects.{if_there}
 
 -- the version that a comparator names, unless it has a pre-release; missing numbers are zero
 abbrev pub release_of : Held → Option Parts
@@ -64,11 +62,3 @@ first_start (r ∷ rs) = or_else (start_by r) (first_start rs)
 -- patched ones
 unfoldable pub span_of : Lists → Range
 span_of ls = record { introduced = first_start ls.unaffected; fixed = first_end ls.patched }
-
--- the spans of advisories
-abbrev pub spans_of : List Advisory → List Range
-spans_of advisories = map (λ (a : Advisory). span_of a.versions) advisories
-
--- whether the span at a place, if any, holds a version, if one is asked for
-abbrev pub is_near : List Range → Option Parts → ℕ → Bool
-is_near spans version place = if_there (λ v. if_there (λ s. in_range s v) (slice_get spans place)) version

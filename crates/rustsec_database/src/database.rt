@@ -2,7 +2,7 @@
 
 ghost use Rattle.std.specs.Prelude.{◌≡◌, ◌++◌, ◌⊎◌, ◌<◌, ◌^◌, ℕ, IfErr, IfOk, IfSome, List, OnOk, Some, length, map, option_map, slice_get, true};
 ghost use Rattle.std.specs.Iterator.Adapters.{IterYieldsInOrder};
-ghost use Rattle.std.specs.List.{filter, find};
+ghost use Rattle.std.specs.List.{All, filter, find};
 ghost use Rattle.std.specs.Option.{option_copied};
 ghost use Rattle.std.specs.Slice.Iter.{iter_rest};
 ghost use Rattle.semver.specs.Identifiers.{parts_of};
@@ -13,14 +13,13 @@ ghost use Rattle.rustsec_query.specs.Pairs.{as_vulnerability, is_audited, pairs,
 ghost use Rattle.rustsec_query.specs.Query.{crate_scope, of_package};
 ghost use Rattle.rustsec_query.specs.Selects.{if_there, selects};
 ghost use Rattle.rustsec_database.specs.Loaded.{AreLoaded, IsFirstFault, IsOnlyWithId, has_id};
-ghost use Rattle.rustsec_database.specs.Places.{AreIndexesOf, at_places, is_under, places_from};
-ghost use Rattle.rustsec_database.specs.Spans.{is_near, spans_of};
+ghost use Rattle.rustsec_database.specs.Places.{at_places, is_under};
+ghost use Rattle.rustsec_database.specs.Postings.{AreListed, IsPostingAmong, is_near, posting_of};
 
 use crate::entries::Entries;
 use crate::indexes::Indexes;
 use crate::pair::{Pair, push_pairs, vulnerabilities_of};
-use crate::slot::Slot;
-use crate::span::{Span, spans_of};
+use crate::posting::{Posting, digest};
 use rustsec_advisory::Advisory;
 use rustsec_error::Result;
 use rustsec_folders::SourceFile;
@@ -42,21 +41,18 @@ pub type Iter<'a> = slice::Iter<'a, Advisory>;
 pub struct Database {
     entries: Entries,
     indexes: Indexes,
-    /// The span of each advisory.
-    spans: Vec<Span>,
 }
 
 impl Model for Database {
-    ghost use Rattle.std.specs.Prelude.{◌≡◌, List};
+    ghost use Rattle.std.specs.Prelude.{List};
     ghost use Rattle.rustsec_advisory.specs.declared.advisory.Advisory as given;
-    ghost use Rattle.rustsec_database.specs.Places.{AreIndexesOf};
-    ghost use Rattle.rustsec_database.specs.Spans.{spans_of};
+    ghost use Rattle.rustsec_database.specs.Postings.{AreIndexesOf};
 
     ghost Value = { List given.Advisory };
 
     ghost view = { λ d. d.entries };
 
-    ghost invariant = { λ d. AreIndexesOf d.entries d.indexes.crates d.indexes.rust × (d.spans.items ≡ spans_of d.entries) };
+    ghost invariant = { λ d. AreIndexesOf d.entries d.indexes.crates d.indexes.rust };
 }
 
 /// What the index is asked for: a collection and a name, and a version, if any.
@@ -67,57 +63,49 @@ struct Sought<'a> {
     version: Option<&'a Version>,
 }
 
-/// The spans of stored advisories, and a version that is asked for, if any.
+/// The digest of a name that is asked for, and a version, if any.
 #[derive(Drop)]
 struct Screen<'a> {
-    spans: &'a [Span],
+    digest: usize,
     version: Option<&'a Version>,
 }
 
 impl<'a> Model for Screen<'a> {
-    ghost use Rattle.std.specs.Prelude.{List, Option, option_map};
+    ghost use Rattle.std.specs.Prelude.{ℕ, Option, option_map};
     ghost use Rattle.semver.specs.Identifiers.{parts_of};
     ghost use Rattle.semver.specs.Parse.{Parts};
-    ghost use Rattle.rustsec_versions.specs.ranges.Ranges.{Range};
 
-    ghost Value = { List Range × Option Parts };
+    ghost Value = { ℕ × Option Parts };
 
-    ghost view = { λ s. (s.spans.now, option_map (λ v. parts_of v.now) s.version) };
+    ghost view = { λ s. (s.digest, option_map (λ v. parts_of v.now) s.version) };
 }
 
 impl<'a> Screen<'a> {
-    /// Returns whether the span of the advisory in a slot holds the version, if both are there. The advisory itself is not
-    /// read.
-    fn is_near(&self, slot: Slot) -> bool
-        ensures { result ≡ is_near self.now.0 self.now.1 slot }
+    /// Returns whether a posting has the digest, and its span holds the version, if any. The advisory itself is not read.
+    fn lets(&self, posting: &Posting) -> bool
+        ensures { result ≡ is_near self.now.0 self.now.1 posting.now }
     {
-        let Some(version) = self.version else {
-            return true;
-        };
-        match self.spans.get(slot.place()) {
-            Some(span) => span.holds(version),
-            None => true,
-        }
+        posting.is_near(self.digest, self.version)
     }
 }
 
-/// Returns the advisories in some slots that pass a test, in the order of the slots. Only those whose span holds the
-/// version of the screen may pass.
+/// Returns the advisories of some postings that pass a test, in their order. Only those whose posting has the digest of the
+/// screen, and a span that holds its version, may pass.
 fn matching<'a, T: Predicate<Advisory>>(
     alloc: Global,
     entries: &'a Entries,
     screen: &Screen<'_>,
-    slots: &[Slot],
+    postings: &[Posting],
     test: &T,
 ) -> std::result::Result<Vec<&'a Advisory>, AllocError>
-    requires { (place : ℕ) (a : given.Advisory) → Some a ≡ slice_get entries.now place → T.holds test.now a ≡ true
-        → is_near screen.now.0 screen.now.1 place ≡ true }
-    ensures { IfOk result (λ v. map (λ a. a.now) v.items ≡ filter (T.holds test.now) (at_places slots.now entries.now)) }
+    requires near { (place : ℕ) (a : given.Advisory) → T.holds test.now a ≡ true → is_near screen.now.0 screen.now.1 (posting_of place a) ≡ true }
+    requires among { All (IsPostingAmong entries.now) postings.now }
+    ensures { IfOk result (λ v. map (λ a. a.now) v.items ≡ filter (T.holds test.now) (at_places (map (λ p. p.1) postings.now) entries.now)) }
 {
     let mut found = Vec::new(alloc);
-    for slot in slots {
-        if screen.is_near(*slot) {
-            if let Some(advisory) = entries.get(*slot) {
+    for posting in postings {
+        if screen.lets(posting) {
+            if let Some(advisory) = entries.get(posting.slot()) {
                 if test.holds(advisory) {
                     found.push(advisory)?;
                 }
@@ -153,7 +141,7 @@ fn is_audited(package: &Package) -> bool
 }
 
 impl Database {
-    /// Returns the database of some entries. All are indexed here, so that the names in an index are side by side in memory.
+    /// Returns the database of some entries. All are indexed here, so that what an index holds is side by side in memory.
     ///
     /// # Errors
     ///
@@ -163,12 +151,7 @@ impl Database {
         ensures err { IfErr result IsMemory }
     {
         let indexes = Indexes::of(alloc, entries.as_slice())?;
-        let spans = spans_of(alloc, entries.as_slice())?;
-        Ok(Database {
-            entries,
-            indexes,
-            spans,
-        })
+        Ok(Database { entries, indexes })
     }
 
     /// Loads the database of some files. Advisories whose ID is the placeholder are left out.
@@ -210,24 +193,11 @@ impl Database {
         self.entries.iter()
     }
 
-    /// Returns the slots of the advisories of a collection and a package name.
-    fn slots(&self, collection: Collection, name: &Name) -> &[Slot]
-        ensures { result.now ≡ places_from (is_under collection name.now) 0 self.now }
+    /// Returns the postings of a collection among which are all those of names with a digest.
+    fn postings(&self, collection: Collection, digest: usize) -> &[Posting]
+        ensures { AreListed collection digest self.now result.now }
     {
-        match self.indexes.get(collection, name) {
-            Some(slots) => slots,
-            None => &[],
-        }
-    }
-
-    /// Returns the screen for a version.
-    fn screen<'a>(&'a self, version: Option<&'a Version>) -> Screen<'a>
-        ensures { result ≡ (spans_of self.now, option_map (λ v. parts_of v.now) version.entry) }
-    {
-        Screen {
-            spans: self.spans.as_slice(),
-            version,
-        }
+        self.indexes.postings(collection, digest)
     }
 
     /// Uses the index to find the advisories that pass a test, in the order in which they were loaded. Only advisories of
@@ -243,9 +213,13 @@ impl Database {
             → if_there (affected a.versions) (option_map (λ v. parts_of v.now) sought.version) ≡ true }
         ensures { IfOk result (λ v. map (λ a. a.now) v.items ≡ filter (T.holds test.now) self.now) }
     {
-        let screen = self.screen(sought.version);
-        let slots = self.slots(sought.collection, sought.name);
-        matching(alloc, &self.entries, &screen, slots, test)
+        let digest = digest(sought.name);
+        let screen = Screen {
+            digest,
+            version: sought.version,
+        };
+        let postings = self.postings(sought.collection, digest);
+        matching(alloc, &self.entries, &screen, postings, test)
     }
 
     /// Returns the advisories that match a query, in the order in which they were loaded. If the query asks
@@ -395,7 +369,6 @@ impl IntoIterator for Database {
         let Database {
             entries,
             indexes: _,
-            spans: _,
         } = self;
         entries.into_iter()
     }

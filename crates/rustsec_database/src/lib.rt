@@ -8,9 +8,11 @@ mod indexes;
 mod keeping;
 mod kept;
 mod locked;
+mod name_index;
 mod open;
 mod pair;
 pub mod placement;
+mod posting;
 mod slot;
 mod span;
 

@@ -1,16 +1,14 @@
 //! The versions between which all affected ones are. A search asks them before it reads an advisory.
 
-ghost use Rattle.std.specs.Prelude.{◌≡◌, ◌&&◌, [], IfOk, map, true};
+ghost use Rattle.std.specs.Prelude.{◌≡◌, ◌&&◌, [], map, true};
 ghost use Rattle.semver.specs.Identifiers.{comparator_view, parts_of};
 ghost use Rattle.rustsec_versions.specs.Views.{comparators_of};
 ghost use Rattle.rustsec_versions.specs.ranges.Ranges.{in_range, is_from, is_until};
 ghost use Rattle.rustsec_versions.specs.requirement.Requirement.{fits};
-ghost use Rattle.rustsec_database.specs.Spans.{end_by, first_end, first_start, release_of, span_of, spans_of, start_by};
+ghost use Rattle.rustsec_database.specs.Spans.{end_by, first_end, first_start, release_of, span_of, start_by};
 
-use rustsec_advisory::Advisory;
 use rustsec_versions::Versions;
 use semver::{Comparator, Op, Version, VersionReq};
-use std::alloc::{AllocError, Global};
 use std::marker::Model;
 
 /// A version without a pre-release and without build metadata.
@@ -138,21 +136,6 @@ pub(crate) fn span_of(versions: &Versions) -> Span
         introduced: first_start(versions.unaffected()),
         fixed: first_end(versions.patched()),
     }
-}
-
-/// Returns the spans of advisories, in order.
-pub(crate) fn spans_of(
-    alloc: Global,
-    advisories: &[Advisory],
-) -> std::result::Result<Vec<Span>, AllocError>
-    ensures { IfOk result (λ v. v.items ≡ spans_of advisories.now) }
-{
-    let mut spans = Vec::new(alloc);
-    for advisory in advisories {
-        let span = span_of(&advisory.versions);
-        spans.push(span).map_err(|_| AllocError)?;
-    }
-    Ok(spans)
 }
 
 impl Span {

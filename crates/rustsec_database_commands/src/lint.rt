@@ -75,7 +75,7 @@ struct Task<'a> {
 }
 
 /// Lints the files under a root, and makes the output for them.
-fn lint_root<F: Folders, N: Write>(
+fn root_output<F: Folders, N: Write>(
     alloc: Global,
     folders: &mut F,
     task: Task<'_>,
@@ -97,7 +97,7 @@ fn lint_root<F: Folders, N: Write>(
 }
 
 /// Lints the files under a root as the words after it ask.
-fn lint_asked<F: Folders, N: Write>(
+fn asked_output<F: Folders, N: Write>(
     alloc: Global,
     folders: &mut F,
     root: &str,
@@ -119,7 +119,7 @@ fn lint_asked<F: Folders, N: Write>(
         upstream: asked.upstream,
         progress: asked.progress,
     };
-    lint_root(alloc, folders, task, notes)
+    root_output(alloc, folders, task, notes)
 }
 
 /// Makes the output of `lint-database` for a root and the words after it. Notes on each file are written to `notes` when
@@ -137,7 +137,7 @@ pub fn lint<F: Folders, N: Write>(
     let Some(asked) = asked_of(words) else {
         return usage_output(alloc, misuse::of_options(alloc, words).ok());
     };
-    match lint_asked(alloc, folders, root, asked, notes) {
+    match asked_output(alloc, folders, root, asked, notes) {
         Ok(output) => Ok(output),
         Err(error) => refusal_output(alloc, &error),
     }

@@ -85,7 +85,11 @@ fn choice_for(modified: &str, words: &[&str]) -> Option<Choice>
 }
 
 /// Returns the output on words that are not options, or on an option where the time is expected.
-fn misused(alloc: Global, modified: &str, words: &[&str]) -> std::result::Result<Output, AllocError>
+fn misused_output(
+    alloc: Global,
+    modified: &str,
+    words: &[&str],
+) -> std::result::Result<Output, AllocError>
     ensures { IfOk result (λ o. o ≡ usage) }
 {
     if modified.starts_with("--") {
@@ -116,7 +120,7 @@ fn exported_output(exported: Exported) -> Output
 }
 
 /// Opens the database under a root, and makes the output for its documents.
-fn export_root<F: Folders>(
+fn root_output<F: Folders>(
     alloc: Global,
     folders: &mut F,
     root: &str,
@@ -147,9 +151,9 @@ pub fn osv_database<F: Folders>(
     ensures same { AllowSame (F.allowed folders.old) (F.allowed folders.new) }
 {
     let Some(choice) = choice_for(modified, words) else {
-        return misused(alloc, modified, words);
+        return misused_output(alloc, modified, words);
     };
-    match export_root(alloc, folders, root, modified, choice) {
+    match root_output(alloc, folders, root, modified, choice) {
         Ok(output) => Ok(output),
         Err(error) => refusal_output(alloc, &error),
     }

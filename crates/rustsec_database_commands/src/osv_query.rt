@@ -27,7 +27,7 @@ pub struct QueryInput<'a> {
 }
 
 /// Opens the database under a root, and makes the output for a version of a package.
-fn answer_root<F: Folders>(
+fn root_output<F: Folders>(
     alloc: Global,
     folders: &mut F,
     root: &str,
@@ -64,5 +64,5 @@ pub fn query_osv<F: Folders>(
         Ok(version) => version,
         Err(error) => return refusal_output(alloc, &error),
     };
-    answer_root(alloc, folders, question.root, name, version)
+    root_output(alloc, folders, question.root, name, version)
 }

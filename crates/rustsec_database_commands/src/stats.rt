@@ -57,7 +57,7 @@ fn text_of(alloc: Global, form: Form, advisories: &[Advisory]) -> Result<String>
 }
 
 /// Makes the output for the database under a root, in a form.
-fn count_root<F: Folders>(alloc: Global, folders: &mut F, root: &str, form: Form) -> Result<Output>
+fn root_output<F: Folders>(alloc: Global, folders: &mut F, root: &str, form: Form) -> Result<Output>
     ensures ok { IfOk result (λ o. (advisories : List given.Advisory) × (AreOpened (F.allowed folders.old) root.now advisories
         × (o ≡ stats_output form advisories))) }
     ensures err { IfErr result (IsOpenRefusal (F.allowed folders.old) root.now) }
@@ -69,7 +69,7 @@ fn count_root<F: Folders>(alloc: Global, folders: &mut F, root: &str, form: Form
 }
 
 /// Makes the output for the database under a root, in the form of a name.
-fn count_named<F: Folders>(
+fn named_output<F: Folders>(
     alloc: Global,
     folders: &mut F,
     root: &str,
@@ -81,7 +81,7 @@ fn count_named<F: Folders>(
     ensures same { AllowSame (F.allowed folders.old) (F.allowed folders.new) }
 {
     match form_named(alloc, name) {
-        Ok(form) => count_root(alloc, folders, root, form),
+        Ok(form) => root_output(alloc, folders, root, form),
         Err(error) => Err(error),
     }
 }
@@ -99,7 +99,7 @@ pub fn stats<F: Folders>(
     let Some(name) = asked_form(words) else {
         return usage_output(alloc, misuse::of_unknown(alloc, words, &["--format"]).ok());
     };
-    match count_named(alloc, folders, root, name) {
+    match named_output(alloc, folders, root, name) {
         Ok(output) => Ok(output),
         Err(error) => refusal_output(alloc, &error),
     }

@@ -53,7 +53,7 @@ fn kept_for<F: Folders>(
 
 /// Reads the lockfile, opens the database and checks the lockfile by a plan. A refusal of the database is the answer also
 /// if the lockfile was refused.
-fn check_by_plan<'x, F: Folders>(
+fn planned_output<'x, F: Folders>(
     alloc: Global,
     folders: &mut F,
     paths: Paths<'_>,
@@ -74,7 +74,7 @@ fn check_by_plan<'x, F: Folders>(
 }
 
 /// Reads the options' values and the policy, in this order, and checks the lockfile by the plan.
-fn check_options<F: Folders>(
+fn options_output<F: Folders>(
     alloc: Global,
     folders: &mut F,
     paths: Paths<'_>,
@@ -85,7 +85,7 @@ fn check_options<F: Folders>(
     ensures same { AllowSame (F.allowed folders.old) (F.allowed folders.new) }
 {
     let plan = Plan::read(alloc, folders, options)?;
-    check_by_plan(alloc, folders, paths, &plan)
+    planned_output(alloc, folders, paths, &plan)
 }
 
 /// Makes the output of `check` for a root, the path of a lockfile, and the words after them.
@@ -101,7 +101,7 @@ pub fn check<F: Folders>(
     let Some(options) = options_of(alloc, words)? else {
         return usage_output(alloc, misuse::of_options(alloc, words).ok());
     };
-    match check_options(alloc, folders, paths, &options) {
+    match options_output(alloc, folders, paths, &options) {
         Ok(output) => Ok(output),
         Err(error) => refusal_output(alloc, &error),
     }

@@ -351,7 +351,7 @@ pub fn places_of<'x>(plan: &'x Plan<'x>, path: &'x str) -> Places<'x>
 /// # Errors
 ///
 /// As `load`; then `NotFound` if the database or the lockfile is empty and that is refused; else `OutOfMemory`.
-pub fn check_lockfile<'x, F: Folders>(
+pub fn lockfile_output<'x, F: Folders>(
     alloc: Global,
     folders: &mut F,
     form: Form<'_>,

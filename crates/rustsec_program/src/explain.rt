@@ -122,7 +122,7 @@ fn pairs_output<'x>(
 }
 
 /// Opens the database, reads the lockfile and explains its packages by a plan.
-fn explain_by_plan<'x, F: Folders>(
+fn planned_output<'x, F: Folders>(
     alloc: Global,
     folders: &mut F,
     paths: Paths<'_>,
@@ -145,7 +145,7 @@ fn explain_by_plan<'x, F: Folders>(
 }
 
 /// Reads the options' values, the policy, the database and the lockfile, in this order, and explains its packages.
-fn explain_options<F: Folders>(
+fn options_output<F: Folders>(
     alloc: Global,
     folders: &mut F,
     paths: Paths<'_>,
@@ -157,7 +157,7 @@ fn explain_options<F: Folders>(
     ensures same { AllowSame (F.allowed folders.old) (F.allowed folders.new) }
 {
     let plan = Plan::read(alloc, folders, options)?;
-    explain_by_plan(alloc, folders, paths, text, &plan)
+    planned_output(alloc, folders, paths, text, &plan)
 }
 
 /// Makes the output of `explain` for a root, the path of a lockfile, an ID or a name, and the words after them.
@@ -174,7 +174,7 @@ pub fn explain<F: Folders>(
     let Some(options) = options_of(alloc, words)? else {
         return usage_output(alloc, misuse::of_options(alloc, words).ok());
     };
-    match explain_options(alloc, folders, paths, text, &options) {
+    match options_output(alloc, folders, paths, text, &options) {
         Ok(output) => Ok(output),
         Err(error) => refusal_output(alloc, &error),
     }

@@ -12,7 +12,7 @@ ghost use Rattle.rustsec_program.specs.Checked.{IsAnswer, line, refusal_output};
 ghost use Rattle.rustsec_program.specs.Writing.{BreaksOff, IsPrepared, Writes, WritesFirst};
 ghost use Rattle.rustsec_error.specs.declared.error.ErrorKind.TheVariants as failure;
 
-use crate::checked::{Ground, check_lockfile};
+use crate::checked::{Ground, lockfile_output};
 use crate::forms::Form;
 use crate::keys::Flag;
 use crate::misuse;
@@ -133,7 +133,7 @@ fn answer<'x, F: Folders>(
     ensures ok { IfOk result (IsAnswer (F.allowed folders.old) (line path.now) ground.now path.now) }
     ensures same { AllowSame (F.allowed folders.old) (F.allowed folders.new) }
 {
-    match check_lockfile(alloc, folders, Form::Line(path), ground, path) {
+    match lockfile_output(alloc, folders, Form::Line(path), ground, path) {
         Ok(output) => Ok(output),
         Err(error) => refused_output(alloc, path, &error),
     }

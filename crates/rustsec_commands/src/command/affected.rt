@@ -53,7 +53,7 @@ fn verdict_lines(
 }
 
 /// Makes the output of `affected` for an input without a malformed line.
-fn verdicts(alloc: Global, parsed: Input) -> Result<Output, AllocError>
+fn parsed_output(alloc: Global, parsed: Input) -> Result<Output, AllocError>
     ensures { IfOk result (λ o. o ≡ verdicts parsed) }
 {
     let Input {
@@ -73,13 +73,13 @@ pub fn affected_output(alloc: Global, input: &[u8]) -> Result<Output, AllocError
     ensures { IfOk result (λ o. o ≡ affected_output input.now) }
 {
     match input::parse(alloc, InputKind::Verdicts, input)? {
-        Ok(parsed) => verdicts(alloc, parsed),
+        Ok(parsed) => parsed_output(alloc, parsed),
         Err(found) => malformed_output(alloc, found),
     }
 }
 
 /// Makes the output of `affected` for all that a reader has left.
-pub(crate) fn affected_of<R: Read>(alloc: Global, input: &mut R) -> Result<Output, Fault>
+pub(crate) fn reader_output<R: Read>(alloc: Global, input: &mut R) -> Result<Output, Fault>
     ensures ok { IfOk result (λ o. IfSome (R.remaining input.old) (λ bytes. o ≡ affected_output bytes)) }
     ensures err { IfErr result (λ e. e ≢ fault.Write) }
 {
@@ -101,5 +101,5 @@ pub fn answer<R: Read, W: Write>(alloc: Global, input: &mut R, output: &mut W) -
         Appends (W.contents output.old) (W.contents output.new) (affected_output bytes).text)) }
     ensures kept { IfErr result (λ e. e ≢ fault.Write → Keeps (W.contents output.old) (W.contents output.new)) }
 {
-    affected_of(alloc, input)?.write(output)
+    reader_output(alloc, input)?.write(output)
 }

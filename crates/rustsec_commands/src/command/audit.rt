@@ -57,7 +57,7 @@ struct Wanted {
 }
 
 /// Makes the output of `audit` for a root, the path of a lockfile and parsed options.
-fn audit_with<F: Folders>(
+fn options_output<F: Folders>(
     alloc: Global,
     folders: &mut F,
     root: &str,
@@ -102,7 +102,7 @@ pub fn audit<F: Folders>(
                 ignored,
                 deny_warnings: options.denies_warnings(),
             };
-            audit_with(alloc, folders, root, lock, wanted)
+            options_output(alloc, folders, root, lock, wanted)
         }
         Err(error) => refusal_output(alloc, &error),
     }

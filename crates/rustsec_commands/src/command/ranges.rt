@@ -45,7 +45,7 @@ fn range_lines(alloc: Global, ranges: &[OsvRange]) -> Result<String, AllocError>
 }
 
 /// Makes the output of `ranges` for an input without a malformed line.
-fn ranges(alloc: Global, parsed: Input) -> Result<Output, AllocError>
+fn parsed_output(alloc: Global, parsed: Input) -> Result<Output, AllocError>
     ensures { IfOk result (AreRangeLines parsed.lists) }
 {
     let Input {
@@ -70,13 +70,13 @@ pub fn ranges_output(alloc: Global, input: &[u8]) -> Result<Output, AllocError>
     ensures only { IfOk result (λ o. (p : spec.Output) → IsRangesOutput input.now p → p ≡ o) }
 {
     match input::parse(alloc, InputKind::Ranges, input)? {
-        Ok(parsed) => ranges(alloc, parsed),
+        Ok(parsed) => parsed_output(alloc, parsed),
         Err(found) => malformed_output(alloc, found),
     }
 }
 
 /// Makes the output of `ranges` for all that a reader has left.
-pub(crate) fn ranges_of<R: Read>(alloc: Global, input: &mut R) -> Result<Output, Fault>
+pub(crate) fn reader_output<R: Read>(alloc: Global, input: &mut R) -> Result<Output, Fault>
     ensures ok { IfOk result (λ o. IfSome (R.remaining input.old) (λ bytes. IsOnlyRangesOutput bytes o)) }
     ensures err { IfErr result (λ e. e ≢ fault.Write) }
 {
@@ -101,5 +101,5 @@ pub fn answer_ranges<R: Read, W: Write>(
         AnswersRanges bytes s (W.contents output.old) (W.contents output.new))) }
     ensures kept { IfErr result (λ e. e ≢ fault.Write → Keeps (W.contents output.old) (W.contents output.new)) }
 {
-    ranges_of(alloc, input)?.write(output)
+    reader_output(alloc, input)?.write(output)
 }

@@ -4,7 +4,7 @@ use Rattle.rustsec_commands.proofs.command.affected.affected_output.Goals as goa
 pub returns-in-Ok : goal.returns-in-Ok
 returns-in-Ok c =
     let read = rw c.in-Ok.is at c.in_ok-parsed.ensures in
-    rw (affected-given c.args.input.now c.in-Ok.parsed read.0 read.1) c.verdicts.ensures
+    rw (affected-given c.args.input.now c.in-Ok.parsed read.0 read.1) c.parsed_output.ensures
 
 pub returns-in-Err : goal.returns-in-Err
 returns-in-Err c =

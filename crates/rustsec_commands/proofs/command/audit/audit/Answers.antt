@@ -6,8 +6,8 @@ use Rattle.rustsec_commands.proofs.command.audit.audit.Goals as goal
 
 pub returns-in-Ok-clause-ok : goal.returns-in-Ok-clause-ok
 returns-in-Ok-clause-ok g c =
-    let is = rw c.denies_warnings.ensures at c.audit_with.ensures.ok in
-    IfOk-weaker c.audit_with.result _ _ (λ o h. audited c.in-Some.options c.in-Ok.ignored (sym c.in_ok-options.ensures ∙ c.in-Some.is) c.in-Ok.ensures.ok h) is
+    let is = rw c.denies_warnings.ensures at c.options_output.ensures.ok in
+    IfOk-weaker c.options_output.result _ _ (λ o h. audited c.in-Some.options c.in-Ok.ignored (sym c.in_ok-options.ensures ∙ c.in-Some.is) c.in-Ok.ensures.ok h) is
 
 pub returns-clause-ok : goal.returns-clause-ok
 returns-clause-ok g c =

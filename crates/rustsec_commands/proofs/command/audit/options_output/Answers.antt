@@ -1,7 +1,7 @@
 use Rattle.std.proofs.lemmas.Result.{IfOk-weaker}
 use Rattle.rustsec_commands.proofs.lemmas.command.Refused.{report-of-paths}
 use Rattle.rustsec_commands.specs.command.Reports.{refused, reported}
-use Rattle.rustsec_commands.proofs.command.audit.audit_with.Goals as goal
+use Rattle.rustsec_commands.proofs.command.audit.options_output.Goals as goal
 
 pub returns-in-Ok-clause-ok : goal.returns-in-Ok-clause-ok
 returns-in-Ok-clause-ok g c =

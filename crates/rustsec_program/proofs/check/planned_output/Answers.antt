@@ -5,7 +5,7 @@ use Rattle.rustsec_lock.specs.Lockfile.{IsLockfileRefusal}
 use Rattle.rustsec_program.specs.Locked.{IsLockedAt}
 use Rattle.rustsec_program.proofs.Before.{open-refused-before}
 use Rattle.rustsec_program.proofs.Kept.{checked-by-kept, lockfile-refused, others-refused, refused-by-kept}
-use Rattle.rustsec_program.proofs.check.check_by_plan.Goals as goal
+use Rattle.rustsec_program.proofs.check.planned_output.Goals as goal
 
 pub returns-in_err-kept-clause-err : goal.returns-in_err-kept-clause-err
 returns-in_err-kept-clause-err g c =

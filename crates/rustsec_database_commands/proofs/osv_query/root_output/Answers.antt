@@ -1,7 +1,7 @@
 use Rattle.std.proofs.lemmas.Result.{IfOk-weaker}
 use Rattle.semver.specs.Identifiers.{parts_of}
 use Rattle.rustsec_database_commands.proofs.Counted.{answer-refused, answered-with, unanswered-by}
-use Rattle.rustsec_database_commands.proofs.osv_query.answer_root.Goals as goal
+use Rattle.rustsec_database_commands.proofs.osv_query.root_output.Goals as goal
 
 pub returns-in-Err-clause-ok : goal.returns-in-Err-clause-ok
 returns-in-Err-clause-ok g c =

@@ -1,5 +1,5 @@
 use Rattle.std.proofs.Common.{string_bytes}
-use Rattle.rustsec_database_commands.proofs.osv_database.export_root.Goals as goal
+use Rattle.rustsec_database_commands.proofs.osv_database.root_output.Goals as goal
 
 pub returns-clause-ok : goal.returns-clause-ok
 returns-clause-ok g c = (

@@ -1,7 +1,7 @@
 use Rattle.std.proofs.Common.{inl}
 use Rattle.std.proofs.lemmas.Result.{IfErr-weaker, IfOk-weaker, err_from_is_err_and}
 use Rattle.rustsec_program.proofs.Grounds.{refusal-of-plan, result-of-plan}
-use Rattle.rustsec_program.proofs.check.check_options.Goals as goal
+use Rattle.rustsec_program.proofs.check.options_output.Goals as goal
 
 pub returns-in_err-plan-clause-err : goal.returns-in_err-plan-clause-err
 returns-in_err-plan-clause-err g c =
@@ -10,12 +10,12 @@ returns-in_err-plan-clause-err g c =
 
 pub returns-clause-ok : goal.returns-clause-ok
 returns-clause-ok g c =
-    IfOk-weaker c.check_by_plan.result _ _
+    IfOk-weaker c.planned_output.result _ _
     (λ o h. result-of-plan _ _ c.read.ensures.same _ _ _ _ o c.in_ok-plan.ensures.ok h)
-    c.check_by_plan.ensures.ok
+    c.planned_output.ensures.ok
 
 pub returns-clause-err : goal.returns-clause-err
 returns-clause-err g c =
-    IfErr-weaker c.check_by_plan.result _ _
+    IfErr-weaker c.planned_output.result _ _
     (λ e h. refusal-of-plan _ _ c.read.ensures.same _ _ _ _ e c.in_ok-plan.ensures.ok h)
-    c.check_by_plan.ensures.err
+    c.planned_output.ensures.err

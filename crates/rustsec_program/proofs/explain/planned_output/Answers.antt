@@ -1,7 +1,7 @@
 use Rattle.std.proofs.Common.{inr}
 use Rattle.std.proofs.lemmas.Result.{err_from_is_err_and}
 use Rattle.rustsec_program.proofs.Before.{lockfile-before, lockfile-refused-before}
-use Rattle.rustsec_program.proofs.explain.explain_by_plan.Goals as goal
+use Rattle.rustsec_program.proofs.explain.planned_output.Goals as goal
 
 pub returns-in_err-lockfile-clause-err : goal.returns-in_err-lockfile-clause-err
 returns-in_err-lockfile-clause-err g c =

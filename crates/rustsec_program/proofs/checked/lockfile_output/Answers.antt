@@ -1,6 +1,6 @@
 use Rattle.std.proofs.Common.{inl, inr}
 use Rattle.std.proofs.lemmas.Result.{IfErr-weaker, IfOk-weaker, err_from_is_err_and}
-use Rattle.rustsec_program.proofs.checked.check_lockfile.Goals as goal
+use Rattle.rustsec_program.proofs.checked.lockfile_output.Goals as goal
 
 pub returns-in_err-loaded-clause-err : goal.returns-in_err-loaded-clause-err
 returns-in_err-loaded-clause-err g c =

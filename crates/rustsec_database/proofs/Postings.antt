@@ -1,0 +1,167 @@
+-- Postings of lists of advisories.
+use Rattle.std.proofs.Common.{◌≡◌, ◌∙◌, ◌+◌, ◌%◌, ◌<◌, ◌++◌, ◌==◌, ℕ, Bool, true, false, cond, List, [], ◌∷◌, Option, None, Some, get_or, length, map, take, refl, subst, sym, ap, append_assoc, arith, length-append}
+use Rattle.std.specs.Prelude.{slice_get, slice_index_or}
+use Rattle.std.specs.Cmp.{first_so, second_so}
+use Rattle.std.specs.Cmp.Lexicographic.{bytes_decides}
+use Rattle.std.specs.List.{All, filter}
+use Rattle.std.specs.Option.{option_eq}
+use Rattle.std.proofs.lemmas.Bool.{and_from, and_left, and_right}
+use Rattle.std.proofs.lemmas.Bool.Decides.{nat_tests}
+use Rattle.std.proofs.lemmas.List.{get_or-map, length-take-le, take_more}
+use Rattle.std.proofs.lemmas.List.Elements.{All-cons}
+use Rattle.std.proofs.Math.ListN.{length-map}
+use denote.Enum.Bare.{sameb}
+use Rattle.semver.specs.Parse.{Parts}
+use Rattle.rustsec_versions.specs.acceptance.Lists.{affected}
+use Rattle.rustsec_versions.specs.ranges.Ranges.{Range, in_range}
+use Rattle.rustsec_texts.specs.contracts.collection.Collection.{the_type as collection}
+use Rattle.rustsec_texts.specs.declared.collection.Collection.{Collection}
+use Rattle.rustsec_advisory.specs.declared.advisory.Advisory.{Advisory}
+use Rattle.rustsec_query.specs.Selects.{if_there}
+use Rattle.rustsec_database.specs.Places.{at_places, is_under, places_from}
+use Rattle.rustsec_database.specs.Postings.{AreListed, HaveListed, IsPostingAmong, digest, is_listed, is_near, posting_of, postings_from}
+use Rattle.rustsec_database.specs.Spans.{span_of}
+use Rattle.rustsec_database.proofs.Places.{got-last, narrow, taken}
+use Rattle.rustsec_database.proofs.Spans.{in-span}
+
+abbrev Posting : Type 0
+Posting = ℕ × ℕ × Range
+
+itself : (n : ℕ) → (n == n) ≡ true
+itself n = grind (arith, nat_tests)
+
+-- ---- one advisory more
+
+step : (b : Bool) (p : Posting) (us vs ws : List Posting) → us ≡ vs ++ ws → cond b (p ∷ us) us ≡ cond b (p ∷ vs) vs ++ ws
+step true p us vs ws h = ap (λ xs. p ∷ xs) h
+step false p us vs ws h = h
+
+same : (b : Bool) (p : Posting) (us vs : List Posting) → us ≡ vs → cond b (p ∷ us) us ≡ cond b (p ∷ vs) vs
+same true p us vs h = ap (λ xs. p ∷ xs) h
+same false p us vs h = h
+
+postings-in : (test : Advisory → Bool) (i : ℕ) (xs : List Advisory) (x : Advisory) → test x ≡ true
+    → postings_from test i (xs ++ x ∷ []) ≡ postings_from test i xs ++ posting_of (i + length xs) x ∷ []
+postings-in test i [] x holds = rw holds (ap (λ (n : ℕ). posting_of n x ∷ []) (omega arith))
+postings-in test i (y ∷ ys) x holds =
+    let here : i + 1 + length ys ≡ i + length (y ∷ ys) = omega arith in
+    step (test y) (posting_of i y) _ _ _
+    (postings-in test (i + 1) ys x holds ∙ ap (λ (n : ℕ). postings_from test (i + 1) ys ++ posting_of n x ∷ []) here)
+
+postings-out : (test : Advisory → Bool) (i : ℕ) (xs : List Advisory) (x : Advisory) → test x ≡ false
+    → postings_from test i (xs ++ x ∷ []) ≡ postings_from test i xs
+postings-out test i [] x fails = rw fails refl
+postings-out test i (y ∷ ys) x fails = same (test y) (posting_of i y) _ _ (postings-out test (i + 1) ys x fails)
+
+one-list : (c : Collection) (before : List Advisory) (a : Advisory) (slot count place : ℕ) (xs : List Posting) (b : Bool)
+    → (digest a.metadata.«package» % count == place) ≡ b → option_eq (sameb collection) (Some c) a.metadata.collection ≡ true
+    → slot ≡ length before → xs ≡ postings_from (is_listed c count place) 0 before
+    → cond b (xs ++ posting_of slot a ∷ []) xs ≡ postings_from (is_listed c count place) 0 (before ++ a ∷ [])
+one-list c before a slot count place xs true is under at have =
+    let here : is_listed c count place a ≡ true = and_from _ _ under is in
+    let turn : slot ≡ 0 + length before = omega (arith, at) in
+    (λ i. have i ++ posting_of (turn i) a ∷ []) ∙ sym (postings-in (is_listed c count place) 0 before a here)
+one-list c before a slot count place xs false is under at have =
+    have ∙ sym (postings-out (is_listed c count place) 0 before a (and_right _ _ is))
+
+-- lists after the posting of an advisory of the collection is in its list
+pub inserted : (c : Collection) (before : List Advisory) (a : Advisory) (slot : ℕ) (old new : List (List Posting))
+    → option_eq (sameb collection) (Some c) a.metadata.collection ≡ true → length new ≡ length old
+    → ((place : ℕ) → place < length old → slice_index_or new place []
+    ≡ cond (digest a.metadata.«package» % length old == place) (slice_index_or old place [] ++ posting_of slot a ∷ []) (slice_index_or old place []))
+    → slot ≡ length before → HaveListed c before old → HaveListed c (before ++ a ∷ []) new
+inserted c before a slot old new under len put at have place l =
+    let within : place < length old = omega (arith, len, l) in
+    put place within
+    ∙ (one-list c before a slot (length old) place (slice_index_or old place []) (digest a.metadata.«package» % length old == place) refl under at
+    (have place within)
+    ∙ ap (λ n. postings_from (is_listed c n place) 0 (before ++ a ∷ [])) (sym len))
+
+-- lists after an advisory of no collection, or of another one
+pub passed-by : (c : Collection) (before : List Advisory) (a : Advisory) (old : List (List Posting))
+    → option_eq (sameb collection) (Some c) a.metadata.collection ≡ false → HaveListed c before old → HaveListed c (before ++ a ∷ []) old
+passed-by c before a old under have place l =
+    have place l ∙ sym (postings-out (is_listed c (length old) place) 0 before a (and_left _ _ under))
+
+-- the lists of the first advisories, with one more
+pub listed-more : (c : Collection) (all : List Advisory) (i : ℕ) (a : Advisory) (slot : ℕ) (old new : List (List Posting)) → i < length all
+    → a ≡ get_or all i a → slot ≡ i
+    → ((before : List Advisory) → slot ≡ length before → HaveListed c before old → HaveListed c (before ++ a ∷ []) new)
+    → HaveListed c (take i all) old → HaveListed c (take (i + 1) all) new
+listed-more c all i a slot old new l is at put have =
+    let below : slot ≡ length (take i all) = at ∙ sym (length-take-le i all (omega (arith, l))) in
+    subst (λ (b : List Advisory). HaveListed c b new) (ap (λ x. take i all ++ x ∷ []) is ∙ sym (take_more all i a l)) (put (take i all) below have)
+
+-- ---- the places of postings
+
+places-step : (b : Bool) (p : Posting) (ps : List Posting) (ns : List ℕ) → map (λ (q : Posting). q.1) ps ≡ ns
+    → map (λ (q : Posting). q.1) (cond b (p ∷ ps) ps) ≡ cond b (p.1 ∷ ns) ns
+places-step true p ps ns h = ap (λ xs. p.1 ∷ xs) h
+places-step false p ps ns h = h
+
+places-are : (test : Advisory → Bool) (i : ℕ) (xs : List Advisory) → map (λ (q : Posting). q.1) (postings_from test i xs) ≡ places_from test i xs
+places-are test i [] = refl
+places-are test i (x ∷ xs) = places-step (test x) (posting_of i x) _ _ (places-are test (i + 1) xs)
+
+pub place-within : (ps : List Posting) (i : ℕ) → i < length ps → i < length (map (λ (q : Posting). q.1) ps)
+place-within ps i l = let len = length-map (λ (q : Posting). q.1) ps in omega (arith, l, len)
+
+pub place-at : (ps : List Posting) (i : ℕ) (p : Posting) → i < length ps → p ≡ get_or ps i p → p.1 ≡ get_or (map (λ (q : Posting). q.1) ps) i p.1
+place-at ps i p l is = ap (λ (q : Posting). q.1) is ∙ sym (get_or-map (λ (q : Posting). q.1) ps i p p.1 l)
+
+-- ---- each posting is that of the advisory at its place
+
+all-step : (P : Posting → Type 0) (b : Bool) (p : Posting) (ps : List Posting) → P p → All P ps → All P (cond b (p ∷ ps) ps)
+all-step P true p ps h k = All-cons P p ps h k
+all-step P false p ps h k = k
+
+there : (ys : List Advisory) (n : ℕ) (x : Advisory) → slice_get ys n ≡ Some x → IsPostingAmong ys (posting_of n x)
+there ys n x at a is = let same : a ≡ x = cc (is ∙ at) in ap (posting_of n) (sym same)
+
+among-from : (test : Advisory → Bool) (zs xs ys : List Advisory) (n : ℕ) → ys ≡ zs ++ xs → n ≡ length zs → All (IsPostingAmong ys) (postings_from test n xs)
+among-from test zs [] ys n is len = λ k d l. absurd (omega (arith, l))
+among-from test zs (x ∷ xs) ys n is len =
+    let at : slice_get ys n ≡ Some x = (λ i. slice_get (is i) (len i)) ∙ got-last zs x xs in
+    let longer : n + 1 ≡ length (zs ++ x ∷ []) = omega (arith, len, length-append zs (x ∷ [])) in
+    all-step (IsPostingAmong ys) (test x) (posting_of n x) _ (there ys n x at)
+    (among-from test (zs ++ x ∷ []) xs ys (n + 1) (is ∙ sym (append_assoc zs (x ∷ []) xs)) longer)
+
+pub among : (c : Collection) (number : ℕ) (advisories : List Advisory) (postings : List Posting) → AreListed c number advisories postings
+    → All (IsPostingAmong advisories) postings
+among c number advisories postings are =
+    subst (λ ps. All (IsPostingAmong advisories) ps) (sym are.1)
+    (among-from (is_listed c are.0 (number % are.0)) [] advisories advisories 0 refl refl)
+
+-- ---- what is found by a digest
+
+same-name : (c : Collection) (name : List ℕ) (a : Advisory) → is_under c name a ≡ true → name ≡ a.metadata.«package»
+same-name c name a h = (bytes_decides name a.metadata.«package»).0 (second_so _ _ h)
+
+listed : (c : Collection) (count : ℕ) (name : List ℕ) (a : Advisory) → is_under c name a ≡ true → is_listed c count (digest name % count) a ≡ true
+listed c count name a h =
+    let equal : (digest a.metadata.«package» % count == digest name % count) ≡ true =
+    ap (λ n. digest a.metadata.«package» % count == digest n % count) (same-name c name a h) ∙ itself (digest a.metadata.«package» % count) in
+    and_from _ _ (first_so _ _ h) equal
+
+-- the postings of a digest are enough for a test that only advisories of the collection and the name pass
+pub by-digest : (test : Advisory → Bool) (c : Collection) (name : List ℕ) (advisories : List Advisory) (postings : List Posting)
+    → ((a : Advisory) → test a ≡ true → is_under c name a ≡ true) → AreListed c (digest name) advisories postings
+    → filter test (at_places (map (λ (q : Posting). q.1) postings) advisories) ≡ filter test advisories
+by-digest test c name advisories postings under are =
+    let p = is_listed c are.0 (digest name % are.0) in
+    ap (λ ps. filter test (at_places (map (λ (q : Posting). q.1) ps) advisories)) are.1
+    ∙ (ap (λ ns. filter test (at_places ns advisories)) (places-are p 0 advisories)
+    ∙ (ap (filter test) (taken p advisories) ∙ narrow p test (λ a h. listed c are.0 name a (under a h)) advisories))
+
+in-version : (version : Option Parts) (a : Advisory) → if_there (affected a.versions) version ≡ true
+    → if_there (λ v. in_range (span_of a.versions) v) version ≡ true
+in-version None a h = refl
+in-version (Some v) a h = in-span a.versions v h
+
+-- an advisory of the name that affects the version is near
+pub near : (c : Collection) (name : List ℕ) (version : Option Parts) (place : ℕ) (a : Advisory) → is_under c name a ≡ true
+    → if_there (affected a.versions) version ≡ true → is_near (digest name) version (posting_of place a) ≡ true
+near c name version place a under h =
+    let equal : (digest a.metadata.«package» == digest name) ≡ true =
+    ap (λ n. digest a.metadata.«package» == digest n) (same-name c name a under) ∙ itself (digest a.metadata.«package») in
+    and_from _ _ equal (in-version version a h)

@@ -1,0 +1,125 @@
+//! An index of the advisories of a collection by the names of their packages.
+
+ghost use Rattle.std.specs.Prelude.{◌≡◌, ◌++◌, ◌%◌, ◌<◌, ◌==◌, ◌∷◌, [], if◌then◌else◌, ℕ, IfErr, IfOk, List, OnOk, length, slice_index_or};
+ghost use Rattle.rustsec_error.specs.Failure.{IsMemory};
+ghost use Rattle.rustsec_advisory.specs.declared.advisory.Advisory as given;
+ghost use Rattle.rustsec_database.specs.Postings.{HaveListed, IsIndexOf};
+
+use crate::posting::Posting;
+use crate::slot::Slot;
+use rustsec_advisory::Advisory;
+use rustsec_error::Result;
+use rustsec_texts::Collection;
+use rustsec_values::Items;
+use std::alloc::{AllocError, Global};
+use std::marker::Model;
+
+/// Lists of postings. A posting is in the list at the remainder of its digest by the number of lists.
+#[derive(Debug, Drop)]
+pub(crate) struct NameIndex {
+    lists: Vec<Items<Posting>>,
+}
+
+impl Model for NameIndex {
+    ghost use Rattle.std.specs.Prelude.{ℕ, List};
+    ghost use Rattle.rustsec_versions.specs.ranges.Ranges.{Range};
+
+    ghost Value = { List (List (ℕ × ℕ × Range)) };
+
+    ghost view = { λ i. i.lists.items };
+}
+
+/// Returns the given number of empty lists.
+fn empty_lists(alloc: Global, count: usize) -> std::result::Result<Vec<Items<Posting>>, AllocError>
+    ensures len { IfOk result (λ v. length v.items ≡ count) }
+    ensures empty { IfOk result (λ v. (place : ℕ) → slice_index_or v.items place [] ≡ []) }
+{
+    let mut lists = Vec::new(alloc);
+    for _ in 0..count {
+        lists.push(Items::new(alloc)).map_err(|_| AllocError)?;
+    }
+    Ok(lists)
+}
+
+/// Appends a posting to the list at a place, if there is one.
+fn push_at(
+    lists: &mut Vec<Items<Posting>>,
+    at: usize,
+    posting: Posting,
+) -> std::result::Result<(), AllocError>
+    ensures len { length lists.new.items ≡ length lists.old.items }
+    ensures ok { OnOk result ((place : ℕ) → place < length lists.old.items → slice_index_or lists.new.items place []
+        ≡ (if at == place then slice_index_or lists.old.items place [] ++ posting ∷ [] else slice_index_or lists.old.items place [])) }
+{
+    if at < lists.len() {
+        lists[at].push(posting)?;
+    }
+    Ok(())
+}
+
+/// Appends a posting to the list for its digest.
+fn insert(lists: &mut Vec<Items<Posting>>, posting: Posting) -> std::result::Result<(), AllocError>
+    ensures len { length lists.new.items ≡ length lists.old.items }
+    ensures ok { OnOk result ((place : ℕ) → place < length lists.old.items → slice_index_or lists.new.items place []
+        ≡ (if posting.0 % length lists.old.items == place then slice_index_or lists.old.items place [] ++ posting ∷ []
+        else slice_index_or lists.old.items place [])) }
+{
+    match posting.digest().checked_rem(lists.len()) {
+        Some(at) => push_at(lists, at, posting),
+        None => Ok(()),
+    }
+}
+
+/// Inserts the posting of the advisory in a slot, if the advisory is of a collection.
+fn insert_in(
+    lists: &mut Vec<Items<Posting>>,
+    collection: Collection,
+    advisory: &Advisory,
+    slot: Slot,
+) -> std::result::Result<(), AllocError>
+    ensures len { length lists.new.items ≡ length lists.old.items }
+    ensures ok { OnOk result ((before : List given.Advisory) → slot ≡ length before → HaveListed collection before lists.old.items
+        → HaveListed collection (before ++ advisory.now ∷ []) lists.new.items) }
+{
+    if Some(collection) == advisory.metadata.collection {
+        insert(lists, Posting::new(advisory, slot))?;
+    }
+    Ok(())
+}
+
+impl NameIndex {
+    /// Returns the index of those of some advisories that are of a collection. The slot of each is its place among them.
+    ///
+    /// # Errors
+    ///
+    /// `OutOfMemory` alone.
+    pub(crate) fn of(
+        alloc: Global,
+        collection: Collection,
+        advisories: &[Advisory],
+    ) -> Result<NameIndex>
+        ensures ok { IfOk result (IsIndexOf collection advisories.now) }
+        ensures err { IfErr result IsMemory }
+    {
+        // One list more than there are advisories, so that there is one.
+        let count = advisories.len().saturating_add(1);
+        let mut lists = empty_lists(alloc, count)?;
+        for (place, advisory) in advisories.iter().enumerate() {
+            insert_in(&mut lists, collection, advisory, Slot::new(place))?;
+        }
+        Ok(NameIndex { lists })
+    }
+
+    /// Returns the list for a digest, with the postings of all advisories whose packages have names of this digest.
+    pub(crate) fn postings(&self, digest: usize) -> &[Posting]
+        ensures { result.now ≡ slice_index_or self.now (digest % length self.now) [] }
+    {
+        let Some(at) = digest.checked_rem(self.lists.len()) else {
+            return &[];
+        };
+        match self.lists.get(at) {
+            Some(list) => list.as_slice(),
+            None => &[],
+        }
+    }
+}
