@@ -1,6 +1,6 @@
 //! Writes the JSON trees of checks, each on one line.
 
-ghost use Rattle.std.specs.Prelude.{◌≡◌, ◌++◌, IfErr, IfOk, OnOk, string_bytes};
+ghost use Rattle.std.specs.Prelude.{◌≡◌, ◌++◌, [], IfErr, IfOk, OnOk, string_bytes};
 ghost use Rattle.rustsec_error.specs.Failure.{IsMemory};
 ghost use Rattle.rustsec_check_output.specs.CheckJson.{many_json, refused_json};
 ghost use Rattle.rustsec_check_output.specs.CheckTree.{check_tree, many_tree, refused_tree, tree_line};
@@ -12,6 +12,14 @@ use crate::written::Written;
 use rustsec_error::{ErrorKind, Result};
 use std::alloc::{AllocError, Global};
 
+/// Returns an empty line with room for a check. A finding takes some 900 bytes, and a line that grows is copied each time.
+fn empty_line(alloc: Global, written: &Written<'_, '_>) -> std::result::Result<String, AllocError>
+    ensures { IfOk result (λ t. string_bytes t ≡ []) }
+{
+    let findings = written.check.findings.len();
+    String::with_capacity(alloc, findings.saturating_add(1).saturating_mul(1024))
+}
+
 /// Returns the JSON tree of a check on one line, with a line feed at its end.
 ///
 /// # Errors
@@ -21,7 +29,7 @@ pub fn check_line(alloc: Global, written: &Written<'_, '_>) -> Result<String>
     ensures ok { IfOk result (λ t. string_bytes t ≡ tree_line (check_tree written.now)) }
     ensures err { IfErr result IsMemory }
 {
-    let mut line = String::new(alloc);
+    let mut line = empty_line(alloc, written)?;
     push_check(alloc, &mut line, written)?;
     line.push_str("\n")?;
     Ok(line)
@@ -55,7 +63,7 @@ pub fn many_line(alloc: Global, path: &str, written: &Written<'_, '_>) -> Result
     ensures ok { IfOk result (λ t. string_bytes t ≡ tree_line (many_tree path.now (check_tree written.now))) }
     ensures err { IfErr result IsMemory }
 {
-    let mut line = String::new(alloc);
+    let mut line = empty_line(alloc, written)?;
     push_many(alloc, &mut line, path, written)?;
     Ok(line)
 }

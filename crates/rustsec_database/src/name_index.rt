@@ -14,7 +14,7 @@ use rustsec_values::Items;
 use std::alloc::{AllocError, Global};
 use std::marker::Model;
 
-/// Lists of postings. A posting is in the list at the remainder of its digest by the number of lists.
+/// Lists of postings. A posting is in the list whose place is the remainder of its digest by the number of lists.
 #[derive(Debug, Drop)]
 pub(crate) struct NameIndex {
     lists: Vec<Items<Posting>>,
@@ -27,6 +27,18 @@ impl Model for NameIndex {
     ghost Value = { List (List (ℕ × ℕ × Range)) };
 
     ghost view = { λ i. i.lists.items };
+}
+
+/// Returns the number of lists for the advisories of a collection: two for each, so that most have one posting at most, and
+/// one more, so that there is one.
+fn list_count(collection: Collection, advisories: &[Advisory]) -> usize
+    ensures { 0 < result }
+{
+    let listed = advisories
+        .iter()
+        .filter(|advisory| Some(collection) == advisory.metadata.collection)
+        .count();
+    listed.saturating_mul(2).saturating_add(1)
 }
 
 /// Returns the given number of empty lists.
@@ -101,9 +113,7 @@ impl NameIndex {
         ensures ok { IfOk result (IsIndexOf collection advisories.now) }
         ensures err { IfErr result IsMemory }
     {
-        // One list more than there are advisories, so that there is one.
-        let count = advisories.len().saturating_add(1);
-        let mut lists = empty_lists(alloc, count)?;
+        let mut lists = empty_lists(alloc, list_count(collection, advisories))?;
         for (place, advisory) in advisories.iter().enumerate() {
             insert_in(&mut lists, collection, advisory, Slot::new(place))?;
         }

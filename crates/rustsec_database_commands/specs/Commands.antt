@@ -10,8 +10,8 @@ use Rattle.rustsec_database_commands.specs.Lint.{IsLintOutput}
 use Rattle.rustsec_database_commands.specs.Osv.{IsDatabaseOutput, IsQueryOutput}
 use Rattle.rustsec_database_commands.specs.Stats.{IsStatsOutput}
 use Rattle.rustsec_database_commands.specs.Words.{Command, command_of, lint, osv, query, short, stats}
-use Rattle.rustsec_database_commands.specs.declared.words.Command as given
-use Rattle.rustsec_database_commands.specs.declared.words.Command.TheVariants as command
+use Rattle.rustsec_database_commands.specs.declared.command.Command as given
+use Rattle.rustsec_database_commands.specs.declared.command.Command.TheVariants as command
 
 -- a command, with the texts of its words
 abbrev pub command_view : given.Command → Command

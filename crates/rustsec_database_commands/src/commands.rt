@@ -7,12 +7,12 @@ ghost use Rattle.rustsec_folders.specs.Allowed.{AllowSame, AnswersOnce, real_fol
 ghost use Rattle.rustsec_database_commands.specs.Commands.{Carries, HaveOneOutput, IsBrokenOff, IsOwnOutput, command_view, words_read_input};
 ghost use Rattle.rustsec_database_commands.specs.Words.{command_of};
 
+use crate::command::{Command, command_of};
 use crate::lint::lint;
 use crate::misuse;
 use crate::osv_database::osv_database;
 use crate::osv_query::query_osv;
 use crate::stats::stats;
-use crate::words::{Command, command_of};
 use rustsec_commands::output::{Output, usage_output};
 use rustsec_commands::{Fault, unlisted_note};
 use rustsec_folders::{Folders, RealFolders};

@@ -1,6 +1,7 @@
 //! The commands of the program `rustsec_audit`: those about whole databases here, and the others of `rustsec_program`.
 #![tactic(auto)]
 
+mod command;
 mod commands;
 mod form;
 mod lint;
@@ -11,6 +12,5 @@ mod osv_database;
 mod osv_query;
 mod stats;
 mod usage;
-mod words;
 
 pub use crate::commands::{run_over, run_with_notes};

@@ -2,10 +2,10 @@
 #![tactic(auto)]
 
 mod entry_tree;
+mod reason_text;
 mod rules;
 mod text;
 mod tree;
-mod words;
 
 pub use crate::rules::Rules;
 pub use crate::text::explain_text;

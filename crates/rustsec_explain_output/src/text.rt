@@ -5,8 +5,8 @@ ghost use Rattle.rustsec_error.specs.Failure.{IsMemory};
 ghost use Rattle.rustsec_explain_output.specs.ExplainText.{explain_text, further_words, pair_line, pair_words, told_by};
 ghost use Rattle.rustsec_explain_output.specs.ReasonWords.{reason_words};
 
+use crate::reason_text::reason_words;
 use crate::rules::Rules;
-use crate::words::reason_words;
 use rustsec_error::Result;
 use rustsec_explain::{Explained, Reason};
 use rustsec_shown::push_shown;

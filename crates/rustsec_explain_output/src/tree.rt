@@ -14,8 +14,8 @@ ghost use Rattle.rustsec_explain_output.specs.ExplainTree.{explain_tree, further
 ghost use Rattle.rustsec_explain_output.specs.ReasonWords.{reason_words};
 
 use crate::entry_tree::tree_of_entry;
+use crate::reason_text::reason_words;
 use crate::rules::{Rules, entry_of};
-use crate::words::reason_words;
 use rustsec_error::Result;
 use rustsec_explain::{Explained, Reason};
 use rustsec_json::ToTree;

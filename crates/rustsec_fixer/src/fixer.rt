@@ -4,8 +4,8 @@ ghost use Rattle.std.specs.Prelude.{◌≡◌, IfErr, IfOk, option_map, string_b
 ghost use Rattle.rustsec_error.specs.Failure.{IsMemory};
 ghost use Rattle.rustsec_fixer.specs.Words.{fix_words, program_of};
 
+use crate::arguments::{add_dry_run, add_manifest, add_packages, add_word};
 use crate::command::FixCommand;
-use crate::words::{add_dry_run, add_manifest, add_packages, add_word};
 use rustsec_error::Result;
 use rustsec_lock::Lockfile;
 use rustsec_query::Vulnerability;

@@ -2,12 +2,12 @@
 //! starts a link, a mention or a line.
 #![tactic(auto)]
 
+mod cells;
 mod escaped;
 mod fitting;
 mod lines;
 mod row;
 mod text;
-mod words;
 
 pub use crate::escaped::markdown_escaped;
 pub use crate::text::markdown_text;

@@ -5,7 +5,7 @@ ghost use Rattle.std.specs.Option.{option_copied};
 ghost use Rattle.rustsec_check_output.specs.CheckTree.{reason_of, until_of};
 ghost use Rattle.rustsec_markdown.specs.MarkdownText.{below_line, below_lines, further_lines, id_lines, ignored_line, ignored_with, labelled, note_line, reason_words, unknown_line, until_words, unused_line, yanked_line, yanked_of};
 
-use crate::words::{push_code, push_denied, push_labelled, push_old, push_package};
+use crate::cells::{push_code, push_denied, push_labelled, push_old, push_package};
 use rustsec_check::{IgnoredPair, Yanked};
 use rustsec_check_output::Written;
 use rustsec_policy::{Ignored, entry_with};

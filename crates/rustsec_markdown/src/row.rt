@@ -5,7 +5,7 @@ ghost use Rattle.semver.specs.Identifiers.{parts_of};
 ghost use Rattle.rustsec_check_output.specs.CheckText.{arrow};
 ghost use Rattle.rustsec_markdown.specs.MarkdownText.{path_words, place_words, places_words, row, said_cells, status_words, steps, subject_cells, update_words};
 
-use crate::words::{
+use crate::cells::{
     push_code, push_code_version, push_denied, push_old, push_package, push_rating,
 };
 use rustsec_check::Finding;

@@ -8,8 +8,8 @@ use Rattle.rustsec_commands.specs.args.Words as old_words
 use Rattle.rustsec_program.specs.Check.{IsCheckOutput, IsManyOutput}
 use Rattle.rustsec_program.specs.Explain.{IsExplainOutput}
 use Rattle.rustsec_program.specs.Words.{Command, check, command_of, explain, many, short}
-use Rattle.rustsec_program.specs.declared.words.Command as given
-use Rattle.rustsec_program.specs.declared.words.Command.TheVariants as command
+use Rattle.rustsec_program.specs.declared.command.Command as given
+use Rattle.rustsec_program.specs.declared.command.Command.TheVariants as command
 
 -- a command, with the texts of its words
 abbrev pub command_view : given.Command → Command

@@ -9,10 +9,10 @@ ghost use Rattle.rustsec_program.specs.Words.{command_of};
 ghost use Rattle.rustsec_program.specs.Writing.{IsBrokenOff};
 
 use crate::check::check;
+use crate::command::{Command, command_of};
 use crate::explain::explain;
 use crate::many::{ManyInput, check_many};
 use crate::misuse;
-use crate::words::{Command, command_of};
 use rustsec_commands::output::{Output, usage_output};
 use rustsec_commands::{Fault, read_all};
 use rustsec_folders::{Folders, RealFolders};

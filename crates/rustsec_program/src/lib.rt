@@ -4,6 +4,7 @@
 
 mod check;
 mod checked;
+mod command;
 mod commands;
 mod explain;
 mod forms;
@@ -19,6 +20,5 @@ mod request;
 mod shapes;
 mod usage;
 mod wanted;
-mod words;
 
 pub use crate::commands::{finish, run_over, run_with_notes};

@@ -7,4 +7,4 @@ pub returns-clause-ok : goal.returns-clause-ok
 returns-clause-ok c =
     let w = c.args.written.now in
     c.in_ok-push_str.ensures.bytes
-    ∙ ap (λ t. t ++ codes "\n") (c.in_ok-push_check.ensures ∙ (ap (λ t. t ++ check_json w) c.new-line.ensures.bytes ∙ sym (check_is w)))
+    ∙ ap (λ t. t ++ codes "\n") (c.in_ok-push_check.ensures ∙ (ap (λ t. t ++ check_json w) c.in_ok-line.ensures ∙ sym (check_is w)))

@@ -7,4 +7,4 @@ pub returns-clause-ok : goal.returns-clause-ok
 returns-clause-ok c =
     let path = c.args.path.now in
     let w = c.args.written.now in
-    c.in_ok-push_many.ensures ∙ (ap (λ t. t ++ many_json path w) c.new-line.ensures.bytes ∙ many_is path w)
+    c.in_ok-push_many.ensures ∙ (ap (λ t. t ++ many_json path w) c.in_ok-line.ensures ∙ many_is path w)

@@ -1,4 +1,4 @@
-use Rattle.std.proofs.Common.{◌<◌, arith, length}
+use Rattle.std.proofs.Common.{arith}
 use Rattle.rustsec_database.proofs.Postings.{listed-more}
 use Rattle.rustsec_database.proofs.name_index.NameIndex.of.Goals as goal
 

@@ -1,7 +1,7 @@
 use Rattle.std.proofs.Common.{◌∙◌, ◌++◌, ap, append_assoc, string_bytes}
 use Rattle.std.specs.Prelude.{codes}
 use Rattle.rustsec_explain_output.specs.ReasonWords.{note_words, until_words}
-use Rattle.rustsec_explain_output.proofs.words.push_by_policy.Goals as goal
+use Rattle.rustsec_explain_output.proofs.reason_text.push_by_policy.Goals as goal
 
 pub returns : goal.returns
 returns c =

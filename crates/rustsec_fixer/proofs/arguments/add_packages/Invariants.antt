@@ -1,6 +1,6 @@
 use Rattle.std.proofs.Common.{◌≡◌, ◌++◌, take}
 use Rattle.rustsec_fixer.specs.Words.{package_words}
-use Rattle.rustsec_fixer.proofs.words.add_packages.Given as goal
+use Rattle.rustsec_fixer.proofs.arguments.add_packages.Given as goal
 
 -- the arguments for the packages so far were appended
 abbrev pub invariant-loop-package : goal.invariant-loop-package
