@@ -1,4 +1,4 @@
--- Postings, which the indexes of a database hold of its advisories. No public contract depends on these definitions.
+-- Postings: the entries of a database's indexes for its advisories. No public contract depends on these definitions.
 use Rattle.std.specs.Prelude.{◌≡◌, ◌&&◌, ◌==◌, ◌+◌, ◌%◌, ◌<◌, ℕ, Bool, List, [], ◌∷◌, Option, Some, if◌then◌else◌, length, slice_get, slice_index_or}
 use Rattle.std.specs.Option.{option_eq}
 use Rattle.core.specs.Hash.FoldHasher as folding
@@ -51,6 +51,6 @@ abbrev pub AreListed : Collection → ℕ → List Advisory → List (ℕ × ℕ
 AreListed c number advisories postings =
     (count : ℕ) × (postings ≡ postings_from (is_listed c count (number % count)) 0 advisories)
 
--- a posting is that of the advisory at its place, if there is one
+-- a posting is that of the advisory at its place, if any
 abbrev pub IsPostingAmong : List Advisory → ℕ × ℕ × Range → Type 0
 IsPostingAmong advisories p = (a : Advisory) → Some a ≡ slice_get advisories p.1 → p ≡ posting_of p.1 a

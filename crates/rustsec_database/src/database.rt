@@ -141,7 +141,7 @@ fn is_audited(package: &Package) -> bool
 }
 
 impl Database {
-    /// Returns the database of some entries. All are indexed here, so that what an index holds is side by side in memory.
+    /// Returns the database of some entries. All are indexed here, so that the entries of an index are side by side in memory.
     ///
     /// # Errors
     ///

@@ -53,7 +53,7 @@ fn empty_lists(alloc: Global, count: usize) -> std::result::Result<Vec<Items<Pos
     Ok(lists)
 }
 
-/// Appends a posting to the list at a place, if there is one.
+/// Appends a posting to the list at a place, if any.
 fn push_at(
     lists: &mut Vec<Items<Posting>>,
     at: usize,

@@ -1,4 +1,4 @@
-//! Postings: what an index holds of an advisory. A search asks them before it reads the advisory.
+//! Postings: the entries of an index for advisories. A search asks a posting before it reads the advisory.
 
 ghost use Rattle.std.specs.Prelude.{◌≡◌, option_map};
 ghost use Rattle.semver.specs.Identifiers.{parts_of};
@@ -12,7 +12,7 @@ use semver::Version;
 use std::hash::{FoldHasher, Hasher};
 use std::marker::Model;
 
-/// What an index holds of an advisory.
+/// The entry of an index for an advisory.
 #[derive(Debug, Drop)]
 pub(crate) struct Posting {
     /// The digest of the name of the advisory's package.
