@@ -7,9 +7,8 @@ use Rattle.std.specs.List.{All, filter}
 use Rattle.std.specs.Option.{option_eq}
 use Rattle.std.proofs.lemmas.Bool.{and_from, and_left, and_right}
 use Rattle.std.proofs.lemmas.Bool.Decides.{nat_tests}
-use Rattle.std.proofs.lemmas.List.{get_or-map, length-take-le, take_more}
+use Rattle.std.proofs.lemmas.List.{get_or-map, length-map, length-take-le, take_more}
 use Rattle.std.proofs.lemmas.List.Elements.{All-cons}
-use Rattle.std.proofs.Math.ListN.{length-map}
 use denote.Enum.Bare.{sameb}
 use Rattle.semver.specs.Parse.{Parts}
 use Rattle.rustsec_versions.specs.acceptance.Lists.{affected}
@@ -65,17 +64,18 @@ one-list c before a slot count place xs false is under at have =
     have ∙ sym (postings-out (is_listed c count place) 0 before a (and_right _ _ is))
 
 -- lists after the posting of an advisory of the collection is in its list
-pub inserted : (c : Collection) (before : List Advisory) (a : Advisory) (slot : ℕ) (old new : List (List Posting))
-    → option_eq (sameb collection) (Some c) a.metadata.collection ≡ true → length new ≡ length old
+pub inserted : (c : Collection) (before : List Advisory) (a : Advisory) (slot : ℕ) (p : Posting) (old new : List (List Posting))
+    → option_eq (sameb collection) (Some c) a.metadata.collection ≡ true → p ≡ posting_of slot a → length new ≡ length old
     → ((place : ℕ) → place < length old → slice_index_or new place []
-    ≡ cond (digest a.metadata.«package» % length old == place) (slice_index_or old place [] ++ posting_of slot a ∷ []) (slice_index_or old place []))
+    ≡ cond (p.0 % length old == place) (slice_index_or old place [] ++ p ∷ []) (slice_index_or old place []))
     → slot ≡ length before → HaveListed c before old → HaveListed c (before ++ a ∷ []) new
-inserted c before a slot old new under len put at have place l =
+inserted c before a slot p old new under is len put at have place l =
     let within : place < length old = omega (arith, len, l) in
+    let xs = slice_index_or old place [] in
     put place within
-    ∙ (one-list c before a slot (length old) place (slice_index_or old place []) (digest a.metadata.«package» % length old == place) refl under at
-    (have place within)
-    ∙ ap (λ n. postings_from (is_listed c n place) 0 (before ++ a ∷ [])) (sym len))
+    ∙ (ap (λ (q : Posting). cond (q.0 % length old == place) (xs ++ q ∷ []) xs) is
+    ∙ (one-list c before a slot (length old) place xs (digest a.metadata.«package» % length old == place) refl under at (have place within)
+    ∙ ap (λ n. postings_from (is_listed c n place) 0 (before ++ a ∷ [])) (sym len)))
 
 -- lists after an advisory of no collection, or of another one
 pub passed-by : (c : Collection) (before : List Advisory) (a : Advisory) (old : List (List Posting))
@@ -104,7 +104,7 @@ places-are test i [] = refl
 places-are test i (x ∷ xs) = places-step (test x) (posting_of i x) _ _ (places-are test (i + 1) xs)
 
 pub place-within : (ps : List Posting) (i : ℕ) → i < length ps → i < length (map (λ (q : Posting). q.1) ps)
-place-within ps i l = let len = length-map (λ (q : Posting). q.1) ps in omega (arith, l, len)
+place-within ps i l = let len = length-map ps (λ (q : Posting). q.1) in omega (arith, l, len)
 
 pub place-at : (ps : List Posting) (i : ℕ) (p : Posting) → i < length ps → p ≡ get_or ps i p → p.1 ≡ get_or (map (λ (q : Posting). q.1) ps) i p.1
 place-at ps i p l is = ap (λ (q : Posting). q.1) is ∙ sym (get_or-map (λ (q : Posting). q.1) ps i p p.1 l)

@@ -1,7 +1,7 @@
 -- Postings: the entries of a database's indexes for its advisories. No public contract depends on these definitions.
 use Rattle.std.specs.Prelude.{◌≡◌, ◌&&◌, ◌==◌, ◌+◌, ◌%◌, ◌<◌, ℕ, Bool, List, [], ◌∷◌, Option, Some, if◌then◌else◌, length, slice_get, slice_index_or}
 use Rattle.std.specs.Option.{option_eq}
-use Rattle.core.specs.Hash.FoldHasher as folding
+use Rattle.std.specs.Hash.FoldHasher as folding
 use denote.Enum.Bare.{sameb}
 use Rattle.semver.specs.Parse.{Parts}
 use Rattle.rustsec_versions.specs.ranges.Ranges.{Range, in_range}

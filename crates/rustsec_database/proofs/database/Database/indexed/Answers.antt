@@ -2,16 +2,18 @@ use Rattle.std.proofs.Common.{◌∙◌, ap, map, option_map, subst, sym}
 use Rattle.std.specs.List.{All, filter}
 use Rattle.semver.specs.Identifiers.{parts_of}
 use Rattle.rustsec_database.specs.Places.{at_places}
-use Rattle.rustsec_database.specs.Postings.{AreListed, IsPostingAmong}
+use Rattle.rustsec_database.specs.Postings.{AreListed, IsPostingAmong, is_near, posting_of}
 use Rattle.std.proofs.lemmas.Result.{IfOk-weaker}
 use Rattle.rustsec_database.proofs.Postings.{among, by-digest, near}
 use Rattle.rustsec_database.proofs.database.Database.indexed.Goals as goal
 
 pub matching-requires : goal.matching-requires
 matching-requires g c = record {
-  near = λ place a passes.
-      near c.args.sought.collection c.args.sought.name.now (option_map (λ v. parts_of v.now) c.args.sought.version) place a
-      (c.requires.under a passes) (c.requires.affects a passes);
+  near = λ place a passes. (
+      let version = option_map (λ v. parts_of v.now) c.args.sought.version in
+      ap (λ n. is_near n version (posting_of place a)) c.digest-digest.ensures
+      ∙ near c.args.sought.collection c.args.sought.name.now version place a (c.requires.under a passes) (c.requires.affects a passes)
+      );
   among = subst (λ l. All (IsPostingAmong l) c.postings-postings.result.now) (sym c.self.view_is)
       (among c.args.sought.collection c.digest-digest.result c.args.self.now c.postings-postings.result.now c.postings-postings.ensures);
 }
