@@ -16,7 +16,8 @@ use std::alloc::{AllocError, Global};
 fn empty_line(alloc: Global, written: &Written<'_, '_>) -> std::result::Result<String, AllocError>
     ensures { IfOk result (λ t. string_bytes t ≡ []) }
 {
-    let findings = written.check.findings.len();
+    let check = written.check;
+    let findings = check.findings.len();
     String::with_capacity(alloc, findings.saturating_add(1).saturating_mul(1024))
 }
 
