@@ -5,7 +5,7 @@ use Rattle.std.specs.Cmp.Lexicographic.{bytes_decides}
 use Rattle.std.specs.List.{AllByRecursion, list_all}
 use Rattle.std.specs.Str.{bytes_eq}
 use Rattle.toml.specs.Data.{Data, Members, as_bool, as_str, as_table, get_member, integer}
-use Rattle.rustsec_values.specs.Reading.{◌>>=◌, read_optional}
+use Rattle.rustsec_values.specs.Reading.{◌>>=◌, read_optional, value_or}
 use Rattle.rustsec_lock.specs.Cvss.{cvss_of}
 use Rattle.rustsec_lock.specs.Names.{name_of}
 use Rattle.rustsec_lock.specs.Platforms.{arch_of, os_of}
@@ -18,7 +18,7 @@ use Rattle.rustsec_texts.specs.Informational.{informational_of}
 use Rattle.rustsec_texts.specs.Licenses.{default_license, license_of}
 use Rattle.rustsec_texts.specs.Addresses.{address_of}
 use Rattle.rustsec_advisory.specs.Requirements.{requirements_of}
-use Rattle.rustsec_toml.specs.Fields.{defaulted, every, optional, required, text, value_or}
+use Rattle.rustsec_toml.specs.Fields.{defaulted, every, optional, required, text}
 use Rattle.rustsec_advisory.specs.Advisory.{AreVersions, IsAffectedAt}
 use Rattle.rustsec_advisory.specs.Affected.{AreFunctionsAt, IsAffected}
 use Rattle.rustsec_advisory.specs.FieldGroups.{kinds_of, origin_of, subject_of, terms_of}

@@ -13,8 +13,8 @@ use Rattle.rustsec_graph.specs.Paths.{IsAnswer}
 use Rattle.rustsec_texts.specs.contracts.warning_kind.WarningKind.{the_type as warning_kind}
 use Rattle.rustsec_texts.specs.declared.warning_kind.WarningKind.{WarningKind}
 use Rattle.rustsec_texts.specs.declared.warning_kind.WarningKind.TheVariants as warning
-use Rattle.rustsec_policy.specs.declared.words.Denied.{Denied}
-use Rattle.rustsec_policy.specs.declared.words.Denied.TheVariants as denied
+use Rattle.rustsec_policy.specs.declared.choices.Denied.{Denied}
+use Rattle.rustsec_policy.specs.declared.choices.Denied.TheVariants as denied
 use Rattle.rustsec_advisory.specs.declared.advisory.Advisory.{Advisory}
 use Rattle.rustsec_check.specs.Pairs.{counted, found}
 use Rattle.rustsec_check.specs.Updates.{IsUpdateBy, UpdateValue, counting}

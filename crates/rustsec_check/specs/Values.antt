@@ -4,7 +4,7 @@ use Rattle.rustsec_lock.specs.Package.{PackageValue}
 use Rattle.rustsec_graph.specs.Graph.{GraphValue}
 use Rattle.rustsec_texts.specs.Ids.{IdValue}
 use Rattle.rustsec_texts.specs.declared.warning_kind.WarningKind.{WarningKind}
-use Rattle.rustsec_policy.specs.declared.words.Denied.{Denied}
+use Rattle.rustsec_policy.specs.declared.choices.Denied.{Denied}
 use Rattle.rustsec_advisory.specs.declared.advisory.Advisory.{Advisory}
 use Rattle.rustsec_report.specs.declared.settings.Settings.{Settings}
 use Rattle.rustsec_check.specs.Updates.{UpdateValue}

@@ -1,7 +1,7 @@
 //! Finds the first form in a document of TOML 1.1 that TOML 1.0 does not have.
 #![tactic(auto)]
 
-mod document;
+mod first_form;
 mod form;
 mod signs;
 #[cfg(test)]
@@ -9,5 +9,5 @@ mod tests;
 mod token;
 mod tokens;
 
-pub use crate::document::{FoundForm, first_form};
+pub use crate::first_form::{FoundForm, first_form};
 pub use crate::form::NewForm;

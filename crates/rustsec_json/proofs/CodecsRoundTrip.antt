@@ -10,9 +10,9 @@ use Rattle.serde_json.specs.Data.{Data, Members, no_members}
 use Rattle.serde_json.specs.Find.{as_null, get_member}
 use Rattle.serde_json.specs.View.{items_of}
 use Rattle.serde_json.proofs.Views.{get_member-put, get_member-put_other}
-use Rattle.rustsec_values.specs.Reading.{◌>>=◌, read_all}
+use Rattle.rustsec_values.specs.Reading.{◌>>=◌, read_all, value_or}
 use Rattle.rustsec_json.specs.Codecs.{Codec, Field, Fields, IfThere, Object, again_in, any_text, field, keys_in, list_codec, members_in, members_of, no_more, object_codec, put_some, read_in, text_codec, word_codec}
-use Rattle.rustsec_json.specs.Fields.{list_of, or_null, value_or}
+use Rattle.rustsec_json.specs.Fields.{list_of, or_null}
 use Rattle.rustsec_json.specs.Trees.{optional_tree}
 
 -- ---- laws

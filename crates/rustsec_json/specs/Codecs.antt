@@ -3,8 +3,8 @@
 use Rattle.std.specs.Prelude.{◌≡◌, ℕ, List, [], ◌∷◌, All, Option, Some, None, ⊤, option_map}
 use Rattle.serde_json.specs.Data.{Data, Members, no_members, object, put, string}
 use Rattle.serde_json.specs.Find.{as_object, get_member}
-use Rattle.rustsec_values.specs.Reading.{◌>>=◌}
-use Rattle.rustsec_json.specs.Fields.{every, or_null, text, value_or}
+use Rattle.rustsec_values.specs.Reading.{◌>>=◌, value_or}
+use Rattle.rustsec_json.specs.Fields.{every, or_null, text}
 use Rattle.rustsec_json.specs.Trees.{list_tree, optional_tree}
 
 -- a property of a value, if the value is present

@@ -2,7 +2,7 @@
 use Rattle.std.specs.Prelude.{ℕ, List, [], ◌∷◌, Option, Some, None, if◌then◌else◌, is_some, option_map}
 use Rattle.serde_json.specs.Data.{Data, Items, no_items, item, Members}
 use Rattle.serde_json.specs.Find.{as_array, as_null, as_str, get_member}
-use Rattle.rustsec_values.specs.Reading.{◌>>=◌, read_all}
+use Rattle.rustsec_values.specs.Reading.{◌>>=◌, read_all, value_or}
 
 -- the items of an array as a list
 abbrev pub list_of : Items → List Data
@@ -24,11 +24,6 @@ or_null f d = if is_some (as_null d) then Some None else option_map Some (f d)
 -- the value at a required key
 abbrev pub required : {A : Type 0} → (Data → Option A) → List ℕ → Members → Option A
 required f key ms = get_member key ms >>= f
-
--- a value that may be missing, or its default
-abbrev pub value_or : {A : Type 0} → A → (Data → Option A) → Option Data → Option A
-value_or default f None = Some default
-value_or default f (Some d) = f d
 
 -- the value at a key, or its default if the key is missing; null does not give the default
 abbrev pub defaulted : {A : Type 0} → A → (Data → Option A) → List ℕ → Members → Option A

@@ -11,10 +11,10 @@ ghost use Rattle.rustsec_lint_database.specs.Placement.{HasNone};
 ghost use Rattle.rustsec_lint_database.specs.Files.{IsLintAt, IsLintOf, file_with, lint_remark, of_advisory, of_refusal, own_id, remarks_with};
 
 use crate::edition::push_edition;
+use crate::messages::{Source, words_of};
 use crate::placement::push_placement;
 use crate::remark::{Remark, RemarkKind, push_remark};
 use crate::upstream::push_upstream;
-use crate::words::{Source, words_of};
 use rustsec_advisory::Advisory;
 use rustsec_advisory::linter::{self, Linter};
 use rustsec_edition::{FoundForm, first_form};

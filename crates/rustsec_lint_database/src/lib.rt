@@ -7,11 +7,11 @@ mod edition;
 mod file;
 mod hints;
 mod lines;
+mod messages;
 mod placement;
 mod readings;
 mod remark;
 mod upstream;
-mod words;
 
 pub use crate::counts::{Counts, counts_of};
 pub use crate::database::{Entry, Step, Watcher, lint_database};

@@ -4,9 +4,9 @@ use Rattle.std.specs.List.{flat_map}
 use Rattle.std.proofs.lemmas.List.Elements.{All-head, All-tail}
 use Rattle.std.proofs.lemmas.Option.{same_Some}
 use Rattle.rustsec_json.specs.Codecs.{IfThere, members_of}
-use Rattle.rustsec_json.specs.Fields.{every, value_or}
+use Rattle.rustsec_json.specs.Fields.{every}
 use Rattle.rustsec_json.proofs.CodecsRoundTrip.{list_of-items, object-held, optional-again, parts-read}
-use Rattle.rustsec_values.specs.Reading.{before, read_all}
+use Rattle.rustsec_values.specs.Reading.{before, read_all, value_or}
 use Rattle.rustsec_osv.specs.DocumentCodec.{AreEventsValid, affected_codec, affected_object, document_object, document_tree, read_document}
 use Rattle.rustsec_osv.specs.DocumentEvents.{Event, JsonRange}
 use Rattle.rustsec_osv.specs.Documents.{Document, ranges_of}

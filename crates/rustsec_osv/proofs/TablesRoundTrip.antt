@@ -6,8 +6,8 @@ use Rattle.std.proofs.lemmas.Option.{same_Some}
 use Rattle.std.specs.Map.{keys_of}
 use Rattle.toml.specs.Data.{Data, Members, as_array, as_str}
 use Rattle.semver.specs.Parse.{Held}
-use Rattle.rustsec_toml.specs.Fields.{every, list_of, text, value_or}
-use Rattle.rustsec_values.specs.Reading.{◌>>=◌, before, read_all, read_optional}
+use Rattle.rustsec_toml.specs.Fields.{every, list_of, text}
+use Rattle.rustsec_values.specs.Reading.{◌>>=◌, before, read_all, read_optional, value_or}
 use Rattle.rustsec_texts.specs.Paths.{path_of}
 use Rattle.rustsec_advisory.specs.Affected.{AreFunctions, AreFunctionsAt, Function, function_of, members_of}
 use Rattle.rustsec_advisory.specs.Requirements.{requirements_of}

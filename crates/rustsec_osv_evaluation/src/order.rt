@@ -6,7 +6,7 @@ ghost use Rattle.rustsec_osv.specs.DocumentEvents.{event_of};
 ghost use Rattle.rustsec_osv_evaluation.specs.Order.{follows, has_ordered_events, is_ordered_member, is_ordered_range, rise};
 ghost use Rattle.semver.specs.Identifiers.{parts_of};
 
-use crate::document::ranges_of;
+use crate::affected::ranges_of;
 use crate::pairs::at;
 use rustsec_osv::{OsvAdvisory, OsvAffected, OsvJsonRange, OsvTimelineEvent};
 use semver::Version;

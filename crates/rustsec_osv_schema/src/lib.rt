@@ -2,15 +2,15 @@
 #![tactic(auto)]
 
 mod affected;
-mod document;
 mod export;
 mod forms;
 mod keys;
 mod metrics;
 mod names;
+mod osv_schema;
 mod rule;
 mod time;
 mod vectors;
 
-pub use crate::document::is_osv_schema;
 pub use crate::export::exported_value;
+pub use crate::osv_schema::is_osv_schema;

@@ -3,8 +3,8 @@
 //! alone, and an inline table has no other in it. The sections of one name are together, a table before those below it.
 #![tactic(auto)]
 
-mod document;
 mod lines;
+mod plain_document;
 mod sections;
 mod strings;
 mod tables;
@@ -13,4 +13,4 @@ mod tests;
 mod unread;
 mod values;
 
-pub use crate::document::plain_document;
+pub use crate::plain_document::plain_document;

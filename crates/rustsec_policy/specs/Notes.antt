@@ -5,10 +5,10 @@ use Rattle.std.specs.List.{join_by, list_any}
 use Rattle.rustsec_policy.specs.declared.policy.Policy.{Policy}
 use Rattle.rustsec_policy.specs.declared.unused.DatabasePolicy.{DatabasePolicy}
 use Rattle.rustsec_policy.specs.declared.unused.YankedPolicy.{YankedPolicy}
-use Rattle.rustsec_policy.specs.declared.words.Denied.{Denied}
-use Rattle.rustsec_policy.specs.declared.words.Denied.TheVariants as denied
-use Rattle.rustsec_policy.specs.declared.words.PackageSource.{PackageSource}
-use Rattle.rustsec_policy.specs.declared.words.PackageSource.TheVariants as source
+use Rattle.rustsec_policy.specs.declared.choices.Denied.{Denied}
+use Rattle.rustsec_policy.specs.declared.choices.Denied.TheVariants as denied
+use Rattle.rustsec_policy.specs.declared.choices.PackageSource.{PackageSource}
+use Rattle.rustsec_policy.specs.declared.choices.PackageSource.TheVariants as source
 
 -- ---- the network
 

@@ -15,7 +15,7 @@ use Rattle.rustsec_texts.specs.declared.id_kind.IdKind.TheVariants as kind
 use Rattle.rustsec_toml.specs.Fields.{defaulted, every, optional, required, text}
 use Rattle.rustsec_values.specs.Reading.{◌>>=◌, only_if, read_all}
 use Rattle.rustsec_policy.specs.Keys.{advisory_keys, database_keys, has_only, ignored_keys, output_keys, package_keys, section_keys, target_keys, yanked_keys}
-use Rattle.rustsec_policy.specs.Words.{denied_of, format_of, package_source_of, severity_named}
+use Rattle.rustsec_policy.specs.Choices.{denied_of, format_of, package_source_of, severity_named}
 use Rattle.rustsec_policy.specs.declared.ignored.Ignored.{Ignored}
 use Rattle.rustsec_policy.specs.declared.policy.Policy.{Policy}
 use Rattle.rustsec_policy.specs.declared.sections.AdvisoryPolicy.{AdvisoryPolicy}

@@ -2,6 +2,7 @@
 //! `audit.toml` of cargo-audit).
 #![tactic(auto)]
 
+mod choices;
 mod entries;
 mod flags;
 mod ignored;
@@ -14,8 +15,8 @@ mod refused;
 mod sections;
 mod threshold;
 mod unused;
-mod words;
 
+pub use crate::choices::{Denied, OutputFormat, PackageSource};
 pub use crate::entries::entry_with;
 pub use crate::ignored::Ignored;
 pub use crate::nearest::nearest_word;
@@ -24,4 +25,3 @@ pub use crate::policy::Policy;
 pub use crate::sections::{AdvisoryPolicy, OutputPolicy, TargetPolicy};
 pub use crate::threshold::read_severity;
 pub use crate::unused::{DatabasePolicy, PackagePolicy, YankedPolicy};
-pub use crate::words::{Denied, OutputFormat, PackageSource};

@@ -5,8 +5,8 @@ ghost use Rattle.std.specs.List.{list_any};
 ghost use Rattle.rustsec_error.specs.Failure.{IsMemory};
 ghost use Rattle.rustsec_policy.specs.Notes.{given, idle_keys, idle_note, is_yanked, name_if, network_note, notes_of, package_note, yanked_note};
 
+use crate::choices::{Denied, PackageSource};
 use crate::policy::Policy;
-use crate::words::{Denied, PackageSource};
 use rustsec_error::Result;
 use rustsec_values::{Items, Text};
 use std::alloc::{AllocError, Global};

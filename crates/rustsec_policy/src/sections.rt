@@ -6,15 +6,15 @@ ghost use Rattle.rustsec_texts.specs.Informational.{informational_of};
 ghost use Rattle.rustsec_toml.specs.Fields.{defaulted, every, optional, text};
 ghost use Rattle.rustsec_error.specs.Failure.{IsMemory, IsOfKind, IsRefusal};
 ghost use Rattle.rustsec_policy.specs.Policies.{advisories_in, ids_on, ignored_of, no_advisories, no_output, no_target, output_in, target_in, words_of};
-ghost use Rattle.rustsec_policy.specs.Words.{severity_named};
+ghost use Rattle.rustsec_policy.specs.Choices.{severity_named};
 
+use crate::choices::{Denied, OutputFormat};
 use crate::flags::flag_at;
 use crate::ignored::{Ignored, all_ignored, ids_on};
 use crate::keys::{AdvisoryKeys, OutputKeys, TargetKeys, expect_keys};
 use crate::nearest::with_nearest_name;
 use crate::refused::{Read, Refused, at_element, at_key};
 use crate::threshold::Threshold;
-use crate::words::{Denied, OutputFormat};
 use rustsec_error::{Error, ErrorKind, FromText, Result};
 use rustsec_lock::Severity;
 use rustsec_lock::platforms::{Arch, OS};

@@ -2,7 +2,7 @@
 
 ghost use Rattle.std.specs.Prelude.{◌≡◌, IfErr, IfOk, None, Some};
 ghost use Rattle.rustsec_error.specs.Failure.{IsRefusal};
-ghost use Rattle.rustsec_policy.specs.Words.{severity_named};
+ghost use Rattle.rustsec_policy.specs.Choices.{severity_named};
 
 use crate::nearest::with_nearest;
 use rustsec_error::{ErrorKind, FromText, Result, text_error};
@@ -62,7 +62,7 @@ pub fn read_severity(alloc: Global, text: &str) -> Result<Severity>
 }
 
 impl FromText for Threshold {
-    ghost use Rattle.rustsec_policy.specs.Words.{severity_named};
+    ghost use Rattle.rustsec_policy.specs.Choices.{severity_named};
 
     ghost reads = { severity_named };
 

@@ -9,10 +9,10 @@ ghost use Rattle.rustsec_error.specs.Failure.{IsRefusal};
 ghost use Rattle.rustsec_policy.specs.Notes.{database_asks, yanked_asks};
 ghost use Rattle.rustsec_policy.specs.Policies.{database_in, index_of, no_database, no_packages, no_yanked, packages_in, yanked_in};
 
+use crate::choices::PackageSource;
 use crate::flags::flag_at;
 use crate::keys::{DatabaseKeys, PackageKeys, YankedKeys, expect_keys};
 use crate::refused::{Read, at_key};
-use crate::words::PackageSource;
 use rustsec_error::{ErrorKind, Result};
 use rustsec_toml::{Section, TablePlace};
 use rustsec_values::Text;

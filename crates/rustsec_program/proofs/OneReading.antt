@@ -5,8 +5,8 @@ use Rattle.std.proofs.lemmas.List.Elements.{All-nil}
 use Rattle.toml.specs.Data.{Data, Items, Members, as_array, get_member}
 use Rattle.toml.specs.Parse.{parse_document}
 use Rattle.std.specs.Prelude.{codes}
-use Rattle.rustsec_values.specs.Reading.{◌>>=◌, read_all}
-use Rattle.rustsec_toml.specs.Fields.{every, list_of, value_or}
+use Rattle.rustsec_values.specs.Reading.{◌>>=◌, read_all, value_or}
+use Rattle.rustsec_toml.specs.Fields.{every, list_of}
 use Rattle.rustsec_error.specs.Failure.{Failure, IsMemory, IsRefusal}
 use Rattle.rustsec_error.specs.declared.error.ErrorKind.{ErrorKind}
 use Rattle.rustsec_error.specs.declared.error.ErrorKind.TheVariants as kind

@@ -13,11 +13,11 @@ use Rattle.rustsec_texts.specs.declared.informational.Informational.{Information
 use Rattle.rustsec_texts.specs.declared.informational.Informational.TheVariants as informational
 use Rattle.rustsec_policy.specs.Notes.{is_yanked, notes_of}
 use Rattle.rustsec_policy.specs.Policies.{ids_on, index_of, policy_of}
-use Rattle.rustsec_policy.specs.Words.{denied_of, severity_named}
+use Rattle.rustsec_policy.specs.Choices.{denied_of, severity_named}
 use Rattle.rustsec_policy.specs.declared.policy.Policy.{Policy}
-use Rattle.rustsec_policy.specs.declared.words.Denied.{Denied}
-use Rattle.rustsec_policy.specs.declared.words.OutputFormat.{OutputFormat}
-use Rattle.rustsec_policy.specs.declared.words.OutputFormat.TheVariants as format
+use Rattle.rustsec_policy.specs.declared.choices.Denied.{Denied}
+use Rattle.rustsec_policy.specs.declared.choices.OutputFormat.{OutputFormat}
+use Rattle.rustsec_policy.specs.declared.choices.OutputFormat.TheVariants as format
 use Rattle.rustsec_report.specs.declared.settings.Settings.{Settings}
 use Rattle.rustsec_program.specs.CheckOptions.{CheckOption, last_value, values_of}
 use Rattle.rustsec_program.specs.Notes.{note_if}

@@ -1,7 +1,7 @@
 //! Reads the values of the options.
 
 ghost use Rattle.std.specs.Prelude.{◌≡◌, [], IfErr, IfOk, None, Some, map, option_map};
-ghost use Rattle.rustsec_policy.specs.Words.{severity_named};
+ghost use Rattle.rustsec_policy.specs.Choices.{severity_named};
 ghost use Rattle.rustsec_values.specs.Reading.{read_all, read_optional};
 ghost use Rattle.rustsec_error.specs.Failure.{IsRefusal};
 ghost use Rattle.rustsec_program.specs.CheckOptions.{last_value, values_of};

@@ -125,7 +125,7 @@ impl Model for LeastSeverity {
 }
 
 impl FromText for LeastSeverity {
-    ghost use Rattle.rustsec_policy.specs.Words.{severity_named};
+    ghost use Rattle.rustsec_policy.specs.Choices.{severity_named};
 
     ghost reads = { severity_named };
 

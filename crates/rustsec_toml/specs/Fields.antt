@@ -1,7 +1,7 @@
 -- The values at the keys of a table of a TOML document.
 use Rattle.std.specs.Prelude.{ℕ, List, [], ◌∷◌, Option, Some, None}
 use Rattle.toml.specs.Data.{Data, Items, no_items, item, Members, get_member, as_array, as_str}
-use Rattle.rustsec_values.specs.Reading.{◌>>=◌, read_all, read_optional}
+use Rattle.rustsec_values.specs.Reading.{◌>>=◌, read_all, read_optional, value_or}
 
 -- the items of an array as a list
 abbrev pub list_of : Items → List Data
@@ -23,11 +23,6 @@ required f key t = get_member key t >>= f
 -- the value at a key that may be missing
 abbrev pub optional : {A : Type 0} → (Data → Option A) → List ℕ → Members → Option (Option A)
 optional f key t = read_optional f (get_member key t)
-
--- a value that may be missing, or its default
-abbrev pub value_or : {A : Type 0} → A → (Data → Option A) → Option Data → Option A
-value_or default f None = Some default
-value_or default f (Some d) = f d
 
 -- the value at a key, or its default
 abbrev pub defaulted : {A : Type 0} → A → (Data → Option A) → List ℕ → Members → Option A

@@ -27,6 +27,11 @@ abbrev pub read_optional : {A B : Type 0} → (A → Option B) → Option A → 
 read_optional f None = Some None
 read_optional f (Some x) = f x >>= λ y. Some (Some y)
 
+-- the result of a reader for a value that may be missing, or a default
+abbrev pub value_or : {A B : Type 0} → B → (A → Option B) → Option A → Option B
+value_or default f None = Some default
+value_or default f (Some x) = f x
+
 -- a value, if a test holds
 abbrev pub only_if : {A : Type 0} → Bool → Option A → Option A
 only_if test o = if test then o else None

@@ -6,8 +6,8 @@ use Rattle.semver.specs.Parse.{Held, Parts}
 use Rattle.semver.specs.declared.Version.{Version}
 use Rattle.semver.specs.declared.VersionReq.{VersionReq}
 use Rattle.rustsec_versions.specs.ranges.Ranges.{Range}
-use Rattle.rustsec_versions.specs.declared.interval.Bound.{Bound}
-use Rattle.rustsec_versions.specs.declared.interval.Bound.TheVariants as bound
+use Rattle.rustsec_versions.specs.declared.bound.Bound.{Bound}
+use Rattle.rustsec_versions.specs.declared.bound.Bound.TheVariants as bound
 use Rattle.rustsec_versions.specs.declared.requirement.comparator.Side as given
 use Rattle.rustsec_versions.specs.declared.requirement.comparator.Side.TheVariants as side
 use Rattle.rustsec_versions.specs.requirement.Requirement.{Side, lower, neither, upper}

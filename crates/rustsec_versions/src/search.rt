@@ -8,7 +8,7 @@ ghost use Rattle.rustsec_versions.specs.ranges.Between.{AreInTurn, EachLaterBegi
 ghost use Rattle.rustsec_versions.specs.interval.Interval.{Interval, holds, is_after, is_before};
 ghost use Rattle.rustsec_versions.specs.ranges.Ranges.{has_bound};
 
-use crate::interval::Bound;
+use crate::bound::Bound;
 use crate::ranges::complement::AffectedInterval;
 use crate::search::steps::{Sought, Steps};
 

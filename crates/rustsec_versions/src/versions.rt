@@ -1,5 +1,8 @@
 //! The lists of requirements of an advisory, and which versions they leave affected.
 
+pub(crate) mod advisory_ranges;
+mod apart;
+
 ghost use Rattle.std.specs.Prelude.{◌≡◌, ◌<◌, ◌+◌, ◌-◌, ◌^◌, ◌≤◌, ◌∷◌, ℕ, IfErr, IfOk, List, OnErr, OnOk, false, is_some, length, map, true};
 ghost use Rattle.std.specs.Cmp.{partial_equiv_from_equiv};
 ghost use Rattle.semver.specs.Identifiers.{parts_of};
@@ -8,12 +11,11 @@ ghost use Rattle.rustsec_versions.specs.Equality.{lists_eq, lists_equiv};
 ghost use Rattle.rustsec_versions.specs.EqualityLaws.{lists_decides};
 ghost use Rattle.rustsec_error.specs.Failure.{IsMemory, IsRefusal};
 ghost use Rattle.rustsec_versions.specs.acceptance.Lists.{Lists, accepted, accepted_apart, affected, no_lists};
-ghost use Rattle.rustsec_versions.specs.order.Precedence.{version_order, with_build};
+ghost use Rattle.rustsec_versions.specs.order.Precedence.{with_build};
 ghost use Rattle.rustsec_versions.specs.ranges.Ranges.{Range, SameInEachList};
 ghost use Rattle.rustsec_versions.specs.ranges.AcceptedRanges.{AreMergedRanges, AreRangesOf, HasBinaryDigits, HasUnboundedInterval};
 ghost use Rattle.rustsec_versions.specs.Views.{comparators_of, lists_of};
 
-use crate::acceptance::apart::accepted_as_unaffected;
 use crate::acceptance::merge::merged_intervals;
 use crate::acceptance::overlaps::overlap_error;
 use crate::acceptance::tagged::{by_start, tagged_intervals};
@@ -22,6 +24,7 @@ use crate::ranges::{OsvRange, ranges_of};
 use crate::requirement::requirements::Requirements;
 use crate::search::in_complement;
 use crate::search::steps::{Sought, Steps};
+use crate::versions::apart::accepted_as_unaffected;
 use rustsec_error::{Error, ErrorKind, Result};
 use rustsec_values::{ExactClone, ExactEq};
 use semver::{Version, VersionReq};

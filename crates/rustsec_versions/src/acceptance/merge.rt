@@ -7,7 +7,8 @@ ghost use Rattle.rustsec_versions.specs.acceptance.Sweep.{all_swept, later_end, 
 ghost use Rattle.rustsec_versions.specs.Views.{endpoint_of};
 
 use crate::acceptance::tagged::TaggedInterval;
-use crate::interval::{Bound, end_le, reaches};
+use crate::bound::Bound;
+use crate::interval::{end_le, reaches};
 use std::alloc::{AllocError, Global};
 use std::marker::Model;
 

@@ -9,7 +9,8 @@ ghost use Rattle.rustsec_versions.specs.acceptance.Sweep.{all_tagged, bounds_are
 ghost use Rattle.rustsec_versions.specs.Views.{comparators_of, endpoint_of};
 
 use crate::acceptance::overlaps::clash_error;
-use crate::interval::{Bound, UnaffectedRange};
+use crate::bound::Bound;
+use crate::interval::UnaffectedRange;
 use crate::requirement::requirements::Requirements;
 use rustsec_error::{ErrorKind, Result};
 use semver::VersionReq;

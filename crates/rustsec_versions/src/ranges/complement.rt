@@ -9,7 +9,7 @@ ghost use Rattle.rustsec_versions.specs.acceptance.Sweep.{spans};
 ghost use Rattle.rustsec_versions.specs.Views.{endpoint_of};
 
 use crate::acceptance::merge::Merged;
-use crate::interval::Bound;
+use crate::bound::Bound;
 use crate::ranges::{OsvRange, lower_cut, upper_cut};
 use rustsec_error::Result;
 use rustsec_values::ExactClone;

@@ -9,7 +9,7 @@ ghost use Rattle.rustsec_versions.specs.Memory.{gives_one_bound, hold_no_text};
 ghost use Rattle.rustsec_versions.specs.requirement.Requirement.{caret_end, fits, names_version, least_of, base_version, next_major, next_minor, next_patch, of_one, side_of, stated, tilde_end};
 ghost use Rattle.rustsec_versions.specs.Views.{comparators_of, endpoint_of, interval_between, side_view};
 
-use crate::interval::Bound;
+use crate::bound::Bound;
 use crate::requirement::semver_texts::is_out_of_memory;
 use rustsec_error::{Error, ErrorKind, Result};
 use semver::{BuildMetadata, Comparator, Op, Prerelease, Version, VersionReq};

@@ -6,7 +6,7 @@ ghost use Rattle.rustsec_error.specs.Failure.{IsMemory, IsOfKind};
 ghost use Rattle.rustsec_versions.specs.requirement.RequirementText.{comparator_text, dotted, op_text, requirement_text, star};
 ghost use Rattle.rustsec_versions.specs.Views.{comparators_of};
 
-use crate::interval::Bound;
+use crate::bound::Bound;
 use rustsec_error::{Error, Result, with_place};
 use rustsec_values::beginning_of;
 use semver::{Comparator, Op, Prerelease, Version, VersionReq};

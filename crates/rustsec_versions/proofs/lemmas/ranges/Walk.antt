@@ -5,8 +5,8 @@ use Rattle.rustsec_versions.specs.ranges.Between.{gap_to, complement_after, comp
 use Rattle.rustsec_versions.specs.interval.Interval.{Endpoint, Interval, exclusive, inclusive, unbounded}
 use Rattle.rustsec_versions.specs.acceptance.Sweep.{TaggedInterval, spans}
 use Rattle.rustsec_versions.specs.Views.{endpoint_of}
-use Rattle.rustsec_versions.specs.declared.interval.Bound.{Bound}
-use Rattle.rustsec_versions.specs.declared.interval.Bound.TheVariants as bound
+use Rattle.rustsec_versions.specs.declared.bound.Bound.{Bound}
+use Rattle.rustsec_versions.specs.declared.bound.Bound.TheVariants as bound
 
 to-split : (from s : Endpoint) (rest : List Interval) → gap_to from s rest ≡ gap_to from s [] ++ rest
 to-split from unbounded rest = refl

@@ -2,7 +2,7 @@ use Rattle.std.proofs.Common.{◌≡◌, ◌∙◌, ◌≢◌, refl, None}
 use Rattle.semver.specs.Identifiers.{comparator_view}
 use Rattle.rustsec_versions.specs.requirement.Requirement.{of_sides}
 use Rattle.rustsec_versions.specs.Views.{side_view}
-use Rattle.rustsec_versions.specs.declared.interval.Bound.{Bound}
+use Rattle.rustsec_versions.specs.declared.bound.Bound.{Bound}
 use Rattle.rustsec_versions.specs.declared.requirement.comparator.Side.{Side}
 use Rattle.rustsec_versions.specs.declared.requirement.comparator.Side.TheVariants.{Lower, Upper, Neither}
 use Rattle.rustsec_error.proofs.Refusals.{refusal}
