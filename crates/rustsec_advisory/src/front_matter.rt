@@ -19,7 +19,7 @@ ghost use Rattle.rustsec_versions.specs.acceptance.Lists.{Lists};
 
 use crate::affected::Affected;
 use crate::functions::Functions;
-use crate::metadata::{Kinds, Metadata, Origin, Subject, Terms};
+use crate::metadata::{Kinds, Metadata, MetadataParts, Origin, Subject, Terms};
 use crate::requirements::{optional_requirements_at, requirements, requirements_at};
 use rustsec_error::{Error, ErrorKind, Result};
 use rustsec_texts::{FunctionPath, License};
@@ -120,7 +120,15 @@ pub fn metadata(
     let terms = terms(alloc, section)?;
     let title = Text::from_str(alloc, title)?;
     let description = Text::from_str(alloc, description)?;
-    Ok(Metadata::of_groups(subject, kinds, origin, terms, title, description))
+    let parts = MetadataParts {
+        title,
+        description,
+        subject,
+        kinds,
+        origin,
+        terms,
+    };
+    Ok(Metadata::from_parts(parts))
 }
 
 /// Returns whether a requirement is not admissible.

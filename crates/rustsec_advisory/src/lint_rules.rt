@@ -13,11 +13,19 @@ use crate::lint_values::{
     lint_categories, lint_functions, lint_id_value, lint_informational, lint_license, lint_url,
 };
 use crate::linter::Error;
-use crate::metadata::Metadata;
 use rustsec_error::Result;
 use rustsec_values::Items;
 use std::alloc::Global;
 use toml::{Table, Value};
+
+/// An advisory whose document is linted.
+#[derive(Clone, Copy)]
+struct Linted<'a> {
+    /// Whether it is a draft, if that is known.
+    draft: Option<bool>,
+    /// What the document says.
+    advisory: &'a Advisory,
+}
 
 /// Returns whether a key of the section `advisory` has a meaning and never has a lint error.
 fn is_quiet(key: &str) -> bool
@@ -42,20 +50,20 @@ fn is_quiet(key: &str) -> bool
 fn lint_advisory_key(
     alloc: Global,
     errors: &mut Items<Error>,
-    draft: Option<bool>,
-    metadata: &Metadata,
+    linted: Linted<'_>,
     key: &str,
     value: &Value,
 ) -> Result<()>
-    ensures ok { OnOk result (errors.new ≡ errors.old ++ advisory_rows draft metadata.now (key.now, view value.now)) }
+    ensures ok { OnOk result (errors.new ≡ errors.old ++ advisory_rows linted.draft linted.advisory.now.metadata (key.now, view value.now)) }
     ensures err { IfErr result IsMemory }
 {
     // Most keys are quiet.
     if is_quiet(key) {
         return Ok(());
     }
+    let metadata = &linted.advisory.metadata;
     match key {
-        "id" => lint_id_value(alloc, errors, draft, metadata, value),
+        "id" => lint_id_value(alloc, errors, linted.draft, metadata, value),
         "categories" => lint_categories(alloc, errors, metadata.categories.as_slice()),
         "collection" => {
             let message = "collection shouldn't be explicit; inferred by location";
@@ -82,16 +90,15 @@ fn lint_advisory_key(
 fn lint_advisory(
     alloc: Global,
     errors: &mut Items<Error>,
-    draft: Option<bool>,
-    metadata: &Metadata,
+    linted: Linted<'_>,
     table: &Table,
 ) -> Result<()>
-    ensures ok { OnOk result (errors.new ≡ errors.old ++ flat_map (advisory_rows draft metadata.now) (members_of (table_view table.now))) }
+    ensures ok { OnOk result (errors.new ≡ errors.old ++ flat_map (advisory_rows linted.draft linted.advisory.now.metadata) (members_of (table_view table.now))) }
     ensures ordered { OnOk result (KeysRise (members_of (table_view table.now))) }
     ensures err { IfErr result IsMemory }
 {
     for (key, value) in table {
-        lint_advisory_key(alloc, errors, draft, metadata, key.as_str(), value)?;
+        lint_advisory_key(alloc, errors, linted, key.as_str(), value)?;
     }
     Ok(())
 }
@@ -163,18 +170,17 @@ fn lint_versions(alloc: Global, errors: &mut Items<Error>, table: &Table) -> Res
 fn lint_section(
     alloc: Global,
     errors: &mut Items<Error>,
-    draft: Option<bool>,
-    advisory: &Advisory,
+    linted: Linted<'_>,
     key: &str,
     table: &Table,
 ) -> Result<()>
-    ensures ok { OnOk result (errors.new ≡ errors.old ++ section_rows draft advisory.now key.now (members_of (table_view table.now))) }
+    ensures ok { OnOk result (errors.new ≡ errors.old ++ section_rows linted.draft linted.advisory.now key.now (members_of (table_view table.now))) }
     ensures ordered { OnOk result (is_one_of sections key.now ≡ true → KeysRise (members_of (table_view table.now))) }
     ensures err { IfErr result IsMemory }
 {
     match key {
-        "advisory" => lint_advisory(alloc, errors, draft, &advisory.metadata, table),
-        "affected" => lint_affected(alloc, errors, advisory, table),
+        "advisory" => lint_advisory(alloc, errors, linted, table),
+        "affected" => lint_affected(alloc, errors, linted.advisory, table),
         "versions" => lint_versions(alloc, errors, table),
         _ => add_key(alloc, errors, true, None, key),
     }
@@ -184,12 +190,11 @@ fn lint_section(
 fn lint_top_key(
     alloc: Global,
     errors: &mut Items<Error>,
-    draft: Option<bool>,
-    advisory: &Advisory,
+    linted: Linted<'_>,
     key: &str,
     value: &Value,
 ) -> Result<()>
-    ensures ok { OnOk result (errors.new ≡ errors.old ++ top_rows draft advisory.now (key.now, view value.now)) }
+    ensures ok { OnOk result (errors.new ≡ errors.old ++ top_rows linted.draft linted.advisory.now (key.now, view value.now)) }
     ensures ordered { OnOk result (SectionRises (key.now, view value.now)) }
     ensures err { IfErr result IsMemory }
 {
@@ -197,7 +202,7 @@ fn lint_top_key(
         let known = matches!(key, "advisory" | "affected" | "versions");
         return add_key(alloc, errors, !known, None, key);
     };
-    lint_section(alloc, errors, draft, advisory, key, table)
+    lint_section(alloc, errors, linted, key, table)
 }
 
 /// Returns the lint errors of a document and its advisory.
@@ -213,7 +218,8 @@ pub(crate) fn of_document(
 {
     let mut errors = Items::new(alloc);
     for (key, value) in document {
-        lint_top_key(alloc, &mut errors, draft, advisory, key.as_str(), value)?;
+        let linted = Linted { draft, advisory };
+        lint_top_key(alloc, &mut errors, linted, key.as_str(), value)?;
     }
     Ok(errors)
 }

@@ -67,6 +67,21 @@ pub struct Subject {
     pub related: Items<Id>,
 }
 
+impl Subject {
+    /// Returns a subject of these fields.
+    fn new(id: Id, name: Name, date: Date, aliases: Items<Id>, related: Items<Id>) -> Subject
+        ensures { result ≡ record { id = id; name = name; date = date; aliases = aliases; related = related } }
+    {
+        Subject {
+            id,
+            name,
+            date,
+            aliases,
+            related,
+        }
+    }
+}
+
 /// The classification of the vulnerability.
 #[derive(Drop)]
 pub struct Kinds {
@@ -80,6 +95,33 @@ pub struct Kinds {
     pub cvss: Option<Cvss>,
     /// The concern, if the advisory is informational.
     pub informational: Option<Informational>,
+}
+
+impl Kinds {
+    /// Returns a classification of these fields.
+    fn new(
+        collection: Option<Collection>,
+        categories: Items<Category>,
+        keywords: Items<Keyword>,
+        cvss: Option<Cvss>,
+        informational: Option<Informational>,
+    ) -> Kinds
+        ensures { result ≡ record {
+          collection = collection;
+          categories = categories;
+          keywords = keywords;
+          cvss = cvss;
+          informational = informational;
+        } }
+    {
+        Kinds {
+            collection,
+            categories,
+            keywords,
+            cvss,
+            informational,
+        }
+    }
 }
 
 /// References of an advisory, the source of its package, and its address.
@@ -148,18 +190,19 @@ impl Drop for Metadata {
 }
 
 impl Metadata {
-    /// Returns the metadata with these groups of fields.
-    pub(crate) fn of_groups(
-        subject: Subject,
-        kinds: Kinds,
-        origin: Origin,
-        terms: Terms,
-        title: Text,
-        description: Text,
-    ) -> Metadata
-        ensures { (subject_of result ≡ subject) × ((kinds_of result ≡ kinds) × ((origin_of result ≡ origin)
-            × ((terms_of result ≡ terms) × ((result.title ≡ title) × (result.description ≡ description))))) }
+    /// Returns the metadata with these parts. This takes no memory.
+    pub(crate) fn from_parts(parts: MetadataParts) -> Metadata
+        ensures { (subject_of result ≡ parts.subject) × ((kinds_of result ≡ parts.kinds) × ((origin_of result ≡ parts.origin)
+            × ((terms_of result ≡ parts.terms) × ((result.title ≡ parts.title) × (result.description ≡ parts.description))))) }
     {
+        let MetadataParts {
+            title,
+            description,
+            subject,
+            kinds,
+            origin,
+            terms,
+        } = parts;
         Metadata {
             id: subject.id,
             package: subject.name,
@@ -216,20 +259,8 @@ impl Metadata {
         MetadataParts {
             title,
             description,
-            subject: Subject {
-                id,
-                name: package,
-                date,
-                aliases,
-                related,
-            },
-            kinds: Kinds {
-                collection,
-                categories,
-                keywords,
-                cvss,
-                informational,
-            },
+            subject: Subject::new(id, package, date, aliases, related),
+            kinds: Kinds::new(collection, categories, keywords, cvss, informational),
             origin: Origin {
                 references,
                 source,
@@ -309,13 +340,15 @@ impl Clone for Metadata {
     ghost is_clone = { λ a b. b ≡ a };
 
     fn clone(&self) -> std::result::Result<Metadata, AllocError> {
-        let subject = self.subject()?;
-        let kinds = self.kinds()?;
-        let origin = self.origin()?;
-        let terms = self.terms()?;
-        let title = Clone::clone(&self.title)?;
-        let description = Clone::clone(&self.description)?;
-        Ok(Metadata::of_groups(subject, kinds, origin, terms, title, description))
+        let parts = MetadataParts {
+            title: Clone::clone(&self.title)?,
+            description: Clone::clone(&self.description)?,
+            subject: self.subject()?,
+            kinds: self.kinds()?,
+            origin: self.origin()?,
+            terms: self.terms()?,
+        };
+        Ok(Metadata::from_parts(parts))
     }
 }
 

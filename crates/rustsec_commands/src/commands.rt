@@ -17,7 +17,7 @@ use std::io::{self, Read, Write};
 use std::rt::Files;
 
 /// Makes the output of a command.
-fn output_of<F: Folders, R: Read>(
+fn command_output<F: Folders, R: Read>(
     alloc: Global,
     folders: &mut F,
     command: Command<'_>,
@@ -54,7 +54,7 @@ fn carry_out<F: Folders, R: Read, W: Write>(
     ensures kept { IfErr result (λ e. e ≢ fault.Write → Keeps (W.contents output.old) (W.contents output.new)) }
     ensures same { AllowSame (F.allowed folders.old) (F.allowed folders.new) }
 {
-    let made = output_of(alloc, folders, command, input)?;
+    let made = command_output(alloc, folders, command, input)?;
     made.write(output)?;
     Ok(made)
 }

@@ -40,7 +40,7 @@ fn warn_unlisted<F: Folders, N: Write>(
 }
 
 /// Makes the output of a command of this crate.
-fn output_of<F: Folders, N: Write>(
+fn command_output<F: Folders, N: Write>(
     alloc: Global,
     folders: &mut F,
     command: Command<'_>,
@@ -62,7 +62,7 @@ fn output_of<F: Folders, N: Write>(
 
 /// Makes the output of a command of this crate, and warns of a folder `rust` that cannot be listed unless the command is
 /// refused.
-fn noted_output_of<F: Folders, N: Write>(
+fn noted_output<F: Folders, N: Write>(
     alloc: Global,
     folders: &mut F,
     command: Command<'_>,
@@ -71,7 +71,7 @@ fn noted_output_of<F: Folders, N: Write>(
     ensures ok { IfOk result (IsOwnOutput (F.allowed folders.old) (command_view command.entry)) }
     ensures same { AllowSame (F.allowed folders.old) (F.allowed folders.new) }
 {
-    let made = output_of(alloc, folders, command, notes)?;
+    let made = command_output(alloc, folders, command, notes)?;
     if made.status() < 2 {
         warn_unlisted(alloc, folders, command, notes);
     }
@@ -132,7 +132,7 @@ pub fn run_over<F: Folders, R: Read, W: Write, N: Write>(
         Some(command) => command,
         None => return rustsec_program::run_over(folders, alloc, words, input, output, notes),
     };
-    let made = noted_output_of(alloc, folders, command, notes);
+    let made = noted_output(alloc, folders, command, notes);
     finish(made, output, notes)
 }
 

@@ -283,7 +283,7 @@ fn found_in<'x>(
 }
 
 /// Checks lockfiles that are not empty, and makes the output.
-fn checked<'x>(
+fn found_output<'x>(
     alloc: Global,
     form: Form<'_>,
     ground: &'x Ground<'x>,
@@ -322,7 +322,7 @@ fn checked_output<'x>(
     if is_empty(&ground.basis(), loaded) {
         return Err(empty_error(alloc, ground.dated.count()));
     }
-    checked(alloc, form, ground, loaded)
+    found_output(alloc, form, ground, loaded)
 }
 
 /// Returns the folder of the index that is asked, if any.

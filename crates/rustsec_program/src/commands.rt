@@ -21,7 +21,7 @@ use std::io::{Read, Write};
 use std::rt::Files;
 
 /// Makes the output of a command that does not read the input.
-fn output_of<F: Folders>(
+fn command_output<F: Folders>(
     alloc: Global,
     folders: &mut F,
     command: Command<'_>,
@@ -123,7 +123,7 @@ pub fn run_over<F: Folders, R: Read, W: Write, N: Write>(
     };
     let list = match command.list() {
         Some(list) => list,
-        None => return finish(output_of(alloc, folders, command), output, notes),
+        None => return finish(command_output(alloc, folders, command), output, notes),
     };
     match read_all(alloc, input) {
         Ok(bytes) => {

@@ -124,7 +124,7 @@ fn refused_output(
 }
 
 /// Makes the line for the lockfile at a path.
-fn answer<'x, F: Folders>(
+fn answer_output<'x, F: Folders>(
     alloc: Global,
     folders: &mut F,
     ground: &'x Ground<'x>,
@@ -215,7 +215,7 @@ fn write_lines<'x, F: Folders, W: Write, N: Write>(
         count: 0,
     };
     for path in paths {
-        let line = answer(alloc, folders, ground, path)?;
+        let line = answer_output(alloc, folders, ground, path)?;
         write_line(&line, &mut done, output)?;
         line.write_note(notes);
         if plan.shows_progress {

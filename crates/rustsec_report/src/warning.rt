@@ -46,7 +46,6 @@ impl Warning {
     ///
     /// `OutOfMemory` alone.
     pub fn new(
-        alloc: Global,
         kind: WarningKind,
         package: &Package,
         advisory: Option<Metadata>,
@@ -62,7 +61,7 @@ impl Warning {
         }) }
         ensures err { IfErr result IsMemory }
     {
-        let package = package.clone(alloc)?;
+        let package = exact_copy(package)?;
         Ok(Warning {
             kind,
             package,

@@ -109,13 +109,13 @@ impl<'a> WarningRef<'a> {
     /// # Errors
     ///
     /// `OutOfMemory` alone.
-    pub fn to_warning(&self, alloc: Global) -> Result<Warning>
+    pub fn to_warning(&self) -> Result<Warning>
         ensures ok { IfOk result (λ w. w ≡ self.now) }
         ensures err { IfErr result IsMemory }
     {
         let advisory = copy_of(self.advisory)?;
         let affected = copy_of(self.affected)?;
         let versions = copy_of(self.versions)?;
-        Warning::new(alloc, self.kind, self.package, advisory, affected, versions)
+        Warning::new(self.kind, self.package, advisory, affected, versions)
     }
 }

@@ -79,7 +79,7 @@ fn copies_of(alloc: Global, warnings: &[WarningRef<'_>]) -> Result<Items<Warning
 {
     let mut copies = Items::new(alloc);
     for warning in warnings {
-        copies.push(warning.to_warning(alloc)?)?;
+        copies.push(warning.to_warning()?)?;
     }
     Ok(copies)
 }

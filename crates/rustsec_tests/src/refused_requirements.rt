@@ -53,49 +53,49 @@ fn expect_overlap<T: AllocGlobal + Abort>(
     Ok(())
 }
 
+/// Requirements, and the messages of their refusals.
+const REFUSED: &[(&str, &str)] = &[
+    (
+        "> 1, > 2",
+        "the requirement `>1, >2`: there are two lower bounds",
+    ),
+    (
+        "< 1, <= 2",
+        "the requirement `<1, <=2`: there are two upper bounds",
+    ),
+    (
+        "^1, < 2",
+        "the requirement `^1, <2`: `=`, `^`, `~` or a wildcard is beside another comparator",
+    ),
+    (
+        "> 1, < 2, < 3",
+        "the requirement `>1, <2, <3`: there are more than two comparators",
+    ),
+    (
+        "1.*",
+        "the requirement `1.*`: a wildcard after a number is not taken without an operator",
+    ),
+    (
+        "> 2, < 1",
+        "the requirement `>2, <1`: the lower bound `>2.0.0` is not below the upper bound `<1.0.0`",
+    ),
+    (
+        "^18446744073709551615",
+        "the requirement `^18446744073709551615`: the upper bound needs a number above 18446744073709551615, the greatest one",
+    ),
+    (
+        "> 1.2.18446744073709551615",
+        "the requirement `>1.2.18446744073709551615`: a bound needs the version above a release whose patch number is 18446744073709551615, the greatest one",
+    ),
+    (
+        "> 1.2.3-a.b.c.d.e.f.g.h.i.j.k.l.m.n.o.p.q.r.s.t.u.v.w.x.y.z, > 2",
+        "the requirement `>1.2.3-a.b.c.d.e.f.g.h.i.j.k.l.m.n.o.p.q.r.s.t.u.v.w.x.y.z, `: there are two lower bounds",
+    ),
+];
+
 #[test]
 fn refused_requirements(rt: HostRuntime) -> Result<(), Fail> {
-    expect_refused(
-        &rt,
-        &[
-            (
-                "> 1, > 2",
-                "the requirement `>1, >2`: there are two lower bounds",
-            ),
-            (
-                "< 1, <= 2",
-                "the requirement `<1, <=2`: there are two upper bounds",
-            ),
-            (
-                "^1, < 2",
-                "the requirement `^1, <2`: `=`, `^`, `~` or a wildcard is beside another comparator",
-            ),
-            (
-                "> 1, < 2, < 3",
-                "the requirement `>1, <2, <3`: there are more than two comparators",
-            ),
-            (
-                "1.*",
-                "the requirement `1.*`: a wildcard after a number is not taken without an operator",
-            ),
-            (
-                "> 2, < 1",
-                "the requirement `>2, <1`: the lower bound `>2.0.0` is not below the upper bound `<1.0.0`",
-            ),
-            (
-                "^18446744073709551615",
-                "the requirement `^18446744073709551615`: the upper bound needs a number above 18446744073709551615, the greatest one",
-            ),
-            (
-                "> 1.2.18446744073709551615",
-                "the requirement `>1.2.18446744073709551615`: a bound needs the version above a release whose patch number is 18446744073709551615, the greatest one",
-            ),
-            (
-                "> 1.2.3-a.b.c.d.e.f.g.h.i.j.k.l.m.n.o.p.q.r.s.t.u.v.w.x.y.z, > 2",
-                "the requirement `>1.2.3-a.b.c.d.e.f.g.h.i.j.k.l.m.n.o.p.q.r.s.t.u.v.w.x.y.z, `: there are two lower bounds",
-            ),
-        ],
-    )
+    expect_refused(&rt, REFUSED)
 }
 
 #[test]

@@ -29,92 +29,99 @@ pub fn expect_over_root<T: Files + AllocGlobal + Abort>(
     Ok(())
 }
 
+/// The root of the database that is audited.
+const ROOT: &str = "audit-command";
+
+/// The lockfile that is audited.
+const LOCK: &str = "audit-command/Cargo.lock";
+
+/// The lines of both findings.
+const BOTH: &str =
+    "vulnerability RUSTSEC-2001-0001 base 1.0.0\nwarning unmaintained RUSTSEC-2001-0003 base 1.0.0\n1 vulnerabilities, 1 warnings\n";
+
+/// The lines if the vulnerability is ignored.
+const WARNING: &str =
+    "warning unmaintained RUSTSEC-2001-0003 base 1.0.0\n0 vulnerabilities, 1 warnings\n";
+
+/// The line for words that are not a command.
+const USAGE: &str = "usage: rustsec_audit COMMAND\n";
+
+/// Commands and their outputs.
+const AUDITS: &[CommandRow<'static>] = &[
+    (&["audit", ROOT, LOCK], "", 1, BOTH),
+    (
+        &["audit", ROOT, LOCK, "--ignore", "RUSTSEC-2001-0001"],
+        "",
+        0,
+        WARNING,
+    ),
+    (
+        &[
+            "audit",
+            ROOT,
+            LOCK,
+            "--deny-warnings",
+            "--ignore",
+            "RUSTSEC-2001-0001",
+        ],
+        "",
+        1,
+        WARNING,
+    ),
+    (
+        &[
+            "audit",
+            ROOT,
+            LOCK,
+            "--ignore",
+            "RUSTSEC-2001-0001",
+            "--ignore",
+            "RUSTSEC-2001-0003",
+            "--deny-warnings",
+            "--deny-warnings",
+        ],
+        "",
+        0,
+        "0 vulnerabilities, 0 warnings\n",
+    ),
+    (
+        &["audit", ROOT, LOCK, "--ignore", "RUSTSEC-2001"],
+        "",
+        2,
+        "refused: parse error\n",
+    ),
+    (&["audit", ROOT, LOCK, "--ignore"], "", 2, USAGE),
+    (&["audit", ROOT, LOCK, "--quiet"], "", 2, USAGE),
+    (&["audit", ROOT], "", 2, USAGE),
+    (&["report", ROOT], "", 2, USAGE),
+    (&["report", ROOT, LOCK, "--deny-warnings"], "", 2, USAGE),
+    (
+        &["audit", "audit-command/crates/base", LOCK],
+        "",
+        2,
+        "refused: I/O operation failed\n",
+    ),
+    (
+        &["audit", ROOT, "audit-command/absent"],
+        "",
+        2,
+        "refused: I/O operation failed\n",
+    ),
+    (
+        &[
+            "report",
+            ROOT,
+            "audit-command/crates/base/RUSTSEC-2001-0001.md",
+        ],
+        "",
+        2,
+        "refused: parse error\n",
+    ),
+];
+
 #[test]
 fn audit_command(rt: HostRuntime) -> Result<(), Fail> {
-    let root = "audit-command";
-    let lock = "audit-command/Cargo.lock";
-    let both =
-        "vulnerability RUSTSEC-2001-0001 base 1.0.0\nwarning unmaintained RUSTSEC-2001-0003 base 1.0.0\n1 vulnerabilities, 1 warnings\n";
-    let warning =
-        "warning unmaintained RUSTSEC-2001-0003 base 1.0.0\n0 vulnerabilities, 1 warnings\n";
-    let usage = "usage: rustsec_audit COMMAND\n";
-    expect_over_root(
-        &rt,
-        root,
-        ADVISORIES,
-        FOUR_PACKAGES,
-        &[
-            (&["audit", root, lock], "", 1, both),
-            (
-                &["audit", root, lock, "--ignore", "RUSTSEC-2001-0001"],
-                "",
-                0,
-                warning,
-            ),
-            (
-                &[
-                    "audit",
-                    root,
-                    lock,
-                    "--deny-warnings",
-                    "--ignore",
-                    "RUSTSEC-2001-0001",
-                ],
-                "",
-                1,
-                warning,
-            ),
-            (
-                &[
-                    "audit",
-                    root,
-                    lock,
-                    "--ignore",
-                    "RUSTSEC-2001-0001",
-                    "--ignore",
-                    "RUSTSEC-2001-0003",
-                    "--deny-warnings",
-                    "--deny-warnings",
-                ],
-                "",
-                0,
-                "0 vulnerabilities, 0 warnings\n",
-            ),
-            (
-                &["audit", root, lock, "--ignore", "RUSTSEC-2001"],
-                "",
-                2,
-                "refused: parse error\n",
-            ),
-            (&["audit", root, lock, "--ignore"], "", 2, usage),
-            (&["audit", root, lock, "--quiet"], "", 2, usage),
-            (&["audit", root], "", 2, usage),
-            (&["report", root], "", 2, usage),
-            (&["report", root, lock, "--deny-warnings"], "", 2, usage),
-            (
-                &["audit", "audit-command/crates/base", lock],
-                "",
-                2,
-                "refused: I/O operation failed\n",
-            ),
-            (
-                &["audit", root, "audit-command/absent"],
-                "",
-                2,
-                "refused: I/O operation failed\n",
-            ),
-            (
-                &[
-                    "report",
-                    root,
-                    "audit-command/crates/base/RUSTSEC-2001-0001.md",
-                ],
-                "",
-                2,
-                "refused: parse error\n",
-            ),
-        ],
-    )
+    expect_over_root(&rt, ROOT, ADVISORIES, FOUR_PACKAGES, AUDITS)
 }
 
 #[test]
@@ -146,7 +153,7 @@ fn report_of_a_notice(alloc: Global) -> Result<Report, Fail> {
     )?;
     let mut notices = Items::new(alloc);
     for package in &lockfile.packages {
-        notices.push(Warning::new(alloc, WarningKind::Notice, package, None, None, None)?)?;
+        notices.push(Warning::new(WarningKind::Notice, package, None, None, None)?)?;
     }
     let mut warnings = WarningInfo::new(alloc);
     warnings.insert(WarningKind::Notice, notices)?;

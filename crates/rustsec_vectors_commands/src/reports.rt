@@ -76,7 +76,7 @@ fn warning(alloc: Global, kind: WarningKind, system: OS) -> Result<Warning, Fail
     };
     let mut affected = Affected::default(alloc);
     affected.os.push(system)?;
-    Ok(Warning::new(alloc, kind, &package, None, Some(affected), None)?)
+    Ok(Warning::new(kind, &package, None, Some(affected), None)?)
 }
 
 /// Returns a warning of each informational kind.

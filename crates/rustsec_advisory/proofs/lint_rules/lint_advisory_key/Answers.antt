@@ -8,8 +8,8 @@ use Rattle.rustsec_advisory.proofs.lint_rules.lint_advisory_key.Goals as goal
 pub returns-then-is_quiet-clause-ok : goal.returns-then-is_quiet-clause-ok
 returns-then-is_quiet-clause-ok c =
     let quiet : is_one_of quiet_keys c.args.key.now ≡ true = sym c.is_quiet.ensures ∙ c.if-is_quiet.true in
-    let none : advisory_rows c.args.draft c.args.metadata.now (c.args.key.now, view c.args.value.now) ≡ [] =
-    no-quiet-rows c.args.draft c.args.metadata.now (view c.args.value.now) c.args.key.now quiet in
+    let none : advisory_rows c.args.linted.draft c.args.linted.advisory.now.metadata (c.args.key.now, view c.args.value.now) ≡ [] =
+    no-quiet-rows c.args.linted.draft c.args.linted.advisory.now.metadata (view c.args.value.now) c.args.key.now quiet in
     rw none (search rules)
 
 pub returns-in_default-clause-ok : goal.returns-in_default-clause-ok

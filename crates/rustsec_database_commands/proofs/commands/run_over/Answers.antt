@@ -32,7 +32,7 @@ returns-in-None-clause-same g c = c.run_over.ensures.same
 pub returns-clause-carries : goal.returns-clause-carries
 returns-clause-carries g c =
     IfOk-weaker c.finish.result _ _
-    (λ s h. finished-carried _ (map (λ w. w.now) c.args.words.now) _ (g.R.Read.remaining c.args.input.now) c.noted_output_of-made.result s _ _ (sym c.in-Some.ensures) c.noted_output_of-made.ensures.ok h) c.finish.ensures.ok
+    (λ s h. finished-carried _ (map (λ w. w.now) c.args.words.now) _ (g.R.Read.remaining c.args.input.now) c.noted_output-made.result s _ _ (sym c.in-Some.ensures) c.noted_output-made.ensures.ok h) c.finish.ensures.ok
 
 pub returns-clause-once : goal.returns-clause-once
 returns-clause-once g c once =
@@ -47,4 +47,4 @@ returns-clause-unread_kept g c =
     IfErr-weaker c.finish.result _ _ (λ e h is. h (λ w. let both = sym is ∙ w in cc)) c.finish.ensures.err
 
 pub returns-clause-same : goal.returns-clause-same
-returns-clause-same g c = c.noted_output_of-made.ensures.same
+returns-clause-same g c = c.noted_output-made.ensures.same

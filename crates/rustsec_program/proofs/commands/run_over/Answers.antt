@@ -35,7 +35,7 @@ returns-in-None-clause-same g c = c.run_over.ensures.same
 pub returns-in-None-list-clause-carries : goal.returns-in-None-list-clause-carries
 returns-in-None-list-clause-carries g c =
     IfOk-weaker c.finish.result _ _
-    (λ s h. finished-carried _ (map (λ w. w.now) c.args.words.now) _ (g.R.Read.remaining c.args.input.now) c.output_of.result s _ _ (sym c.in-Some.ensures) c.in-None-list.ensures.none c.output_of.ensures.ok h)
+    (λ s h. finished-carried _ (map (λ w. w.now) c.args.words.now) _ (g.R.Read.remaining c.args.input.now) c.command_output.result s _ _ (sym c.in-Some.ensures) c.in-None-list.ensures.none c.command_output.ensures.ok h)
     c.finish.ensures.ok
 
 pub returns-in-None-list-clause-once : goal.returns-in-None-list-clause-once
@@ -52,7 +52,7 @@ returns-in-None-list-clause-unread_kept g c =
     IfErr-weaker c.finish.result _ _ (λ e h is. h (λ w. let both = sym is ∙ w in cc)) c.finish.ensures.err
 
 pub returns-in-None-list-clause-same : goal.returns-in-None-list-clause-same
-returns-in-None-list-clause-same g c = c.output_of.ensures.same
+returns-in-None-list-clause-same g c = c.command_output.ensures.same
 
 -- ---- check-many
 

@@ -9,7 +9,7 @@ loop-path-init g c = record { same = same-refl _; lines = none-written _ _ _ }
 
 pub loop-path-preserved : goal.loop-path-preserved
 loop-path-preserved g c = record {
-  same = same-trans _ _ _ c.loop-path.invariant.same c.answer.ensures.same;
+  same = same-trans _ _ _ c.loop-path.invariant.same c.answer_output.ensures.same;
   lines = written-more _ _ _ _ c.loop-path.path-index no_word _ _ _ _ _ c.in_ok-line.line c.loop-path.invariant.same c.loop-path-test.true
       c.loop-path.invariant.lines c.in_ok-line.ensures.ok c.in_ok-write_line.ensures.ok.0 c.in_ok-write_line.ensures.ok.1;
 }

@@ -1,6 +1,6 @@
 use Rattle.std.proofs.lemmas.Result.{IfOk-weaker}
 use Rattle.rustsec_program.specs.Checked.{refused}
-use Rattle.rustsec_program.proofs.many.answer.Goals as goal
+use Rattle.rustsec_program.proofs.many.answer_output.Goals as goal
 
 pub returns-in-Err-clause-ok : goal.returns-in-Err-clause-ok
 returns-in-Err-clause-ok g c =
