@@ -4,13 +4,13 @@
 #![tactic(auto)]
 
 mod lines;
-mod plain_document;
 mod sections;
 mod strings;
 mod tables;
+mod whole;
 #[cfg(test)]
 mod tests;
 mod unread;
 mod values;
 
-pub use crate::plain_document::plain_document;
+pub use crate::whole::plain_document;

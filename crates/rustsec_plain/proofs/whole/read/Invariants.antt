@@ -5,7 +5,7 @@ use Rattle.toml.specs.Parse.{skip_bom}
 use Rattle.toml.specs.Tables.{Nodes, close, no_nodes}
 use Rattle.toml.specs.View.{table_view}
 use Rattle.rustsec_plain.specs.Sections.{GoesOn}
-use Rattle.rustsec_plain.proofs.plain_document.read.Given as goal
+use Rattle.rustsec_plain.proofs.whole.read.Given as goal
 
 abbrev pub invariant-sections : goal.invariant-sections
 invariant-sections l =

@@ -1,7 +1,7 @@
 use Rattle.std.proofs.Common.{◌≡◌, ◌∙◌, ◌==◌, ◌+◌, ◌-◌, arith, false, length, suc, sym, true}
 use Rattle.std.proofs.lemmas.Grind.{common_steps}
 use Rattle.rustsec_edition.proofs.Forms.{no_more, no_room, none_first, one_more, some_first}
-use Rattle.rustsec_edition.proofs.first_form.first_found.Goals as goal
+use Rattle.rustsec_edition.proofs.found_form.first_found.Goals as goal
 
 pub returns-then-not-branch : goal.returns-then-not-branch
 returns-then-not-branch c = sym (c.in_ok-may_have_form.ensures c.if-not-branch.true)

@@ -1,6 +1,6 @@
 use Rattle.std.proofs.Common.{◌≡◌, ◌-◌, length}
 use Rattle.rustsec_edition.specs.Forms.{first_form, first_from}
-use Rattle.rustsec_edition.proofs.first_form.first_found.Given as goal
+use Rattle.rustsec_edition.proofs.found_form.first_found.Given as goal
 
 -- no form so far: the first one of the rest is that of all
 abbrev pub invariant-tokens : goal.invariant-tokens

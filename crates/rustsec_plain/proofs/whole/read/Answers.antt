@@ -9,7 +9,7 @@ use Rattle.rustsec_plain.proofs.Marks.{skip_bom-within, skip_mark-bom}
 use Rattle.rustsec_plain.proofs.Members.{close-values, node_none}
 use Rattle.rustsec_plain.proofs.Places.{in_root}
 use Rattle.rustsec_plain.proofs.Turns.{goes_then}
-use Rattle.rustsec_plain.proofs.plain_document.read.Goals as goal
+use Rattle.rustsec_plain.proofs.whole.read.Goals as goal
 
 pub sections-init : goal.sections-init
 sections-init c =
