@@ -7,10 +7,10 @@ mod lines;
 mod sections;
 mod strings;
 mod tables;
-mod whole;
 #[cfg(test)]
 mod tests;
 mod unread;
 mod values;
+mod whole;
 
 pub use crate::whole::plain_document;
