@@ -13,9 +13,9 @@ use Rattle.semver.specs.declared.Op.TheVariants as op
 use Rattle.rustsec_values.specs.Reading.{only_if}
 use Rattle.rustsec_versions.specs.acceptance.Lists.{Lists, affected}
 use Rattle.rustsec_versions.specs.interval.Interval.{Interval, exclusive, holds, inclusive, unbounded}
-use Rattle.rustsec_versions.specs.order.Precedence.{is_at_most, is_below}
+use Rattle.rustsec_versions.specs.order.Precedence.{fits, is_at_most, is_below}
 use Rattle.rustsec_versions.specs.ranges.Ranges.{in_range, is_from, is_until}
-use Rattle.rustsec_versions.specs.requirement.Requirement.{admitted, base_version, fits, interval_of, names_version, of_one}
+use Rattle.rustsec_versions.specs.requirement.Requirement.{admitted, base_version, interval_of, names_version, of_one}
 use Rattle.rustsec_versions.proofs.lemmas.order.PrecedenceLaws.{at_most-trans, not_at_most, not_below}
 use Rattle.rustsec_versions.proofs.lemmas.requirement.Sound.{and-first, and-second, only_if-true, some-same}
 use Rattle.rustsec_database.specs.Spans.{end_at, end_by, first_end, first_start, or_else, release_of, span_of, start_at, start_by}

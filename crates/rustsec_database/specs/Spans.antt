@@ -6,7 +6,7 @@ use Rattle.semver.specs.declared.Op.TheVariants as op
 use Rattle.rustsec_values.specs.Reading.{only_if}
 use Rattle.rustsec_versions.specs.acceptance.Lists.{Lists}
 use Rattle.rustsec_versions.specs.ranges.Ranges.{Range}
-use Rattle.rustsec_versions.specs.requirement.Requirement.{fits}
+use Rattle.rustsec_versions.specs.order.Precedence.{fits}
 
 -- the version that a comparator names, unless it has a pre-release; missing numbers are zero
 abbrev pub release_of : Held → Option Parts

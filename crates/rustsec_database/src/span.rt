@@ -4,7 +4,7 @@ ghost use Rattle.std.specs.Prelude.{◌≡◌, ◌&&◌, [], map, true};
 ghost use Rattle.semver.specs.Identifiers.{comparator_view, parts_of};
 ghost use Rattle.rustsec_versions.specs.Views.{comparators_of};
 ghost use Rattle.rustsec_versions.specs.ranges.Ranges.{in_range, is_from, is_until};
-ghost use Rattle.rustsec_versions.specs.requirement.Requirement.{fits};
+ghost use Rattle.rustsec_versions.specs.order.Precedence.{fits};
 ghost use Rattle.rustsec_database.specs.Spans.{end_by, first_end, first_start, release_of, span_of, start_by};
 
 use rustsec_versions::Versions;

@@ -9,7 +9,8 @@ use Rattle.semver.specs.Grammar.{is_pre_release}
 use Rattle.semver.specs.declared.Op.TheVariants as op
 use Rattle.semver.specs.Parse.{Held, Parts}
 use Rattle.rustsec_versions.specs.interval.Interval.{Interval}
-use Rattle.rustsec_versions.specs.requirement.Requirement.{fits, interval_of, names_version, of_comparators, stated}
+use Rattle.rustsec_versions.specs.requirement.Requirement.{interval_of, names_version, of_comparators, stated}
+use Rattle.rustsec_versions.specs.order.Precedence.{fits}
 use Rattle.rustsec_versions.proofs.lemmas.requirement.Sound.{and-first, and-second, fits-below, only_if-true}
 use Rattle.rustsec_matching.specs.Matching.{IsDifference, IsReadAlike, IsReadAs, IsRelease, IsWhole, LeavesLast, first_patch, is_greater, is_read_differently, needs_patch, with_zeros}
 use Rattle.rustsec_matching.proofs.Releases as release

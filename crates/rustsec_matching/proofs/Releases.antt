@@ -5,8 +5,7 @@ use Rattle.std.proofs.lemmas.Bool.Decides.{nat_tests}
 use Rattle.semver.specs.EvalViews.{view_op}
 use Rattle.semver.specs.declared.Op.TheVariants as op
 use Rattle.semver.specs.Parse.{Parts}
-use Rattle.rustsec_versions.specs.order.Precedence.{is_at_most, is_below}
-use Rattle.rustsec_versions.specs.requirement.Requirement.{least_of}
+use Rattle.rustsec_versions.specs.order.Precedence.{is_at_most, is_below, least_of}
 
 module _ (v : Parts) (none : v.3 ≡ []) where
   -- ---- three numbers

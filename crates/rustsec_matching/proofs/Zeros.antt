@@ -6,8 +6,8 @@ use Rattle.semver.specs.declared.Op.TheVariants as op
 use Rattle.semver.specs.Parse.{Held, Parts}
 use Rattle.rustsec_values.specs.Reading.{only_if}
 use Rattle.rustsec_versions.specs.interval.Interval.{Endpoint, Interval, holds, is_after, is_before, unbounded}
-use Rattle.rustsec_versions.specs.order.Precedence.{is_at_most, is_below}
-use Rattle.rustsec_versions.specs.requirement.Requirement.{Side, fits, interval_of, least_of, lower, base_version, neither, of_one, of_sides, side_of, stated, up_to, upper}
+use Rattle.rustsec_versions.specs.order.Precedence.{fits, is_at_most, is_below, least_of}
+use Rattle.rustsec_versions.specs.requirement.Requirement.{Side, interval_of, lower, base_version, neither, of_one, of_sides, side_of, stated, up_to, upper}
 use Rattle.rustsec_matching.specs.Matching.{Agree, with_zeros}
 use Rattle.rustsec_matching.proofs.Releases as release
 use Rattle.rustsec_matching.proofs.Requirements.{AgreeOn, admitted-is, and-swap, and-true, both, given, none-or-some, of-one, of-release, of-two, some-same}

@@ -3,8 +3,7 @@ use Rattle.std.proofs.Common.{◌≡◌, ℕ, true, arith}
 use Rattle.std.proofs.lemmas.Bool.Decides.{nat_tests}
 use Rattle.std.specs.Ordering.{is_le, nat_cmp}
 use Rattle.semver.specs.Parse.{Parts}
-use Rattle.rustsec_versions.specs.order.Precedence.{IsVersion, is_at_most}
-use Rattle.rustsec_versions.specs.requirement.Requirement.{least_of}
+use Rattle.rustsec_versions.specs.order.Precedence.{IsVersion, is_at_most, least_of}
 use Rattle.rustsec_versions.proofs.lemmas.order.LeastAbove.{le-then, zero-pre}
 
 zero-number : (n : ℕ) → is_le (nat_cmp 0 n) ≡ true

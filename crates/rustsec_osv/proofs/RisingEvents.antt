@@ -4,9 +4,8 @@ use Rattle.std.specs.Prelude.{filter}
 use Rattle.std.specs.List.{AllAdjacentBelow, list_all}
 use Rattle.std.proofs.lemmas.Bool.{and_parts, cases_Bool, true_from_ne_false}
 use Rattle.semver.specs.Parse.{Parts}
-use Rattle.rustsec_versions.specs.order.Precedence.{IsVersion, is_at_most, is_below}
+use Rattle.rustsec_versions.specs.order.Precedence.{IsVersion, is_at_most, is_below, least_of}
 use Rattle.rustsec_versions.specs.ranges.Ranges.{Range, in_ranges, is_followed, is_from, is_in_order}
-use Rattle.rustsec_versions.specs.requirement.Requirement.{least_of}
 use Rattle.rustsec_versions.proofs.lemmas.order.PrecedenceLaws.{at_most-not_below, below-at_most, below-not_at_most, below-weak, not_at_most}
 use Rattle.rustsec_versions.proofs.lemmas.ranges.RangeList.{AllFollowed, followed-to}
 use Rattle.rustsec_osv.specs.DocumentEvents.{Event}

@@ -10,7 +10,7 @@ use Rattle.semver.specs.Parse.{Parts}
 use Rattle.rustsec_versions.specs.interval.Interval.{Endpoint, Interval, exclusive, inclusive, unbounded}
 use Rattle.rustsec_versions.specs.acceptance.Lists.{Lists, intervals}
 use Rattle.rustsec_versions.specs.ranges.Ranges.{Range, lower_cut, lower_cuts, upper_cut, upper_cuts}
-use Rattle.rustsec_versions.specs.requirement.Requirement.{least_of}
+use Rattle.rustsec_versions.specs.order.Precedence.{least_of}
 use Rattle.rustsec_versions.specs.ranges.AcceptedRanges.{AreMergedRanges}
 use Rattle.rustsec_versions.proofs.lemmas.ranges.Agreement.{intervals-admissible}
 use Rattle.rustsec_versions.proofs.lemmas.acceptance.Clashes.{AllSound, intervals-sound}

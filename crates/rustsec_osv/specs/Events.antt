@@ -2,9 +2,8 @@
 -- list of ranges. It carries meaning: public contracts cite it.
 use Rattle.std.specs.Prelude.{Bool, true, false, List, [], ◌∷◌, Option, Some, None, filter, flat_map}
 use Rattle.semver.specs.Parse.{Parts}
-use Rattle.rustsec_versions.specs.order.Precedence.{is_at_most}
+use Rattle.rustsec_versions.specs.order.Precedence.{is_at_most, least_of}
 use Rattle.rustsec_versions.specs.ranges.Ranges.{Range}
-use Rattle.rustsec_versions.specs.requirement.Requirement.{least_of}
 use Rattle.rustsec_osv.specs.DocumentEvents.{Event, fixed, introduced, last_affected}
 
 -- whether an event is an introduction or a fix at or below a version

@@ -2,3 +2,4 @@
 pub mod Apart
 pub mod Interval
 pub mod IntervalText
+pub mod StartOrder

@@ -6,12 +6,10 @@ ghost use Rattle.std.specs.Fmt.{DisplaysOnOk};
 ghost use Rattle.semver.specs.Identifiers.{parts_of};
 ghost use Rattle.rustsec_versions.specs.Equality.{interval_eq, interval_equiv};
 ghost use Rattle.rustsec_error.specs.Failure.{IsMemory, IsOfKind, IsRefusal};
-ghost use Rattle.rustsec_versions.specs.interval.Interval.{holds, is_after, is_before, overlap, reaches};
+ghost use Rattle.rustsec_versions.specs.interval.Interval.{end_le, has_bound, holds, is_after, is_before, overlap, reaches};
 ghost use Rattle.rustsec_versions.specs.interval.IntervalText.{end_text, interval_text, start_text};
 ghost use Rattle.rustsec_versions.specs.Memory.{hold_no_text};
-ghost use Rattle.rustsec_versions.specs.acceptance.Merged.{end_le};
 ghost use Rattle.rustsec_versions.specs.order.Precedence.{version_order};
-ghost use Rattle.rustsec_versions.specs.ranges.Ranges.{has_bound};
 ghost use Rattle.rustsec_versions.specs.requirement.Requirement.{has_successor, interval_of, end_cut_exists, start_cut_exists};
 ghost use Rattle.rustsec_versions.specs.Views.{comparators_of, endpoint_of, interval_between};
 

@@ -5,8 +5,7 @@ pub(crate) mod steps;
 ghost use Rattle.std.specs.Prelude.{◌≡◌, ◌<◌, ◌≤◌, ◌+◌, ◌-◌, ◌^◌, ℕ, false, length, slice_index_or, true};
 ghost use Rattle.std.specs.List.{list_any};
 ghost use Rattle.rustsec_versions.specs.ranges.Between.{AreInTurn, EachLaterBegins};
-ghost use Rattle.rustsec_versions.specs.interval.Interval.{Interval, holds, is_after, is_before};
-ghost use Rattle.rustsec_versions.specs.ranges.Ranges.{has_bound};
+ghost use Rattle.rustsec_versions.specs.interval.Interval.{Interval, has_bound, holds, is_after, is_before};
 
 use crate::bound::Bound;
 use crate::ranges::complement::AffectedInterval;

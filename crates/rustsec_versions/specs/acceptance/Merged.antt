@@ -2,28 +2,8 @@
 -- It carries meaning: public contracts cite it.
 use Rattle.std.specs.Prelude.{◌≡◌, Bool, Contains, true, false, List}
 use Rattle.rustsec_versions.specs.interval.Apart.{are_apart}
-use Rattle.rustsec_versions.specs.interval.Interval.{Endpoint, Interval, exclusive, inclusive, overlap, unbounded}
-use Rattle.rustsec_versions.specs.order.Precedence.{is_at_most, is_below, precedence}
-
--- whether a start is equal to the other or before it: at one version an inclusive start is before an exclusive one
-abbrev pub start_le : Endpoint → Endpoint → Bool
-start_le unbounded t = true
-start_le (exclusive s) unbounded = false
-start_le (exclusive s) (exclusive t) = is_at_most s t
-start_le (exclusive s) (inclusive t) = is_below s t
-start_le (inclusive s) unbounded = false
-start_le (inclusive s) (exclusive t) = is_at_most s t
-start_le (inclusive s) (inclusive t) = is_at_most s t
-
--- whether an end is equal to the other or before it: at one version an exclusive end is before an inclusive one
-abbrev pub end_le : Endpoint → Endpoint → Bool
-end_le d unbounded = true
-end_le unbounded (exclusive e) = false
-end_le unbounded (inclusive e) = false
-end_le (exclusive d) (exclusive e) = is_at_most d e
-end_le (exclusive d) (inclusive e) = is_at_most d e
-end_le (inclusive d) (exclusive e) = is_below d e
-end_le (inclusive d) (inclusive e) = is_at_most d e
+use Rattle.rustsec_versions.specs.interval.Interval.{Interval, end_le, overlap, start_le}
+use Rattle.rustsec_versions.specs.order.Precedence.{precedence}
 
 -- a chain of intervals of a list joins two: each overlaps the next one; an interval is joined with itself
 pub data IsJoined (is : List Interval) : Interval → Interval → Type 0 where

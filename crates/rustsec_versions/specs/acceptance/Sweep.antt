@@ -4,9 +4,8 @@
 use Rattle.std.specs.Prelude.{Bool, true, false, not, ◌&&◌, List, [], ◌∷◌, ◌++◌, Option, Some, None, cond, filter_map, map, option_map}
 use Rattle.std.specs.List.{list_any}
 use Rattle.semver.specs.Parse.{Held}
-use Rattle.rustsec_versions.specs.interval.Interval.{Endpoint, Interval, overlap}
+use Rattle.rustsec_versions.specs.interval.Interval.{Endpoint, Interval, end_le, overlap}
 use Rattle.rustsec_versions.specs.acceptance.Lists.{Lists}
-use Rattle.rustsec_versions.specs.acceptance.Merged.{end_le}
 use Rattle.rustsec_versions.specs.order.Precedence.{precedence, version_order}
 use Rattle.rustsec_versions.specs.requirement.Requirement.{interval_of}
 

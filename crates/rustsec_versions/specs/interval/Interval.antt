@@ -1,6 +1,6 @@
 -- Intervals of versions: a start and an end, each missing, exclusive or inclusive at a version.
 -- It carries meaning: public contracts cite it.
-use Rattle.std.specs.Prelude.{Bool, true, ◌&&◌}
+use Rattle.std.specs.Prelude.{Bool, true, false, ◌&&◌}
 use Rattle.std.specs.Ordering.{is_le, is_lt}
 use Rattle.std.specs.declared.cmp.Ordering.{Ordering}
 use Rattle.semver.specs.Parse.{Parts}
@@ -15,6 +15,12 @@ pub data Endpoint : Type 0 where
 pub record Interval : Type 0 where
   pub start : Endpoint
   pub end : Endpoint
+
+-- whether a bound is there
+abbrev pub has_bound : Endpoint → Bool
+has_bound unbounded = false
+has_bound (exclusive v) = true
+has_bound (inclusive v) = true
 
 -- whether a version satisfies a start
 abbrev pub is_after : Endpoint → Parts → Bool
@@ -47,3 +53,23 @@ reaches order (exclusive s) (exclusive e) = is_lt (order s e)
 -- versions between them
 abbrev pub overlap : (Parts → Parts → Ordering) → Interval → Interval → Bool
 overlap order i j = reaches order i.start j.end && reaches order j.start i.end
+
+-- whether a start is equal to the other or before it: at one version an inclusive start is before an exclusive one
+abbrev pub start_le : Endpoint → Endpoint → Bool
+start_le unbounded t = true
+start_le (exclusive s) unbounded = false
+start_le (exclusive s) (exclusive t) = is_at_most s t
+start_le (exclusive s) (inclusive t) = is_below s t
+start_le (inclusive s) unbounded = false
+start_le (inclusive s) (exclusive t) = is_at_most s t
+start_le (inclusive s) (inclusive t) = is_at_most s t
+
+-- whether an end is equal to the other or before it: at one version an exclusive end is before an inclusive one
+abbrev pub end_le : Endpoint → Endpoint → Bool
+end_le d unbounded = true
+end_le unbounded (exclusive e) = false
+end_le unbounded (inclusive e) = false
+end_le (exclusive d) (exclusive e) = is_at_most d e
+end_le (exclusive d) (inclusive e) = is_at_most d e
+end_le (inclusive d) (exclusive e) = is_below d e
+end_le (inclusive d) (inclusive e) = is_at_most d e

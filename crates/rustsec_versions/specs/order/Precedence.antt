@@ -1,6 +1,6 @@
--- Which versions are valid, and their two orders: precedence (SemVer 2.0.0, section 11), and the order of the type
+-- Which versions are valid, the least one of three numbers, and their two orders: precedence (SemVer 2.0.0, section 11), and the order of the type
 -- `Version`: precedence, then build metadata. It carries meaning: public contracts cite it.
-use Rattle.std.specs.Prelude.{◌≡◌, ◌<◌, ◌^◌, ℕ, Bool, true, List}
+use Rattle.std.specs.Prelude.{◌≡◌, ◌<◌, ◌^◌, ℕ, Bool, true, List, [], codes, nat_lt}
 use Rattle.std.specs.Ordering.{is_le, is_lt, nat_cmp, ordering_then}
 use Rattle.std.specs.declared.cmp.Ordering.{Ordering}
 use Rattle.semver.specs.Grammar.{is_pre_release}
@@ -13,6 +13,14 @@ pub record IsVersion (v : Parts) : Type 0 where
   pub minor : v.1 < 2 ^ 64
   pub patch : v.2 < 2 ^ 64
   pub pre : is_pre_release v.3 ≡ true
+
+-- whether a number fits a version
+abbrev pub fits : ℕ → Bool
+fits n = nat_lt n (2 ^ 64)
+
+-- the least version of three numbers: its pre-release is `0`
+abbrev pub least_of : ℕ → ℕ → ℕ → Parts
+least_of major minor patch = (major, minor, patch, codes "0", [])
 
 -- the three numbers, and then what decides where these are equal
 abbrev pub by_numbers : Parts → Parts → Ordering → Ordering

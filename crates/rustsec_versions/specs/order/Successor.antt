@@ -3,8 +3,7 @@
 use Rattle.std.specs.Prelude.{◌≡◌, ◌==◌, ◌+◌, true, [], ◌++◌, codes, length, Option, Some, if◌then◌else◌}
 use Rattle.semver.specs.Parse.{Parts}
 use Rattle.rustsec_values.specs.Reading.{only_if}
-use Rattle.rustsec_versions.specs.order.Precedence.{IsVersion, is_at_most, is_below}
-use Rattle.rustsec_versions.specs.requirement.Requirement.{fits, least_of}
+use Rattle.rustsec_versions.specs.order.Precedence.{IsVersion, fits, is_at_most, is_below, least_of}
 
 -- s is least above v: v is below s, and no valid version lies between them
 pub record IsLeastAbove (v s : Parts) : Type 0 where

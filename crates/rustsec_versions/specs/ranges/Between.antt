@@ -5,10 +5,9 @@ use Rattle.std.specs.Prelude.{◌≡◌, true, false, List, [], ◌∷◌, lengt
 use Rattle.std.specs.List.{All, AllAdjacentBelow, list_any}
 use Rattle.semver.specs.Parse.{Parts}
 use Rattle.rustsec_versions.specs.ranges.Complement.{HasValidBounds, cut}
-use Rattle.rustsec_versions.specs.interval.Interval.{Endpoint, Interval, exclusive, holds, inclusive, is_after, is_before, unbounded}
+use Rattle.rustsec_versions.specs.interval.Interval.{Endpoint, Interval, exclusive, has_bound, holds, inclusive, is_after, is_before, unbounded}
 use Rattle.rustsec_versions.specs.acceptance.Lists.{Lists, affected}
 use Rattle.rustsec_versions.specs.ranges.AcceptedRanges.{AreRangesOf}
-use Rattle.rustsec_versions.specs.ranges.Ranges.{has_bound}
 
 -- the bound on the other side of the same cut: exclusive becomes inclusive, and inclusive exclusive
 abbrev pub opposite_bound : Endpoint → Endpoint

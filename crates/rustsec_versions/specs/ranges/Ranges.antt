@@ -6,7 +6,7 @@ use Rattle.std.specs.List.{AllAdjacentBelow, list_all, list_any}
 use Rattle.std.specs.List.Sorted.{IsPermutation, IsSorted}
 use Rattle.std.specs.Ordering.{is_le, is_lt}
 use Rattle.semver.specs.Parse.{Parts}
-use Rattle.rustsec_versions.specs.interval.Interval.{Endpoint, Interval, exclusive, inclusive, unbounded}
+use Rattle.rustsec_versions.specs.interval.Interval.{Endpoint, Interval, exclusive, has_bound, inclusive, unbounded}
 use Rattle.rustsec_versions.specs.acceptance.Lists.{Lists}
 use Rattle.rustsec_versions.specs.order.Precedence.{is_at_most, is_below, precedence, version_order}
 use Rattle.rustsec_versions.specs.order.Successor.{successor}
@@ -67,12 +67,6 @@ lower_cuts is = filter_map (λ i. lower_cut i.start) is
 
 abbrev pub upper_cuts : List Interval → List Parts
 upper_cuts is = filter_map (λ i. upper_cut i.end) is
-
--- whether a bound is there
-abbrev pub has_bound : Endpoint → Bool
-has_bound unbounded = false
-has_bound (exclusive v) = true
-has_bound (inclusive v) = true
 
 -- an interval with a start has a lower cut, and one with an end an upper cut
 pub record HasCuts (i : Interval) : Type 0 where

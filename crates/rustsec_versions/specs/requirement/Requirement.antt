@@ -7,7 +7,7 @@ use Rattle.semver.specs.Parse.{Held, Parts}
 use Rattle.semver.specs.declared.Op.{Op}
 use Rattle.semver.specs.declared.Op.TheVariants as op
 use Rattle.rustsec_values.specs.Reading.{only_if}
-use Rattle.rustsec_versions.specs.order.Precedence.{precedence}
+use Rattle.rustsec_versions.specs.order.Precedence.{fits, least_of, precedence}
 use Rattle.rustsec_versions.specs.interval.Interval.{Endpoint, Interval, exclusive, inclusive, reaches, unbounded}
 
 -- ---- the version that a comparator names
@@ -16,17 +16,9 @@ use Rattle.rustsec_versions.specs.interval.Interval.{Endpoint, Interval, exclusi
 abbrev pub base_version : Held → Parts
 base_version c = (c.1, unwrap_or c.2 0, unwrap_or c.3 0, c.4, [])
 
--- whether a number fits a version
-abbrev pub fits : ℕ → Bool
-fits n = nat_lt n (2 ^ 64)
-
 -- whether a comparator names a valid version
 abbrev pub names_version : Held → Bool
 names_version c = fits c.1 && (fits (unwrap_or c.2 0) && (fits (unwrap_or c.3 0) && is_pre_release c.4))
-
--- the least version of three numbers: its pre-release is `0`
-abbrev pub least_of : ℕ → ℕ → ℕ → Parts
-least_of major minor patch = (major, minor, patch, codes "0", [])
 
 -- the least version of the next major number, of the next minor one and of the next patch, if that number fits
 abbrev pub next_major : ℕ → Option Parts

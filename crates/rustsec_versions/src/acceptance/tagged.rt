@@ -3,7 +3,7 @@
 ghost use Rattle.std.specs.Prelude.{◌≡◌, ◌⊎◌, ◌++◌, ◌∷◌, [], IfErr, IfOk, IsPermutation, OnOk, false, map, true};
 ghost use Rattle.std.specs.List.Sorted.{IsSortedByKey};
 ghost use Rattle.rustsec_error.specs.Failure.{IsRefusal};
-ghost use Rattle.rustsec_versions.specs.ranges.Complement.{start_order};
+ghost use Rattle.rustsec_versions.specs.interval.StartOrder.{start_order};
 ghost use Rattle.rustsec_versions.specs.acceptance.Lists.{accepted, all_admissible};
 ghost use Rattle.rustsec_versions.specs.acceptance.Sweep.{all_tagged, bounds_are_clear, bounds_clash, tagged};
 ghost use Rattle.rustsec_versions.specs.Views.{comparators_of, endpoint_of};

@@ -5,13 +5,29 @@ ghost use Rattle.semver.specs.Grammar.{is_pre_release};
 ghost use Rattle.semver.specs.Identifiers.{build_text, parts_of, pre_text};
 ghost use Rattle.semver.specs.Parse.{memory_error};
 ghost use Rattle.rustsec_error.specs.Failure.{IsMemory};
-ghost use Rattle.rustsec_versions.specs.order.Precedence.{IsVersion};
+ghost use Rattle.rustsec_versions.specs.order.Precedence.{IsVersion, least_of};
 ghost use Rattle.rustsec_versions.specs.order.Successor.{IsLeastAbove, successor};
 
-use crate::requirement::comparator::least_of;
 use rustsec_error::{Error, Result};
 use semver::{BuildMetadata, Prerelease, Version};
 use std::alloc::{AllocError, Global};
+
+/// Returns the least version with these three numbers: the pre-release `0`.
+pub(crate) fn least_of(alloc: Global, major: u64, minor: u64, patch: u64) -> Result<Version>
+    ensures ok { IfOk result (λ v. parts_of v ≡ least_of major minor patch) }
+    ensures err { IfErr result IsMemory }
+{
+    match Prerelease::new(alloc, "0") {
+        Ok(pre) => Ok(Version {
+            major,
+            minor,
+            patch,
+            pre,
+            build: BuildMetadata::empty(),
+        }),
+        Err(_) => Err(Error::from(AllocError)),
+    }
+}
 
 /// Returns a pre-release with one more identifier, `0`.
 fn with_zero(alloc: Global, pre: &Prerelease) -> std::result::Result<Prerelease, semver::Error>

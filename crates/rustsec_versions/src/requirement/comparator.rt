@@ -6,10 +6,12 @@ ghost use Rattle.semver.specs.Identifiers.{comparator_view, parts_of, pre_text};
 ghost use Rattle.rustsec_error.specs.Failure.{IsMemory, IsOfKind, IsRefusal};
 ghost use Rattle.rustsec_values.specs.Reading.{only_if};
 ghost use Rattle.rustsec_versions.specs.Memory.{gives_one_bound, hold_no_text};
-ghost use Rattle.rustsec_versions.specs.requirement.Requirement.{caret_end, fits, names_version, least_of, base_version, next_major, next_minor, next_patch, of_one, side_of, stated, tilde_end};
+ghost use Rattle.rustsec_versions.specs.requirement.Requirement.{caret_end, names_version, base_version, next_major, next_minor, next_patch, of_one, side_of, stated, tilde_end};
 ghost use Rattle.rustsec_versions.specs.Views.{comparators_of, endpoint_of, interval_between, side_view};
+ghost use Rattle.rustsec_versions.specs.order.Precedence.{fits, least_of};
 
 use crate::bound::Bound;
+use crate::order::next_version::least_of;
 use crate::requirement::semver_texts::is_out_of_memory;
 use rustsec_error::{Error, ErrorKind, Result};
 use semver::{BuildMetadata, Comparator, Op, Prerelease, Version, VersionReq};
@@ -26,23 +28,6 @@ fn checked_pre(alloc: Global, pre: &Prerelease) -> Result<Prerelease>
         Ok(pre) => Ok(pre),
         Err(e) if is_out_of_memory(e) => Err(Error::from(AllocError)),
         Err(_) => Err(Error::bad_param(alloc, "a pre-release is not of SemVer's grammar")),
-    }
-}
-
-/// Returns the least version with these three numbers: the pre-release `0`.
-pub(crate) fn least_of(alloc: Global, major: u64, minor: u64, patch: u64) -> Result<Version>
-    ensures ok { IfOk result (λ v. parts_of v ≡ least_of major minor patch) }
-    ensures err { IfErr result IsMemory }
-{
-    match Prerelease::new(alloc, "0") {
-        Ok(pre) => Ok(Version {
-            major,
-            minor,
-            patch,
-            pre,
-            build: BuildMetadata::empty(),
-        }),
-        Err(_) => Err(Error::from(AllocError)),
     }
 }
 

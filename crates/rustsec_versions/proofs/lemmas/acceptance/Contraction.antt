@@ -5,8 +5,8 @@ use Rattle.std.specs.List.{list_any}
 use Rattle.std.proofs.lemmas.Bool.{and_from, cases_Bool, not-true, or_cases, or_left, or_parts, or_right}
 use Rattle.semver.specs.Parse.{Parts}
 use Rattle.rustsec_versions.specs.interval.Apart.{are_apart}
-use Rattle.rustsec_versions.specs.interval.Interval.{Endpoint, Interval, holds, is_after, is_before, overlap, reaches}
-use Rattle.rustsec_versions.specs.acceptance.Merged.{AreMerged, IsJoined, IsMergedOf, start_le, end_le, itself, onward}
+use Rattle.rustsec_versions.specs.interval.Interval.{Endpoint, Interval, end_le, holds, is_after, is_before, overlap, reaches, start_le}
+use Rattle.rustsec_versions.specs.acceptance.Merged.{AreMerged, IsJoined, IsMergedOf, itself, onward}
 use Rattle.rustsec_versions.specs.order.Precedence.{precedence}
 use Rattle.rustsec_versions.specs.acceptance.Sweep.{later_end, stretched}
 use Rattle.rustsec_versions.proofs.lemmas.interval.Bounds.{start_le-after, start_le-reaches, start_le-self, start_le-trans, end_le-before, end_le-reaches, end_le-self, end_le-total, end_le-trans, later-first, later-is, later-second, reaches-start_le}

@@ -4,8 +4,8 @@ use Rattle.std.specs.Prelude.{Contains, not}
 use Rattle.std.specs.List.{list_any}
 use Rattle.std.proofs.lemmas.List.Sorted.{Contains-permutation, IsPermutation-cons, IsPermutation-refl, IsPermutation-sym, IsPermutation-trans}
 use Rattle.rustsec_versions.specs.interval.Apart.{are_apart}
-use Rattle.rustsec_versions.specs.interval.Interval.{Endpoint, Interval, overlap}
-use Rattle.rustsec_versions.specs.acceptance.Merged.{AreMerged, IsJoined, IsMergedOf, start_le, end_le, itself, onward}
+use Rattle.rustsec_versions.specs.interval.Interval.{Endpoint, Interval, end_le, overlap, start_le}
+use Rattle.rustsec_versions.specs.acceptance.Merged.{AreMerged, IsJoined, IsMergedOf, itself, onward}
 use Rattle.rustsec_versions.specs.order.Precedence.{precedence}
 use Rattle.rustsec_versions.specs.ranges.Ranges.{AreRanges, Range}
 use Rattle.rustsec_versions.proofs.lemmas.ranges.AreRanges.{admissible_shuffled, sound_shuffled}

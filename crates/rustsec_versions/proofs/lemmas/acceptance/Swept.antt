@@ -9,9 +9,9 @@ use Rattle.std.specs.declared.cmp.Ordering.{Ordering}
 use Rattle.std.specs.declared.cmp.Ordering.TheVariants.{Less, Equal, Greater}
 use Rattle.std.proofs.lemmas.Bool.{and_right, cases_Bool}
 use Rattle.semver.specs.Parse.{Parts}
-use Rattle.rustsec_versions.specs.ranges.Complement.{start_order, start_order_total}
-use Rattle.rustsec_versions.specs.interval.Interval.{Endpoint, Interval, holds, overlap, reaches}
-use Rattle.rustsec_versions.specs.acceptance.Merged.{AreMerged, start_le, end_le}
+use Rattle.rustsec_versions.specs.interval.StartOrder.{start_order, start_order_total}
+use Rattle.rustsec_versions.specs.interval.Interval.{Endpoint, Interval, end_le, holds, overlap, reaches, start_le}
+use Rattle.rustsec_versions.specs.acceptance.Merged.{AreMerged}
 use Rattle.rustsec_versions.specs.order.Precedence.{precedence, version_order}
 use Rattle.rustsec_versions.specs.requirement.Requirement.{is_admissible, end_cut_exists}
 use Rattle.rustsec_versions.specs.acceptance.Sweep.{TaggedInterval, all_swept, are_clear, clashes, later_end, spans, stretched, stretched_tag, swept}

@@ -3,9 +3,8 @@ use Rattle.std.proofs.Common.{◌≡◌, ◌⊎◌, true, false, refl, sym, ap, 
 use Rattle.std.specs.Ordering.{is_lt}
 use Rattle.std.proofs.lemmas.Bool.{cases_Bool}
 use Rattle.semver.specs.Parse.{Parts}
-use Rattle.rustsec_versions.specs.ranges.Complement.{start_order}
-use Rattle.rustsec_versions.specs.interval.Interval.{Endpoint, exclusive, inclusive, is_after, is_before, reaches, unbounded}
-use Rattle.rustsec_versions.specs.acceptance.Merged.{start_le, end_le}
+use Rattle.rustsec_versions.specs.interval.StartOrder.{start_order}
+use Rattle.rustsec_versions.specs.interval.Interval.{Endpoint, end_le, exclusive, inclusive, is_after, is_before, reaches, start_le, unbounded}
 use Rattle.rustsec_versions.specs.order.Precedence.{is_at_most, precedence}
 use Rattle.rustsec_versions.specs.acceptance.Sweep.{later_end}
 use Rattle.rustsec_versions.proofs.lemmas.ranges.Adjacent.{earlier-reaches}

@@ -16,8 +16,8 @@ use Rattle.semver.specs.Order.{is_numeric, parts, pre_cmp, pre_part_cmp}
 use Rattle.semver.specs.OrderLaws.{parts-shape, pre_cmp-both, pre_cmp-empty, pre_cmp-left, pre_cmp-right, pre_part_total}
 use Rattle.semver.specs.Parse.{Parts}
 use Rattle.rustsec_values.specs.Reading.{only_if}
-use Rattle.rustsec_versions.specs.order.Precedence.{IsVersion, is_at_most, is_below}
-use Rattle.rustsec_versions.specs.requirement.Requirement.{fits, has_successor, least_of}
+use Rattle.rustsec_versions.specs.order.Precedence.{IsVersion, fits, is_at_most, is_below, least_of}
+use Rattle.rustsec_versions.specs.requirement.Requirement.{has_successor}
 use Rattle.rustsec_versions.specs.order.Successor.{IsLeastAbove, successor}
 use Rattle.rustsec_versions.proofs.lemmas.order.PrecedenceLaws.{lt-Less}
 use Rattle.rustsec_versions.proofs.lemmas.requirement.Sound.{and-first, and-second}

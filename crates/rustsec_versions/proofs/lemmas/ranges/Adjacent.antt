@@ -7,7 +7,8 @@ use Rattle.std.specs.declared.cmp.Ordering.TheVariants.{Less, Equal, Greater}
 use Rattle.std.proofs.lemmas.Bool.{cases_Bool}
 use Rattle.semver.specs.Parse.{Parts}
 use Rattle.rustsec_versions.specs.interval.Apart.{are_apart}
-use Rattle.rustsec_versions.specs.ranges.Complement.{cut, start_order}
+use Rattle.rustsec_versions.specs.interval.StartOrder.{start_order}
+use Rattle.rustsec_versions.specs.ranges.Complement.{cut}
 use Rattle.rustsec_versions.specs.interval.Interval.{Endpoint, Interval, exclusive, inclusive, overlap, reaches, unbounded}
 use Rattle.rustsec_versions.specs.order.Precedence.{is_at_most, is_below, precedence, version_order}
 use Rattle.rustsec_versions.specs.ranges.Ranges.{Range, lower_cut, upper_cut}

@@ -9,12 +9,13 @@ use Rattle.std.proofs.lemmas.List.Elements.{Contains-append_right}
 use Rattle.std.proofs.lemmas.List.Sorted.{Contains-permutation, IsPermutation-append, IsPermutation-map, IsPermutation-refl, IsPermutation-sym, list_any-IsPermutation}
 use Rattle.semver.specs.Parse.{Held, Parts}
 use Rattle.rustsec_versions.specs.ranges.Between.{IsComplementOf, complement_between}
-use Rattle.rustsec_versions.specs.ranges.Complement.{cut, complement_from, start_order}
-use Rattle.rustsec_versions.specs.interval.Interval.{Endpoint, Interval, exclusive, holds, inclusive, overlap, unbounded}
+use Rattle.rustsec_versions.specs.interval.StartOrder.{start_order}
+use Rattle.rustsec_versions.specs.ranges.Complement.{cut, complement_from}
+use Rattle.rustsec_versions.specs.interval.Interval.{Endpoint, Interval, exclusive, has_bound, holds, inclusive, overlap, unbounded}
 use Rattle.rustsec_versions.specs.acceptance.Lists.{Lists, accepted, accepted_apart, affected, all_admissible, intervals}
 use Rattle.rustsec_versions.specs.acceptance.Merged.{AreMerged, IsJoined}
 use Rattle.rustsec_versions.specs.order.Precedence.{IsVersion, precedence}
-use Rattle.rustsec_versions.specs.ranges.Ranges.{AreRanges, HasCuts, Range, SameInEachList, SameRequirements, affects, has_bound, in_ranges, lower_cut, upper_cut, whole}
+use Rattle.rustsec_versions.specs.ranges.Ranges.{AreRanges, HasCuts, Range, SameInEachList, SameRequirements, affects, in_ranges, lower_cut, upper_cut, whole}
 use Rattle.rustsec_versions.specs.requirement.Requirement.{interval_of, is_admissible, end_cut_exists, start_cut_exists}
 use Rattle.rustsec_versions.specs.ranges.AcceptedRanges.{AreMergedRanges, AreRangesOf, HasUnboundedInterval}
 use Rattle.rustsec_versions.specs.acceptance.Sweep.{TaggedInterval, all_swept, are_clear, tag, tagged, all_tagged, spans}

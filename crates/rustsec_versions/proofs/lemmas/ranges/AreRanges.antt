@@ -6,9 +6,9 @@ use Rattle.std.proofs.Math.ListN.{length-map}
 use Rattle.std.proofs.lemmas.List.Sorted.{IsPermutation-sym, IsPermutation-trans, length_permutation, list_any-IsPermutation}
 use Rattle.rustsec_versions.specs.interval.Apart.{are_apart}
 use Rattle.rustsec_versions.specs.ranges.Complement.{cut, complement_from}
-use Rattle.rustsec_versions.specs.interval.Interval.{Interval, overlap}
+use Rattle.rustsec_versions.specs.interval.Interval.{Interval, has_bound, overlap}
 use Rattle.rustsec_versions.specs.order.Precedence.{precedence}
-use Rattle.rustsec_versions.specs.ranges.Ranges.{AreRanges, Range, has_bound, lower_cut, lower_cuts, upper_cut, upper_cuts, whole}
+use Rattle.rustsec_versions.specs.ranges.Ranges.{AreRanges, Range, lower_cut, lower_cuts, upper_cut, upper_cuts, whole}
 use Rattle.rustsec_versions.proofs.lemmas.ranges.Adjacent.{AllAdmissible, IsChain, StartsRise, chain}
 use Rattle.rustsec_versions.proofs.lemmas.acceptance.Clashes.{AllSound, overlap-sym}
 use Rattle.rustsec_versions.proofs.lemmas.ranges.RangeEnds.{all-ends, all-starts, complement-first_introduction, complement-last_fix, complement-none, complement-whole, list_all-IsPermutation, one-IsPermutation}

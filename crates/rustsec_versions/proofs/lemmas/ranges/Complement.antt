@@ -7,7 +7,8 @@ use Rattle.std.specs.Ordering.{is_lt}
 use Rattle.semver.specs.Parse.{Parts}
 use Rattle.rustsec_versions.specs.interval.Apart.{are_apart}
 use Rattle.rustsec_versions.specs.ranges.Between.{AreInTurn, gap_to, complement_after, complement_between, opposite_bound}
-use Rattle.rustsec_versions.specs.ranges.Complement.{HasValidBounds, IsValidBound, cut, gap_before, complement_beyond, complement_from, start_order}
+use Rattle.rustsec_versions.specs.interval.StartOrder.{start_order}
+use Rattle.rustsec_versions.specs.ranges.Complement.{HasValidBounds, IsValidBound, cut, gap_before, complement_beyond, complement_from}
 use Rattle.rustsec_versions.specs.interval.Interval.{Endpoint, Interval, exclusive, holds, inclusive, is_after, is_before, overlap, reaches, unbounded}
 use Rattle.rustsec_versions.specs.order.Precedence.{IsVersion, precedence}
 use Rattle.rustsec_versions.specs.ranges.Ranges.{Range, in_ranges, lower_cut, upper_cut}

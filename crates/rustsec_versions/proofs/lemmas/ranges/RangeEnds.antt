@@ -5,8 +5,8 @@ use Rattle.std.specs.List.{list_all, list_any}
 use Rattle.std.proofs.lemmas.List.Sorted.{IsPermutation-keeps, list_any-IsPermutation}
 use Rattle.semver.specs.Parse.{Parts}
 use Rattle.rustsec_versions.specs.ranges.Complement.{cut, gap_before, complement_beyond, complement_from}
-use Rattle.rustsec_versions.specs.interval.Interval.{Endpoint, Interval, exclusive, inclusive, unbounded}
-use Rattle.rustsec_versions.specs.ranges.Ranges.{Range, has_bound, lower_cut, upper_cut, whole}
+use Rattle.rustsec_versions.specs.interval.Interval.{Endpoint, Interval, exclusive, has_bound, inclusive, unbounded}
+use Rattle.rustsec_versions.specs.ranges.Ranges.{Range, lower_cut, upper_cut, whole}
 use Rattle.rustsec_versions.specs.requirement.Requirement.{end_cut_exists, start_cut_exists}
 use Rattle.rustsec_versions.proofs.lemmas.ranges.Adjacent.{AllAdmissible}
 use Rattle.rustsec_versions.proofs.lemmas.ranges.Adjacent.{FollowOn, Follows, IsChain}

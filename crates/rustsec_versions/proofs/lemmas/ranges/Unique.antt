@@ -12,9 +12,9 @@ use Rattle.std.proofs.lemmas.List.Sums.{sum_by-cons}
 use Rattle.std.proofs.lemmas.List.Sorted.{IsPermutation-sym, IsPermutation-trans, sum_by-IsPermutation}
 use Rattle.semver.specs.OrderLaws.{pre-anti}
 use Rattle.semver.specs.Parse.{Parts}
-use Rattle.rustsec_versions.specs.interval.Interval.{Endpoint, Interval, exclusive, inclusive, unbounded}
+use Rattle.rustsec_versions.specs.interval.Interval.{Endpoint, Interval, exclusive, has_bound, inclusive, unbounded}
 use Rattle.rustsec_versions.specs.order.Precedence.{is_at_most, precedence}
-use Rattle.rustsec_versions.specs.ranges.Ranges.{AreRanges, Range, has_bound, is_followed, lower_cut, lower_cuts, upper_cut, upper_cuts, whole}
+use Rattle.rustsec_versions.specs.ranges.Ranges.{AreRanges, Range, is_followed, lower_cut, lower_cuts, upper_cut, upper_cuts, whole}
 use Rattle.rustsec_versions.proofs.lemmas.acceptance.Clashes.{AllSound}
 use Rattle.rustsec_versions.specs.EqualityLaws.{version_decides}
 use Rattle.rustsec_versions.specs.Equality.{version_eq}

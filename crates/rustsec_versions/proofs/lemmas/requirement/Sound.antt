@@ -16,8 +16,8 @@ use Rattle.semver.specs.declared.Op.{Op}
 use Rattle.semver.specs.declared.Op.TheVariants as op
 use Rattle.rustsec_values.specs.Reading.{only_if}
 use Rattle.rustsec_versions.specs.interval.Interval.{Endpoint, Interval, exclusive, inclusive, overlap, reaches, unbounded}
-use Rattle.rustsec_versions.specs.order.Precedence.{IsVersion, precedence, version_order}
-use Rattle.rustsec_versions.specs.requirement.Requirement.{Side, admitted, caret_end, fits, interval_of, is_admissible, end_cut_exists, start_cut_exists, least_of, lower, base_version, names_version, neither, next_major, next_minor, next_patch, of_comparators, of_one, of_sides, side_of, stated, tilde_end, up_to, upper}
+use Rattle.rustsec_versions.specs.order.Precedence.{IsVersion, fits, least_of, precedence, version_order}
+use Rattle.rustsec_versions.specs.requirement.Requirement.{Side, admitted, caret_end, interval_of, is_admissible, end_cut_exists, start_cut_exists, lower, base_version, names_version, neither, next_major, next_minor, next_patch, of_comparators, of_one, of_sides, side_of, stated, tilde_end, up_to, upper}
 
 -- a valid version without build metadata
 pub record IsSound (v : Parts) : Type 0 where

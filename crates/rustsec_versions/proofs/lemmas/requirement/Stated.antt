@@ -5,7 +5,8 @@ use Rattle.semver.specs.Grammar.{is_pre_release}
 use Rattle.semver.specs.Parse.{Held, Parts}
 use Rattle.rustsec_values.specs.Reading.{only_if}
 use Rattle.rustsec_versions.specs.interval.Interval.{Interval}
-use Rattle.rustsec_versions.specs.requirement.Requirement.{Side, fits, base_version, names_version, of_one, of_sides, side_of, stated}
+use Rattle.rustsec_versions.specs.requirement.Requirement.{Side, base_version, names_version, of_one, of_sides, side_of, stated}
+use Rattle.rustsec_versions.specs.order.Precedence.{fits}
 use Rattle.rustsec_versions.proofs.lemmas.requirement.Sound.{and-first, and-second}
 
 -- a value under a test that holds

@@ -12,8 +12,8 @@ use Rattle.semver.specs.Parse.{Parts}
 use Rattle.rustsec_versions.specs.ranges.AcceptedRanges.{HasBinaryDigits}
 use Rattle.rustsec_versions.specs.ranges.Between.{AreInTurn, EachLaterBegins}
 use Rattle.rustsec_versions.specs.ranges.Complement.{cut}
-use Rattle.rustsec_versions.specs.interval.Interval.{Endpoint, Interval, exclusive, holds, inclusive, is_after, is_before, unbounded}
-use Rattle.rustsec_versions.specs.ranges.Ranges.{Range, has_bound, is_followed, lower_cut}
+use Rattle.rustsec_versions.specs.interval.Interval.{Endpoint, Interval, exclusive, has_bound, holds, inclusive, is_after, is_before, unbounded}
+use Rattle.rustsec_versions.specs.ranges.Ranges.{Range, is_followed, lower_cut}
 
 -- ---- gaps in turn
 

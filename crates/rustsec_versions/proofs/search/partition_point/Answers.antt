@@ -1,8 +1,7 @@
 use Rattle.std.proofs.Common.{◌≡◌, ◌+◌, ◌-◌, ◌/◌, ◌<◌, ◌^◌, arith, get_or, length, subst, sym, true, false}
 use Rattle.std.specs.Prelude.{min}
 use Rattle.std.proofs.lemmas.List.{get_or_default}
-use Rattle.rustsec_versions.specs.interval.Interval.{Interval, is_after}
-use Rattle.rustsec_versions.specs.ranges.Ranges.{has_bound}
+use Rattle.rustsec_versions.specs.interval.Interval.{Interval, has_bound, is_after}
 use Rattle.rustsec_versions.proofs.lemmas.search.Halving.{all-partition_point, at_least-end, at_least-half, begins-if_first, none-partition_point, within-end, within-half}
 use Rattle.rustsec_versions.proofs.search.partition_point.Goals as goal
 

@@ -1,7 +1,6 @@
 use Rattle.std.proofs.Common.{◌+◌, ◌-◌, ◌≡◌, ◌<◌, ◌≤◌, ◌^◌, ℕ, false, get_or, length, true}
 use Rattle.std.specs.Prelude.{min}
-use Rattle.rustsec_versions.specs.interval.Interval.{Interval, is_after}
-use Rattle.rustsec_versions.specs.ranges.Ranges.{has_bound}
+use Rattle.rustsec_versions.specs.interval.Interval.{Interval, has_bound, is_after}
 use Rattle.rustsec_versions.proofs.lemmas.search.Halving.{AtLeastHalvings, WithinDigits}
 use Rattle.rustsec_versions.proofs.search.partition_point.Given as goal
 

@@ -2,7 +2,7 @@ use Rattle.std.proofs.Common.{IsPermutation, map, sym}
 use Rattle.std.specs.List.Sorted.{IsSortedByKey}
 use Rattle.std.proofs.lemmas.List.Sorted.{IsPermutation-trans}
 use Rattle.std.proofs.lemmas.Result.{err_from_is_err_and}
-use Rattle.rustsec_versions.specs.ranges.Complement.{start_order}
+use Rattle.rustsec_versions.specs.interval.StartOrder.{start_order}
 use Rattle.rustsec_versions.specs.acceptance.Lists.{Lists}
 use Rattle.rustsec_versions.specs.acceptance.Sweep.{all_tagged}
 use Rattle.rustsec_versions.proofs.lemmas.ranges.Agreement.{sweep-refused, walk-IsComplementOf}

@@ -7,7 +7,7 @@ use Rattle.std.specs.Ordering.{is_lt}
 use Rattle.std.specs.declared.cmp.Ordering.{Ordering}
 use Rattle.std.proofs.lemmas.Fn.{always_returns_same}
 use Rattle.std.proofs.lemmas.List.Sorted.{ranks_by}
-use Rattle.rustsec_versions.specs.ranges.Complement.{start_order_total}
+use Rattle.rustsec_versions.specs.interval.StartOrder.{start_order_total}
 use Rattle.rustsec_versions.proofs.acceptance.tagged.sort_by_start.Goals as goal
 use Rattle.std.proofs.lemmas.Result.{on_ok_weaker}
 use denote.Param.Members.{Mut}

@@ -2,7 +2,7 @@ use Rattle.std.proofs.Common.{◌≡◌, ◌∙◌, IsPermutation, Option, Some,
 use Rattle.std.specs.Prelude.{is_some, option_map}
 use Rattle.std.specs.List.Sorted.{IsSortedByKey}
 use Rattle.rustsec_versions.specs.acceptance.Sweep.{all_swept, all_tagged}
-use Rattle.rustsec_versions.specs.ranges.Complement.{start_order}
+use Rattle.rustsec_versions.specs.interval.StartOrder.{start_order}
 use Rattle.rustsec_versions.proofs.lemmas.ranges.Agreement.{sweep-accepted}
 use Rattle.rustsec_versions.proofs.versions.apart.are_clear.Goals as goal
 
