@@ -54,7 +54,7 @@ fn lint_advisory_key(
     key: &str,
     value: &Value,
 ) -> Result<()>
-    ensures ok { OnOk result (errors.new ≡ errors.old ++ advisory_rows linted.draft linted.advisory.now.metadata (key.now, view value.now)) }
+    ensures ok { OnOk result (errors.new ≡ errors.old ++ advisory_rows linted.entry.draft linted.entry.advisory.now.metadata (key.now, view value.now)) }
     ensures err { IfErr result IsMemory }
 {
     // Most keys are quiet.
@@ -93,7 +93,7 @@ fn lint_advisory(
     linted: Linted<'_>,
     table: &Table,
 ) -> Result<()>
-    ensures ok { OnOk result (errors.new ≡ errors.old ++ flat_map (advisory_rows linted.draft linted.advisory.now.metadata) (members_of (table_view table.now))) }
+    ensures ok { OnOk result (errors.new ≡ errors.old ++ flat_map (advisory_rows linted.entry.draft linted.entry.advisory.now.metadata) (members_of (table_view table.now))) }
     ensures ordered { OnOk result (KeysRise (members_of (table_view table.now))) }
     ensures err { IfErr result IsMemory }
 {
@@ -174,7 +174,7 @@ fn lint_section(
     key: &str,
     table: &Table,
 ) -> Result<()>
-    ensures ok { OnOk result (errors.new ≡ errors.old ++ section_rows linted.draft linted.advisory.now key.now (members_of (table_view table.now))) }
+    ensures ok { OnOk result (errors.new ≡ errors.old ++ section_rows linted.entry.draft linted.entry.advisory.now key.now (members_of (table_view table.now))) }
     ensures ordered { OnOk result (is_one_of sections key.now ≡ true → KeysRise (members_of (table_view table.now))) }
     ensures err { IfErr result IsMemory }
 {
@@ -194,7 +194,7 @@ fn lint_top_key(
     key: &str,
     value: &Value,
 ) -> Result<()>
-    ensures ok { OnOk result (errors.new ≡ errors.old ++ top_rows linted.draft linted.advisory.now (key.now, view value.now)) }
+    ensures ok { OnOk result (errors.new ≡ errors.old ++ top_rows linted.entry.draft linted.entry.advisory.now (key.now, view value.now)) }
     ensures ordered { OnOk result (SectionRises (key.now, view value.now)) }
     ensures err { IfErr result IsMemory }
 {
