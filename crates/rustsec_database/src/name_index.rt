@@ -53,8 +53,18 @@ fn empty_lists(alloc: Global, count: usize) -> std::result::Result<Vec<Items<Pos
     Ok(lists)
 }
 
+/// Returns a list of one posting, with room for one: most lists have no other, and a search has less memory to look at.
+fn list_of(alloc: Global, posting: Posting) -> std::result::Result<Items<Posting>, AllocError>
+    ensures { IfOk result (λ l. l ≡ posting ∷ []) }
+{
+    let mut list = Vec::with_capacity(alloc, 1)?;
+    list.push(posting).map_err(|_| AllocError)?;
+    Ok(Items::from(list))
+}
+
 /// Appends a posting to the list at a place, if any.
 fn push_at(
+    alloc: Global,
     lists: &mut Vec<Items<Posting>>,
     at: usize,
     posting: Posting,
@@ -64,26 +74,35 @@ fn push_at(
         ≡ (if at == place then slice_index_or lists.old.items place [] ++ posting ∷ [] else slice_index_or lists.old.items place [])) }
 {
     if at < lists.len() {
-        lists[at].push(posting)?;
+        if lists[at].is_empty() {
+            lists[at] = list_of(alloc, posting)?;
+        } else {
+            lists[at].push(posting)?;
+        }
     }
     Ok(())
 }
 
 /// Appends a posting to the list for its digest.
-fn insert(lists: &mut Vec<Items<Posting>>, posting: Posting) -> std::result::Result<(), AllocError>
+fn insert(
+    alloc: Global,
+    lists: &mut Vec<Items<Posting>>,
+    posting: Posting,
+) -> std::result::Result<(), AllocError>
     ensures len { length lists.new.items ≡ length lists.old.items }
     ensures ok { OnOk result ((place : ℕ) → place < length lists.old.items → slice_index_or lists.new.items place []
         ≡ (if posting.0 % length lists.old.items == place then slice_index_or lists.old.items place [] ++ posting ∷ []
         else slice_index_or lists.old.items place [])) }
 {
     match posting.digest().checked_rem(lists.len()) {
-        Some(at) => push_at(lists, at, posting),
+        Some(at) => push_at(alloc, lists, at, posting),
         None => Ok(()),
     }
 }
 
 /// Inserts the posting of the advisory in a slot, if the advisory is of a collection.
 fn insert_in(
+    alloc: Global,
     lists: &mut Vec<Items<Posting>>,
     collection: Collection,
     advisory: &Advisory,
@@ -94,7 +113,7 @@ fn insert_in(
         → HaveListed collection (before ++ advisory.now ∷ []) lists.new.items) }
 {
     if Some(collection) == advisory.metadata.collection {
-        insert(lists, Posting::new(advisory, slot))?;
+        insert(alloc, lists, Posting::new(advisory, slot))?;
     }
     Ok(())
 }
@@ -115,7 +134,7 @@ impl NameIndex {
     {
         let mut lists = empty_lists(alloc, list_count(collection, advisories))?;
         for (place, advisory) in advisories.iter().enumerate() {
-            insert_in(&mut lists, collection, advisory, Slot::new(place))?;
+            insert_in(alloc, &mut lists, collection, advisory, Slot::new(place))?;
         }
         Ok(NameIndex { lists })
     }
