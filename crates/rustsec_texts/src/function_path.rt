@@ -1,9 +1,10 @@
 //! The paths of functions.
 
-ghost use Rattle.std.specs.Prelude.{◌≡◌, ◌∷◌, [], IfErr, IfOk, List, ℕ, None, Some, false, refl, true};
+ghost use Rattle.std.specs.Prelude.{◌≡◌, ◌∷◌, ◌<◌, ◌^◌, [], IfErr, IfOk, List, ℕ, None, Some, false, length, refl, true};
 ghost use Rattle.std.specs.Cmp.{partial_equiv_from_equiv, po};
 ghost use Rattle.std.specs.Cmp.Lexicographic.{bytes_decides, pointwise_decides};
 ghost use Rattle.std.specs.Hash as fed;
+ghost use Rattle.std.specs.Iterator.Adapters.{IterYieldsInOrder};
 ghost use Rattle.std.specs.List.{list_all};
 ghost use Rattle.std.specs.Slice.Iter.{iter_rest};
 ghost use Rattle.rustsec_error.specs.Failure.{IsMemory, IsRefusal};
@@ -99,7 +100,9 @@ impl FunctionPath {
 
     /// Returns an iterator over the identifiers, in order.
     pub fn iter(&self) -> slice::Iter<'_, Identifier>
-        ensures { iter_rest result ≡ self.now }
+        ensures rest { iter_rest result ≡ self.now }
+        ensures bound { length (iter_rest result) < 2 ^ 64 }
+        ensures runs { IterYieldsInOrder Identifier }
     {
         self.segments().iter()
     }
