@@ -1,5 +1,5 @@
 -- OSV's evaluation of an exported document agrees with the advisory.
-use Rattle.std.proofs.Common.{◌≡◌, ◌∙◌, ◌&&◌, ℕ, Bool, true, false, List, [], ◌∷◌, Some, Ok, Err, ap, map, refl, subst, sym}
+use Rattle.std.proofs.Common.{◌≡◌, ◌∙◌, ℕ, Bool, true, false, List, [], ◌∷◌, Some, Ok, Err, ap, map, refl, subst, sym}
 use Rattle.std.specs.Prelude.{IfOk, Result, codes, filter}
 use Rattle.std.specs.Str.{bytes_eq}
 use Rattle.std.proofs.lemmas.Slice.Eq.{bytes_eq-Decides}
@@ -19,21 +19,13 @@ use Rattle.rustsec_osv.specs.declared.affected.OsvAffected.{OsvAffected}
 use Rattle.rustsec_osv.proofs.Exported.{document-events}
 use Rattle.rustsec_osv_evaluation.specs.Document.{IsAnswer, IsMemberAnswer, IsRangeOfAnswer, are_any, is_about, is_of_versions}
 use Rattle.rustsec_osv_evaluation.specs.Event.{seen}
-use Rattle.rustsec_osv_evaluation.specs.Pairs.{HaveOwnVersions, at, normalized, normalized_document, normalized_member, normalized_range}
-use Rattle.rustsec_osv_evaluation.specs.Range.{IsRangeAnswer, is_before_limits, say_in_order}
-use Rattle.rustsec_osv_evaluation.proofs.OneOrder.{Own, one-order}
+use Rattle.rustsec_osv_evaluation.specs.Order.{at}
+use Rattle.rustsec_osv_evaluation.specs.Pairs.{HaveOwnVersions, normalized, normalized_document, normalized_member, normalized_range}
+use Rattle.rustsec_osv_evaluation.specs.Range.{IsRangeAnswer, say_in_order}
 use Rattle.rustsec_osv_evaluation.proofs.DroppedPairs.{normalized-own, normalized-rises, normalized-says}
-use Rattle.rustsec_osv_evaluation.proofs.Saying.{before-limits, own-from, says, seen-versions}
+use Rattle.rustsec_osv_evaluation.proofs.SameAnswers.{normalized-events}
+use Rattle.rustsec_osv_evaluation.proofs.Saying.{own-from, own-to, range-answer, says}
 use Rattle.rustsec_osv_evaluation.proofs.Turning.{Turns, events-rise, events-turn}
-
--- ---- one range
-
-range-answer : (es : List Event) (v : Parts) (answer : Bool) → Rises (map at es) → Own (map seen es) → IsRangeAnswer (map seen es) v answer
-    → answer ≡ say_in_order (map seen es) v
-range-answer es v answer r own h =
-    let order = one-order (map seen es) h.ordered (rw (seen-versions es) r) own h.same h.rise in
-    let step : (is_before_limits (map seen es) v && say_in_order h.ordered v) ≡ say_in_order h.ordered v = rw (before-limits es v) refl in
-    h.is ∙ (step ∙ ap (λ (xs : List _). say_in_order xs v) order)
 
 -- ---- one member with one range
 
@@ -114,13 +106,26 @@ module _ (a : Advisory) (modified : List ℕ) (d : Document) (h : IsDocument a m
   members-normalized : (normalized_document d).affected ≡ normalized_member member ∷ []
   members-normalized = ap (λ (x : Document). (normalized_document x).affected) h.is
 
+  events-normalized : (normalized_range h.range).events ≡ normalized h.range.events
+  events-normalized = normalized-events h.range turns rises
+
   pub normalized-evaluated : (v : Parts) (answer : Bool) → IsVersion v
       → IsAnswer (codes "crates.io") a.metadata.«package» v (normalized_document d) answer → answer ≡ affected a.versions v
   normalized-evaluated v answer valid is =
-      range-answer (normalized h.range.events) v answer (normalized-rises h.range.events rises) (normalized-own h.range.events rises)
-      (document-answer a.metadata.«package» v (normalized_document d) (normalized_member member) (normalized_range h.range) answer members-normalized
-      has-one-normalized is)
+      let its_answer = document-answer a.metadata.«package» v (normalized_document d) (normalized_member member) (normalized_range h.range) answer
+      members-normalized has-one-normalized is in
+      let said = subst (λ (es : List Event). IsRangeAnswer (map seen es) v answer) events-normalized its_answer in
+      range-answer (normalized h.range.events) v answer (normalized-rises h.range.events rises) (normalized-own h.range.events rises) said
       ∙ (normalized-says v true h.range.events turns rises ∙ in-order v valid)
+
+  normalized-its-events : document_events (normalized_document d) ≡ normalized h.range.events
+  normalized-its-events =
+      ap (λ (x : Document). document_events (normalized_document x)) h.is
+      ∙ (document-events a.metadata a.affected modified h.references (normalized_range h.range) ∙ events-normalized)
+
+  pub normalized-bare : HaveOwnVersions (document_events (normalized_document d))
+  normalized-bare = subst (λ (es : List Event). HaveOwnVersions es) (sym normalized-its-events)
+      (own-to (normalized h.range.events) (normalized-own h.range.events rises))
 
 -- ---- answers of the export
 
@@ -137,3 +142,9 @@ pub normalized-ok : (a : Advisory) (modified : List ℕ) (r : Result Document Fa
     → IsAnswer (codes "crates.io") a.metadata.«package» v (normalized_document d) answer → answer ≡ affected a.versions v)
 normalized-ok a modified (Ok d) h k = normalized-evaluated a modified d h k
 normalized-ok a modified (Err e) h k = tt
+
+pub bare-ok : (a : Advisory) (modified : List ℕ) (r : Result Document Failure) → IfOk r (IsDocument a modified)
+    → IfOk r (λ d. (v : Parts) → IsVersion v → events_say (document_events d) v ≡ affected a.versions v)
+    → IfOk r (λ d. HaveOwnVersions (document_events (normalized_document d)))
+bare-ok a modified (Ok d) h k = normalized-bare a modified d h k
+bare-ok a modified (Err e) h k = tt

@@ -9,7 +9,8 @@ use Rattle.rustsec_versions.proofs.lemmas.order.PrecedenceLaws.{at_most-trans, b
 use Rattle.rustsec_versions.proofs.lemmas.order.Rising.{Rises, Rises-tail}
 use Rattle.rustsec_osv.specs.DocumentEvents.{Event, fixed, introduced, last_affected}
 use Rattle.rustsec_osv_evaluation.specs.Event.{seen}
-use Rattle.rustsec_osv_evaluation.specs.Pairs.{are_at_one, at, normalized}
+use Rattle.rustsec_osv_evaluation.specs.Order.{at}
+use Rattle.rustsec_osv_evaluation.specs.Pairs.{are_at_one, normalized}
 use Rattle.rustsec_osv_evaluation.proofs.OneOrder.{Other, Own, tie}
 use Rattle.rustsec_osv_evaluation.proofs.Saying.{say, say-fixed, say-fixed_above, say-introduced, say-introduced_above}
 use Rattle.rustsec_osv_evaluation.proofs.Turning.{Turns}

@@ -1,7 +1,10 @@
 pub mod Agreement
+pub mod AsGiven
 pub mod DroppedPairs
 pub mod OneOrder
 pub mod Ordered
+pub mod SameAnswers
 pub mod Saying
 pub mod Sorted
+pub mod TakingTurns
 pub mod Turning

@@ -13,8 +13,7 @@ use Rattle.rustsec_osv.specs.DocumentEvents.{Event, event_of}
 use Rattle.rustsec_osv.specs.Documents.{Document}
 use Rattle.rustsec_osv.specs.Export.{IsDocument}
 use Rattle.rustsec_osv.specs.declared.timeline.OsvTimelineEvent.{OsvTimelineEvent}
-use Rattle.rustsec_osv_evaluation.specs.Order.{follows, has_ordered_events, rise}
-use Rattle.rustsec_osv_evaluation.specs.Pairs.{at}
+use Rattle.rustsec_osv_evaluation.specs.Order.{at, follows, has_ordered_events, rise}
 use Rattle.rustsec_osv_evaluation.proofs.Turning.{events-rise}
 
 -- ---- loops that ask each element of a list
@@ -69,7 +68,7 @@ module _ (xs : List OsvTimelineEvent) (i : ℕ) (before : Option Parts) (all : B
 
 -- ---- exported documents
 
-rise-from : (es : List Event) → Rises (map at es) → rise es ≡ true
+pub rise-from : (es : List Event) → Rises (map at es) → rise es ≡ true
 rise-from [] r = refl
 rise-from (e ∷ []) r = refl
 rise-from (e ∷ f ∷ es) r = and_from _ _ r.0 (rise-from (f ∷ es) r.1)

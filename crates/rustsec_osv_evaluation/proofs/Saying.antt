@@ -3,16 +3,19 @@ use Rattle.std.proofs.Common.{◌≡◌, ◌∙◌, ◌&&◌, ◌||◌, Bool, tr
 use Rattle.std.specs.Prelude.{filter, not}
 use Rattle.std.specs.List.{AllByRecursion, fold, list_any}
 use Rattle.std.proofs.lemmas.Bool.{cases_Bool, or_left}
-use Rattle.std.proofs.lemmas.List.Elements.{recursion_from_All}
+use Rattle.std.proofs.lemmas.List.Elements.{All-from_recursion, recursion_from_All}
+use Rattle.std.proofs.lemmas.List.Kept.{AllPairs-cons}
 use Rattle.std.proofs.Common.{suc, arith}
 use Rattle.semver.specs.Parse.{Parts}
 use Rattle.rustsec_versions.specs.order.Precedence.{is_at_most}
+use Rattle.rustsec_versions.proofs.lemmas.order.Rising.{Rises}
 use Rattle.rustsec_osv.specs.DocumentEvents.{Event, fixed, introduced, last_affected}
 use Rattle.rustsec_osv.specs.Events.{ends_introduced, events_say, is_introduction, is_until}
 use Rattle.rustsec_osv_evaluation.specs.Event.{seen, version_of}
-use Rattle.rustsec_osv_evaluation.specs.Pairs.{HaveOwnVersions, are_at_one, at}
-use Rattle.rustsec_osv_evaluation.specs.Range.{after, is_before_limits, is_limit, say_in_order}
-use Rattle.rustsec_osv_evaluation.proofs.OneOrder.{Other, Own}
+use Rattle.rustsec_osv_evaluation.specs.Order.{at}
+use Rattle.rustsec_osv_evaluation.specs.Pairs.{HaveOwnVersions, are_at_one}
+use Rattle.rustsec_osv_evaluation.specs.Range.{IsRangeAnswer, after, is_before_limits, is_limit, say_in_order}
+use Rattle.rustsec_osv_evaluation.proofs.OneOrder.{Other, Own, one-order}
 use Rattle.rustsec_osv_evaluation.proofs.Turning.{Turns}
 
 -- what events say after an answer before them
@@ -108,6 +111,22 @@ own-from (e ∷ es) h = (
   own-from es (λ i j d low high. h (suc i) (suc j) d (omega arith) (omega arith)),
 )
 
+other-first : (e : Event) (es : List Event) → Other (at e) (map seen es) → AllByRecursion (λ f. are_at_one e f ≡ false) es
+other-first e [] o = tt
+other-first e (f ∷ es) o = (o.0, other-first e es o.1)
+
+pub own-to : (es : List Event) → Own (map seen es) → HaveOwnVersions es
+own-to [] o = λ i j d low high. absurd (omega arith)
+own-to (e ∷ es) o = AllPairs-cons (λ a b. are_at_one a b ≡ false) e es (All-from_recursion (λ f. are_at_one e f ≡ false) es (other-first e es o.0)) (own-to es o.1)
+
 pub seen-versions : (es : List Event) → map version_of (map seen es) ≡ map at es
 seen-versions [] = refl
 seen-versions (e ∷ es) = λ i. at e ∷ seen-versions es i
+
+-- events that rise, no two of them at one version, have one answer
+pub range-answer : (es : List Event) (v : Parts) (answer : Bool) → Rises (map at es) → Own (map seen es) → IsRangeAnswer (map seen es) v answer
+    → answer ≡ say_in_order (map seen es) v
+range-answer es v answer r own h =
+    let order = one-order (map seen es) h.ordered (rw (seen-versions es) r) own h.same h.rise in
+    let step : (is_before_limits (map seen es) v && say_in_order h.ordered v) ≡ say_in_order h.ordered v = rw (before-limits es v) refl in
+    h.is ∙ (step ∙ ap (λ (xs : List _). say_in_order xs v) order)

@@ -16,7 +16,7 @@ use Rattle.rustsec_osv.specs.DocumentEvents.{Event, fixed, introduced, last_affe
 use Rattle.rustsec_osv.specs.Events.{events_of}
 use Rattle.rustsec_osv.proofs.LeastVersion.{least-at_most}
 use Rattle.rustsec_osv.proofs.ValidEvents.{events-valid}
-use Rattle.rustsec_osv_evaluation.specs.Pairs.{at}
+use Rattle.rustsec_osv_evaluation.specs.Order.{at}
 
 -- events that take turns; the first is an introduction, or a fix
 abbrev pub Turns : Bool → List Event → Type 0

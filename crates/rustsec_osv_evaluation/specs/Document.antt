@@ -9,7 +9,7 @@ use Rattle.rustsec_osv.specs.DocumentEvents.{JsonRange}
 use Rattle.rustsec_osv.specs.Documents.{Document}
 use Rattle.rustsec_osv.specs.declared.affected.OsvAffected.{OsvAffected}
 use Rattle.rustsec_osv_evaluation.specs.Event.{seen}
-use Rattle.rustsec_osv_evaluation.specs.Range.{IsRangeAnswer}
+use Rattle.rustsec_osv_evaluation.specs.Range.{IsRangeAnswer, say_in_order}
 
 -- whether one of some answers is yes
 abbrev pub are_any : List Bool → Bool
@@ -58,3 +58,15 @@ pub record IsAnswer (ecosystem name : List ℕ) (v : Parts) (d : Document) (answ
   pub answers : List Bool
   pub each : Pairwise (IsMemberAnswer v) (filter (is_about ecosystem name) d.affected) answers
   pub is : answer ≡ are_any answers
+
+-- ---- the answer with the events of each range in the order in which they are given
+
+-- a document's events have no limits
+abbrev pub range_says_as_given : Parts → JsonRange → Bool
+range_says_as_given v r = is_of_versions r && say_in_order (map seen r.events) v
+
+abbrev pub member_says_as_given : Parts → OsvAffected → Bool
+member_says_as_given v a = lists (parts_text v) a || list_any (range_says_as_given v) (ranges_of a)
+
+abbrev pub says_as_given : List ℕ → List ℕ → Parts → Document → Bool
+says_as_given ecosystem name v d = list_any (member_says_as_given v) (filter (is_about ecosystem name) d.affected)

@@ -8,7 +8,11 @@ use Rattle.rustsec_osv.specs.DocumentEvents.{Event, JsonRange}
 use Rattle.rustsec_osv.specs.Documents.{Document}
 use Rattle.rustsec_osv.specs.declared.affected.OsvAffected.{OsvAffected}
 use Rattle.rustsec_osv_evaluation.specs.Document.{ranges_of}
-use Rattle.rustsec_osv_evaluation.specs.Pairs.{at}
+use Rattle.rustsec_osv_evaluation.specs.Event.{seen, version_of}
+
+-- the version of an event
+abbrev pub at : Event → Parts
+at e = version_of (seen e)
 
 -- each event is at or below the next one, in precedence
 abbrev pub rise : List Event → Bool

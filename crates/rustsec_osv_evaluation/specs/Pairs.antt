@@ -1,16 +1,11 @@
 -- Documents without two events at one version. It carries meaning: public contracts cite it.
-use Rattle.std.specs.Prelude.{◌≡◌, ◌&&◌, Bool, List, [], ◌∷◌, false, if◌then◌else◌, map, option_map}
+use Rattle.std.specs.Prelude.{◌≡◌, ◌&&◌, Bool, List, [], ◌∷◌, false, if◌then◌else◌, map, not, option_map, true}
 use Rattle.std.specs.List.{AllPairs}
-use Rattle.semver.specs.Parse.{Parts}
 use Rattle.rustsec_versions.specs.order.Precedence.{is_at_most}
-use Rattle.rustsec_osv.specs.DocumentEvents.{Event, JsonRange}
+use Rattle.rustsec_osv.specs.DocumentEvents.{Event, JsonRange, fixed, introduced, last_affected}
 use Rattle.rustsec_osv.specs.Documents.{Document}
 use Rattle.rustsec_osv.specs.declared.affected.OsvAffected.{OsvAffected}
-use Rattle.rustsec_osv_evaluation.specs.Event.{seen, version_of}
-
--- the version of an event
-abbrev pub at : Event → Parts
-at e = version_of (seen e)
+use Rattle.rustsec_osv_evaluation.specs.Order.{at, rise}
 
 -- whether two events are at one version, by precedence
 abbrev pub are_at_one : Event → Event → Bool
@@ -27,8 +22,24 @@ normalized [] = []
 normalized (e ∷ []) = e ∷ []
 normalized (e ∷ f ∷ es) = if are_at_one e f then normalized es else e ∷ normalized (f ∷ es)
 
+-- whether an event is the next one in turn: an introduction if the flag is set, else a fix
+abbrev pub has_turn : Bool → Event → Bool
+has_turn introduction (introduced v) = introduction
+has_turn introduction (fixed v) = not introduction
+has_turn introduction (last_affected v) = false
+
+-- whether introductions and fixes take turns; the first one is an introduction if the flag is set, else a fix
+abbrev pub take_turns : Bool → List Event → Bool
+take_turns introduction [] = true
+take_turns introduction (e ∷ es) = has_turn introduction e && take_turns (not introduction) es
+
+-- a range without the pairs, if its events take turns, an introduction first, and rise. Each pair is then an introduction and a fix with no version between
+-- them. Any other range stays as it is, since a pair in it may decide a version
 abbrev pub normalized_range : JsonRange → JsonRange
-normalized_range r = record { kind = r.kind; events = normalized r.events }
+normalized_range r = record {
+  kind = r.kind;
+  events = if take_turns true r.events && rise r.events then normalized r.events else r.events;
+}
 
 abbrev pub normalized_member : OsvAffected → OsvAffected
 normalized_member a = record {
@@ -39,7 +50,7 @@ normalized_member a = record {
   versions = a.versions;
 }
 
--- a document whose ranges have no such pairs; all else is the same
+-- a document with each range normalized; all else is the same
 abbrev pub normalized_document : Document → Document
 normalized_document d = record {
   schema_version = d.schema_version;

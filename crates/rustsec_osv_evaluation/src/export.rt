@@ -34,6 +34,9 @@ pub fn document_of(alloc: Global, advisory: Advisory, modified: &str) -> Result<
     ensures normalized { IfOk result (λ d. (v : Parts) (answer : Bool) → IsVersion v
         → IsAnswer (codes "crates.io") advisory.metadata.«package» v (normalized_document d) answer → answer ≡ affected advisory.versions v) }
 
+    // No two events are then at one version.
+    ensures bare { IfOk result (λ d. HaveOwnVersions (document_events (normalized_document d))) }
+
     // The versions of its events rise, an order that the schema does not require.
     ensures ordered { IfOk result (λ d. has_ordered_events d ≡ true) }
     ensures err { IfErr result (λ e. IsRefusal ErrorKind.BadParam (HasUnboundedInterval advisory.versions) e

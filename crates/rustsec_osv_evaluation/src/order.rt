@@ -3,13 +3,23 @@
 ghost use Rattle.std.specs.Prelude.{◌≡◌, map, option_map};
 ghost use Rattle.std.specs.List.{list_all};
 ghost use Rattle.rustsec_osv.specs.DocumentEvents.{event_of};
-ghost use Rattle.rustsec_osv_evaluation.specs.Order.{follows, has_ordered_events, is_ordered_member, is_ordered_range, rise};
+ghost use Rattle.rustsec_osv_evaluation.specs.Order.{at, follows, has_ordered_events, is_ordered_member, is_ordered_range, rise};
 ghost use Rattle.semver.specs.Identifiers.{parts_of};
 
 use crate::affected::ranges_of;
-use crate::pairs::at;
 use rustsec_osv::{OsvAdvisory, OsvAffected, OsvJsonRange, OsvTimelineEvent};
 use semver::Version;
+
+/// Returns the version of an event.
+pub(crate) fn at(event: &OsvTimelineEvent) -> &Version
+    ensures { parts_of result.now ≡ at (event_of event.now) }
+{
+    match event {
+        OsvTimelineEvent::Introduced(version) => version,
+        OsvTimelineEvent::Fixed(version) => version,
+        OsvTimelineEvent::LastAffected(version) => version,
+    }
+}
 
 /// Returns whether an event is at or above a version, if any.
 fn follows(event: &OsvTimelineEvent, before: Option<&Version>) -> bool
@@ -23,7 +33,7 @@ fn follows(event: &OsvTimelineEvent, before: Option<&Version>) -> bool
 
 /// Returns whether the versions of events rise.
 #[tactic(auto, using(crate::proofs::Ordered::rise_more, crate::proofs::Ordered::rise_stop, crate::proofs::Ordered::rise_end))]
-fn rise(events: &[OsvTimelineEvent]) -> bool
+pub(crate) fn rise(events: &[OsvTimelineEvent]) -> bool
     ensures { result ≡ rise (map event_of events.now) }
 {
     let mut before: Option<&Version> = None;

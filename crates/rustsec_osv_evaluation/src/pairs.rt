@@ -1,28 +1,18 @@
 //! Drops the pairs of events at one version from a document.
 
-ghost use Rattle.std.specs.Prelude.{◌≡◌, IfErr, IfOk, map, option_map};
+ghost use Rattle.std.specs.Prelude.{◌≡◌, ℕ, Bool, IfErr, IfOk, List, map, option_map, true};
 ghost use Rattle.rustsec_osv.specs.DocumentEvents.{event_of};
-ghost use Rattle.rustsec_osv_evaluation.specs.Pairs.{are_at_one, at, normalized, normalized_document, normalized_member, normalized_range};
+ghost use Rattle.semver.specs.Parse.{Parts};
+ghost use Rattle.rustsec_osv_evaluation.specs.Document.{IsAnswer, says_as_given};
+ghost use Rattle.rustsec_osv_evaluation.specs.Pairs.{are_at_one, has_turn, normalized, normalized_document, normalized_member, normalized_range, take_turns};
 ghost use Rattle.rustsec_error.specs.Failure.{IsMemory};
-ghost use Rattle.semver.specs.Identifiers.{parts_of};
 
+use crate::order::{at, rise};
 use rustsec_error::Result;
 use rustsec_osv::{OsvAdvisory, OsvAffected, OsvJsonRange, OsvTimelineEvent};
 use rustsec_values::Items;
-use semver::Version;
 use std::alloc::{AllocError, Global};
 use std::mem;
-
-/// Returns the version of an event.
-pub(crate) fn at(event: &OsvTimelineEvent) -> &Version
-    ensures { parts_of result.now ≡ at (event_of event.now) }
-{
-    match event {
-        OsvTimelineEvent::Introduced(version) => version,
-        OsvTimelineEvent::Fixed(version) => version,
-        OsvTimelineEvent::LastAffected(version) => version,
-    }
-}
 
 /// Returns whether two events are at one version, by precedence.
 fn are_at_one(event: &OsvTimelineEvent, other: &OsvTimelineEvent) -> bool
@@ -60,8 +50,8 @@ fn normalized_events(
 }
 
 /// Returns a range without such pairs.
-fn normalized_range(alloc: Global, range: &OsvJsonRange) -> Result<OsvJsonRange>
-    ensures ok { IfOk result (λ r. r ≡ normalized_range range.now) }
+fn without_pairs(alloc: Global, range: &OsvJsonRange) -> Result<OsvJsonRange>
+    ensures ok { IfOk result (λ r. r ≡ record { kind = range.now.kind; events = normalized range.now.events }) }
     ensures err { IfErr result IsMemory }
 {
     let mut copy = range.clone(alloc)?;
@@ -70,7 +60,44 @@ fn normalized_range(alloc: Global, range: &OsvJsonRange) -> Result<OsvJsonRange>
     Ok(copy)
 }
 
-/// Returns ranges without such pairs.
+/// Returns whether an event is the next one in turn: an introduction if `introduction` is set, else a fix.
+fn has_turn(event: &OsvTimelineEvent, introduction: bool) -> bool
+    ensures { result ≡ has_turn introduction (event_of event.now) }
+{
+    match event {
+        OsvTimelineEvent::Introduced(_) => introduction,
+        OsvTimelineEvent::Fixed(_) => !introduction,
+        OsvTimelineEvent::LastAffected(_) => false,
+    }
+}
+
+/// Returns whether introductions and fixes take turns, an introduction first.
+#[tactic(auto, using(crate::proofs::TakingTurns::turns_more, crate::proofs::TakingTurns::turns_stop, crate::proofs::TakingTurns::turns_end))]
+fn take_turns(events: &[OsvTimelineEvent]) -> bool
+    ensures { result ≡ take_turns true (map event_of events.now) }
+{
+    let mut introduction = true;
+    for event in events {
+        if !has_turn(event, introduction) {
+            return false;
+        }
+        introduction = !introduction;
+    }
+    true
+}
+
+/// Returns a range without such pairs if its events take turns and rise, or else a copy of it.
+fn normalized_range(alloc: Global, range: &OsvJsonRange) -> Result<OsvJsonRange>
+    ensures ok { IfOk result (λ r. r ≡ normalized_range range.now) }
+    ensures err { IfErr result IsMemory }
+{
+    if take_turns(&range.events) && rise(&range.events) {
+        return without_pairs(alloc, range);
+    }
+    range.clone(alloc)
+}
+
+/// Returns ranges, each of them normalized.
 fn normalized_ranges(alloc: Global, ranges: &[OsvJsonRange]) -> Result<Items<OsvJsonRange>>
     ensures ok { IfOk result (λ rs. rs ≡ map normalized_range ranges.now) }
     ensures err { IfErr result IsMemory }
@@ -82,7 +109,7 @@ fn normalized_ranges(alloc: Global, ranges: &[OsvJsonRange]) -> Result<Items<Osv
     Ok(all)
 }
 
-/// Returns a member without such pairs.
+/// Returns a member whose ranges are normalized.
 fn normalized_member(alloc: Global, member: &OsvAffected) -> Result<OsvAffected>
     ensures ok { IfOk result (λ m. m ≡ normalized_member member.now) }
     ensures err { IfErr result IsMemory }
@@ -94,7 +121,7 @@ fn normalized_member(alloc: Global, member: &OsvAffected) -> Result<OsvAffected>
     Ok(copy)
 }
 
-/// Returns members without such pairs.
+/// Returns members whose ranges are normalized.
 fn normalized_members(alloc: Global, members: &[OsvAffected]) -> Result<Items<OsvAffected>>
     ensures ok { IfOk result (λ ms. ms ≡ map normalized_member members.now) }
     ensures err { IfErr result IsMemory }
@@ -106,14 +133,23 @@ fn normalized_members(alloc: Global, members: &[OsvAffected]) -> Result<Items<Os
     Ok(all)
 }
 
-/// Returns a document without the pairs of neighbouring events at one version; all else is the same. In an exported
-/// document the events of such a pair are an introduction and a fix, in either order, with no version between them.
+/// Returns a document without the introductions and fixes that are beside each other at one version, in ranges whose
+/// events take turns and rise; OSV's evaluation of every version stays the same. In an exported document no two events at
+/// one version are left.
 ///
 /// # Errors
 ///
 /// `OutOfMemory` alone.
 pub fn normalized(alloc: Global, document: OsvAdvisory) -> Result<OsvAdvisory>
     ensures ok { IfOk result (λ d. d ≡ normalized_document document) }
+
+    // Each answer of the evaluation of the result is an answer of that of the given document.
+    ensures keeps { IfOk result (λ d. (ecosystem name : List ℕ) (v : Parts) (answer : Bool)
+        → IsAnswer ecosystem name v d answer → IsAnswer ecosystem name v document answer) }
+
+    // With events in the order in which they are given, both have the same answer.
+    ensures same_verdict { IfOk result (λ d. (ecosystem name : List ℕ) (v : Parts)
+        → says_as_given ecosystem name v d ≡ says_as_given ecosystem name v document) }
     ensures err { IfErr result IsMemory }
 {
     let affected = normalized_members(alloc, document.affected.as_slice())?;

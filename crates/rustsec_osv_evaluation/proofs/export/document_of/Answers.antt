@@ -1,4 +1,4 @@
-use Rattle.rustsec_osv_evaluation.proofs.Agreement.{evaluated-ok, normalized-ok}
+use Rattle.rustsec_osv_evaluation.proofs.Agreement.{bare-ok, evaluated-ok, normalized-ok}
 use Rattle.rustsec_osv_evaluation.proofs.Ordered.{ordered-ok}
 use Rattle.rustsec_osv_evaluation.proofs.export.document_of.Goals as goal
 
@@ -9,6 +9,10 @@ returns-clause-evaluated c =
 pub returns-clause-normalized : goal.returns-clause-normalized
 returns-clause-normalized c =
     normalized-ok c.args.advisory c.args.modified.now c.from_rustsec.result c.from_rustsec.ensures.ok c.from_rustsec.ensures.events
+
+pub returns-clause-bare : goal.returns-clause-bare
+returns-clause-bare c =
+    bare-ok c.args.advisory c.args.modified.now c.from_rustsec.result c.from_rustsec.ensures.ok c.from_rustsec.ensures.events
 
 pub returns-clause-ordered : goal.returns-clause-ordered
 returns-clause-ordered c = ordered-ok c.args.advisory c.args.modified.now c.from_rustsec.result c.from_rustsec.ensures.ok
