@@ -5,6 +5,7 @@ import os
 import re
 
 import advisories
+import case_files
 import databases
 import grammars
 import lines
@@ -29,15 +30,11 @@ def unescaped(literal):
     return re.sub(r"\\(.)", lambda m: ESCAPES.get(m[1], m[1]), literal)
 
 
-TEST_CRATES = (
-    "rustsec_fixtures", "rustsec_tests", "rustsec_vectors",
-    "rustsec_vectors_databases", "rustsec_vectors_commands", "rustsec_vectors_parts", "rustsec_vectors_checks",
-    "rustsec_vectors_maintenance",
-)
+TEST_CRATES = ("rustsec_fixtures", "rustsec_vectors", "rustsec_vectors_parts")
 
 
 def texts_of_tests():
-    """Each text that a test has written out."""
+    """Each text that a test has written out, and each file and input of a case."""
     found = set()
     for crate in TEST_CRATES:
         folder = os.path.join(TOP, "crates", crate, "src")
@@ -46,6 +43,9 @@ def texts_of_tests():
                 source = f.read()
             for raw, plain in re.findall(r'r#"(.*?)"#|"((?:[^"\\]|\\.)*)"', source, re.S):
                 found.add(raw or unescaped(plain))
+    for case in case_files.read_all(case_files.DATA)[0]:
+        for contents in [case.input, *(contents for _, contents in case.files if contents)]:
+            found.add(contents.decode(errors="ignore"))
     return sorted(found)
 
 

@@ -1,10 +1,12 @@
-"""A sample of inputs and answers that both programs agree on, as rows of a test table."""
+"""A sample of inputs and answers that both programs agree on, as cases."""
+import os
 import re
 
+import case_files
 import rules
 
-WIDTH = 100
-PAIR = 60  # a pair that is longer is laid out over four lines; at most half of the pairs are
+WIDTH = 100  # the most bytes of an input with its answer
+PAIR = 60  # the most of half of those that are accepted
 COMMANDS = ("affected", "ranges")
 SHARES = {"accepted": 0.5, "refused": 0.25, "malformed": 0.25}
 
@@ -87,16 +89,9 @@ def features(command, data, answer):
     return {(command, kind, *f) for f in found}
 
 
-def literal(data):
-    """A byte string as source text."""
-    out = "".join(
-        {10: "\\n", 13: "\\r", 9: "\\t", 34: '\\"', 92: "\\\\"}.get(b, chr(b) if 32 <= b < 127 else f"\\x{b:02x}") for b in data
-    )
-    return f'b"{out}"'
-
-
-def row(command, data, answer):
-    return f'    ("{command}", {literal(data)}, {answer[1]}, {literal(answer[0])}),'
+def width(data, answer):
+    """How many bytes an input and its answer have."""
+    return len(data) + len(answer[0])
 
 
 def chosen(cases, count):
@@ -104,7 +99,7 @@ def chosen(cases, count):
     case that shows the most new features for its length."""
     pools = {(command, kind): {} for command in COMMANDS for kind in SHARES}
     for command, data, ours, theirs in cases:
-        if ours == theirs and data and len(row(command, data, ours)) <= WIDTH:
+        if ours == theirs and data and width(data, ours) <= WIDTH:
             pools[command, kind_of(ours)][data] = (features(command, data, ours), ours)
     rows = {command: [] for command in COMMANDS}
     shown = set()
@@ -112,7 +107,7 @@ def chosen(cases, count):
         wanted = int(count / len(COMMANDS) * SHARES[kind])
         for at in range(min(len(pool), wanted)):
             if kind == "accepted" and at == wanted // 2:
-                pool = {data: case for data, case in pool.items() if len(literal(data) + literal(case[1][0])) + 2 <= PAIR}
+                pool = {data: case for data, case in pool.items() if width(data, case[1]) <= PAIR}
             data = max(pool, key=lambda data: (len(pool[data][0] - shown) / (60 + len(data)), data))
             found, answer = pool.pop(data)
             shown |= found
@@ -121,116 +116,33 @@ def chosen(cases, count):
     return {command: sorted(found, key=order) for command, found in rows.items()}
 
 
-def table(rows):
-    return "".join(row(command, *case) + "\n" for command in COMMANDS for case in rows[command])
-
-
-HEAD = """\
-// Answers of the program that agree with those of the Rust crate, a sample of random inputs. Made by
-// `bench/compare OURS THEIRS --seed {seed} --count {count} --sample {sample} --module`.
-
-use crate::written::writes;
-use std::alloc::Global;
-use std::process::Abort;
-use std::rt::Files;
-use std::test::Fail;
-"""
-
-HELPERS = """
-/// Checks what a command writes for inputs, with status 0.
-fn expect_answers<T: Files + AllocGlobal + Abort>(
-    rt: &T,
-    command: &str,
-    rows: &[(&[u8], &[u8])],
-) -> Result<(), Fail> {
-    for (input, text) in rows {
-        assert!(rt;
-            writes(rt, &[command], input, 0, text)?,
-            "for {input:?}: not {text:?}"
-        );
-    }
-    Ok(())
+# What a case shows of each kind of answers.
+SENTENCES = {
+    ("affected", "accepted"): "writes the same verdict", ("ranges", "accepted"): "writes the same ranges",
+    ("affected", "refused"): "refuses the lists too", ("ranges", "refused"): "refuses the lists too",
+    ("affected", "malformed"): "calls the same line malformed", ("ranges", "malformed"): "calls the same line malformed",
 }
 
-/// What is written of a malformed line.
-fn malformed(alloc: Global, number: u8) -> Result<String, Fail> {
-    Ok(format!(in alloc; "line {number}: malformed\\n")?)
-}
 
-/// Whether a command says of an input that this line is malformed, with status 2.
-fn names_line<T: Files + AllocGlobal>(
-    rt: &T,
-    command: &str,
-    input: &[u8],
-    number: u8,
-) -> Result<bool, Fail> {
-    let text = malformed(rt.alloc(), number)?;
-    writes(rt, &[command], input, 2, text.as_bytes())
-}
-
-/// Checks that a command says of inputs which line is malformed.
-fn expect_malformed<T: Files + AllocGlobal + Abort>(
-    rt: &T,
-    command: &str,
-    rows: &[(&[u8], u8)],
-) -> Result<(), Fail> {
-    for (input, number) in rows {
-        assert!(rt;
-            names_line(rt, command, input, *number)?,
-            "line {number} of {input:?}"
-        );
-    }
-    Ok(())
-}
-
-/// Checks that a command refuses the lists of inputs, with status 2.
-fn expect_refused<T: Files + AllocGlobal + Abort>(
-    rt: &T,
-    command: &str,
-    inputs: &[&[u8]],
-) -> Result<(), Fail> {
-    for input in inputs {
-        let holds = writes(rt, &[command], input, 2, b"refused: bad parameter\\n")?;
-        assert!(rt; holds, "for {input:?}");
-    }
-    Ok(())
-}
-"""
-
-TEST = """
-#[test]
-fn sampled_{command}(rt: HostRuntime) -> Result<(), Fail> {{
-    expect_answers(&rt, "{command}", &{COMMAND})?;
-    expect_malformed(&rt, "{command}", &{COMMAND}_MALFORMED)?;
-    expect_refused(&rt, "{command}", &{COMMAND}_REFUSED)
-}}
-"""
+def case(command, number, data, answer):
+    """The name and the text of a case of an input that both programs answer alike."""
+    kind, (text, status) = kind_of(answer), answer
+    name = f"sampled-{command}-{'answer' if kind == 'accepted' else kind}-{number:02}"
+    mark, own = case_files.written(data)
+    return name, (f"A random input, number {number}: the Rust crate's program {SENTENCES[command, kind]}.\n\n$ {command}\n"
+                  f"-- {mark}input --\n{own}-- output --\n{text.decode()}-- status {status} --\n")
 
 
-def pair(data, text):
-    left, right = literal(data), literal(text)
-    if len(left + right) + 2 <= PAIR:
-        return f"({left}, {right})"
-    return f"(\n        {left},\n        {right},\n    )"
-
-
-def tables(command, rows):
-    """The rows of a command by kind: inputs with what is written, with the malformed line, refused ones."""
-    of = {kind: [case for case in rows if kind_of(case[1]) == kind] for kind in SHARES}
-    forms = [
-        ("", "(&[u8], &[u8])", "with what is written", of["accepted"], pair),
-        ("_MALFORMED", "(&[u8], u8)", "with the number of the malformed line", of["malformed"],
-         lambda data, text: f"({literal(data)}, {text.split(b':')[0].split()[1].decode()})"),
-        ("_REFUSED", "&[u8]", "whose lists are not accepted", of["refused"], lambda data, text: literal(data)),
-    ]
-    out = ""
-    for name, form, what, cases, shown in forms:
-        out += f"\n/// Inputs of `{command}` {what}.\nconst {command.upper()}{name}: [{form}; {len(cases)}] = [\n"
-        out += "".join(f"    {shown(data, answer[0])},\n" for data, answer in cases) + "];\n"
-    return out
-
-
-def module(rows, options):
-    out = HEAD.format(seed=options.seed, count=options.count, sample=options.sample)
-    out += "".join(tables(command, rows[command]) for command in COMMANDS) + HELPERS
-    return out + "".join(TEST.format(command=command, COMMAND=command.upper()) for command in COMMANDS)
+def write_cases(rows, folder):
+    """Writes a case for each row below a folder, in the folder of its command. Returns how many there are."""
+    count = 0
+    for command in COMMANDS:
+        numbers = dict.fromkeys(SHARES, 0)
+        os.makedirs(os.path.join(folder, command), exist_ok=True)
+        for data, answer in rows[command]:
+            numbers[kind_of(answer)] += 1
+            name, text = case(command, numbers[kind_of(answer)], data, answer)
+            with open(os.path.join(folder, command, f"{name}.case"), "w", encoding="utf-8") as it:
+                it.write(text)
+            count += 1
+    return count

@@ -1,24 +1,21 @@
-//! Worked examples of versions, requirements, small texts, lockfiles, look-ups and fixes, each a test with a name of its
-//! own. Expected values come from outside: from the rules in `docs/DEFINITIONS.md`, worked by hand, or from the Rust
-//! crate.
+//! Worked examples of calls: versions, requirements, small texts, lockfiles, look-ups, fixes and reports, advisories,
+//! databases, queries, and refusals of OSV documents. A row of a table begins with the name of its example where the
+//! examples of a table differ. Expected values come from outside: from the rules in `docs/DEFINITIONS.md`, worked by
+//! hand, from the Rust crate, or from the program that a table names.
 #![tactic(auto)]
 
 #[cfg(test)]
-mod advisory_parts;
+mod addresses;
 #[cfg(test)]
-mod comparisons;
+mod advisories;
+#[cfg(test)]
+mod categories_and_licenses;
 #[cfg(test)]
 mod cvss;
 #[cfg(test)]
-mod dates;
+mod databases;
 #[cfg(test)]
 mod fixes;
-#[cfg(test)]
-mod function_paths;
-#[cfg(test)]
-mod ids;
-#[cfg(test)]
-mod informational;
 #[cfg(test)]
 mod intervals;
 #[cfg(test)]
@@ -26,16 +23,28 @@ mod lockfiles;
 #[cfg(test)]
 mod lookups;
 #[cfg(test)]
-mod merges;
+mod orders;
+#[cfg(test)]
+mod osv_refusals;
+#[cfg(test)]
+mod package_folders;
 #[cfg(test)]
 mod packages;
 #[cfg(test)]
-mod platforms;
+mod queries;
 #[cfg(test)]
-mod readme;
+mod refused;
 #[cfg(test)]
-mod sources;
+mod reports;
 #[cfg(test)]
-mod successors;
+mod rows;
+#[cfg(test)]
+mod scores;
+#[cfg(test)]
+mod spans;
+#[cfg(test)]
+mod stored;
+#[cfg(test)]
+mod texts;
 #[cfg(test)]
 mod verdicts;

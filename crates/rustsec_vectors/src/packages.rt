@@ -1,38 +1,22 @@
-//! Names and packages of lockfiles.
+//! Names, sources and packages of lockfiles.
 
-use rustsec_error::ErrorKind;
-use rustsec_fixtures::{kind_of, version};
+use crate::rows::{field, is_copied, prints};
+use rustsec_fixtures::version;
 use rustsec_lock::SourceId;
 use rustsec_lock::package::{Name, Package};
 use rustsec_values::Text;
 use std::alloc::Global;
-use std::cmp::Ordering;
-use std::process::Abort;
 use std::test::Fail;
 
-/// A package: its name, version, source and checksum.
-pub type Row = (
-    &'static str,
-    &'static str,
-    Option<&'static str>,
-    Option<&'static str>,
-);
+/// The registry crates.io, by its index in git.
+pub(crate) const GIT_INDEX: &str = "registry+https://github.com/rust-lang/crates.io-index";
 
-/// Packages in their order.
-const ORDERED: &[Row] = &[
-    ("Base", "9.0.0", Some("registry+https://a/"), Some("9")),
-    ("base", "1.0.0-rc.1", None, None),
-    ("base", "1.0.0", None, None),
-    ("base", "1.0.0", None, Some("00")),
-    ("base", "1.0.0", None, Some("01")),
-    ("base", "1.0.0", Some("git+https://a/"), None),
-    ("base", "1.0.0", Some("registry+https://a/"), None),
-    ("base", "1.0.0+a", None, None),
-    ("base", "1.0.1", None, None),
-    ("base-x", "0.1.0", None, None),
-];
+/// Returns the word of a line at a place, unless there is none or a dash.
+fn word(line: &str, place: usize) -> Option<&str> {
+    let word = line.split(' ').nth(place)?;
+    (word != "-").then_some(word)
+}
 
-/// Returns the source of a text, if any.
 fn source(alloc: Global, text: Option<&str>) -> Result<Option<SourceId>, Fail> {
     match text {
         Some(url) => Ok(Some(SourceId::from_url(alloc, url)?)),
@@ -40,100 +24,95 @@ fn source(alloc: Global, text: Option<&str>) -> Result<Option<SourceId>, Fail> {
     }
 }
 
-/// Returns the text of a checksum, if any.
-fn checksum(alloc: Global, text: Option<&str>) -> Result<Option<Text>, Fail> {
-    match text {
-        Some(text) => Ok(Some(Text::from_str(alloc, text)?)),
-        None => Ok(None),
-    }
-}
-
-/// Returns the package of a row.
-pub fn package(alloc: Global, row: &Row) -> Result<Package, Fail> {
+/// Returns the package of a line: its name, its version, and its source and checksum, or a dash for each.
+pub(crate) fn package(alloc: Global, line: &str) -> Result<Package, Fail> {
     Ok(Package {
-        name: Name::from_str(alloc, row.0)?,
-        version: version(alloc, row.1)?,
-        source: source(alloc, row.2)?,
-        checksum: checksum(alloc, row.3)?,
+        name: Name::from_str(alloc, word(line, 0).unwrap_or(""))?,
+        version: version(alloc, word(line, 1).unwrap_or(""))?,
+        source: source(alloc, word(line, 2))?,
+        checksum: Text::from_option(alloc, word(line, 3))?,
     })
 }
 
-/// Compares a package with that of a row; none if their order and their equality differ.
-fn order_beside(alloc: Global, low: &Package, high: &Row) -> Result<Option<Ordering>, Fail> {
-    let high = package(alloc, high)?;
-    let order = low.cmp(&high);
-    Ok((order.is_eq() == (*low == high)).then_some(order))
-}
-
-/// Returns whether a row's package compares so with that of another row.
-fn stands(alloc: Global, low: &Row, high: &Row, order: Ordering) -> Result<bool, Fail> {
-    let low = package(alloc, low)?;
-    Ok(order_beside(alloc, &low, high)? == Some(order))
-}
-
-/// Checks that a package compares with those of a list as its place does.
-fn expect_place<T: AllocGlobal + Abort>(
-    rt: &T,
-    place: usize,
-    row: &Row,
-    rising: &[Row],
-) -> Result<(), Fail> {
-    for (i, other) in rising.iter().enumerate() {
-        assert!(rt;
-            stands(rt.alloc(), row, other, place.cmp(&i))?,
-            "at {place} and {i}"
-        );
-    }
-    Ok(())
-}
-
-#[test]
-fn package_order(rt: HostRuntime) -> Result<(), Fail> {
-    for (i, row) in ORDERED.iter().enumerate() {
-        expect_place(&rt, i, row, ORDERED)?;
-    }
-    Ok(())
-}
-
-/// Returns whether a copy of a row's package is equal to it.
-fn is_copied(alloc: Global, row: &Row) -> Result<bool, Fail> {
-    let package = package(alloc, row)?;
-    let copy = package.clone(alloc)?;
-    Ok(copy == package)
+/// Returns a package of this name and version from crates.io.
+pub(crate) fn published(alloc: Global, name: &str, version: &str) -> Result<Package, Fail> {
+    let line = format!(in alloc; "{name} {version} {GIT_INDEX}")?;
+    package(alloc, &line)
 }
 
 #[test]
 fn package_copies(rt: HostRuntime) -> Result<(), Fail> {
-    let row = ("base", "1.0.0+a", Some("git+https://a/"), Some("00"));
-    assert!(rt; is_copied(rt.alloc(), &row)?);
+    let package = package(rt.alloc(), "base 1.0.0+a git+https://a/ 00")?;
+    assert!(rt; is_copied(&package)?);
     Ok(())
 }
 
-/// Returns whether a name prints as a text.
-fn prints(alloc: Global, name: &Name, text: &str) -> Result<bool, Fail> {
-    let printed = name.to_string(alloc)?;
-    Ok(printed.as_str() == text)
-}
-
-/// Returns whether a text is a name, and is kept, printed and copied.
 fn is_name(alloc: Global, text: &str) -> Result<bool, Fail> {
     let name = Name::from_str(alloc, text)?;
-    let copy = name.clone(alloc)?;
-    Ok(name.as_str() == text && copy == name && prints(alloc, &copy, text)?)
-}
-
-/// Compares the names of two texts.
-fn order_of_names(alloc: Global, low: &str, high: &str) -> Result<Ordering, Fail> {
-    let low = Name::from_str(alloc, low)?;
-    let high = Name::from_str(alloc, high)?;
-    Ok(low.cmp(&high))
+    Ok(name.as_str() == text && prints(alloc, &name, text)? && is_copied(&name)?)
 }
 
 #[test]
 fn names(rt: HostRuntime) -> Result<(), Fail> {
     assert!(rt; is_name(rt.alloc(), "é base\n")?);
-    assert!(rt; order_of_names(rt.alloc(), "base", "é base\n")?.is_lt());
-    let refusal = kind_of(Name::from_str(rt.alloc(), ""));
-    assert!(rt; refusal == Some(ErrorKind::Parse));
+    Ok(())
+}
+
+/// Sources: their texts, their kinds, where they are found, and whether they are the default registry.
+const SOURCES: &str = "
+git+https://example.com/base?branch=x#abc | Git | https://example.com/base | other
+git+https://example.com/base#abc?x | Git | https://example.com/base | other
+git+ssh://git@example.com/base | Git | ssh://git@example.com/base | other
+registry+https://a/?b#c | Registry | https://a/?b#c | other
+registry+https://github.com/rust-lang/crates.io-index | Registry | https://github.com/rust-lang/crates.io-index | default
+sparse+https://index.crates.io/ | SparseRegistry | https://index.crates.io/ | default
+sparse+https://index.crates.io | SparseRegistry | https://index.crates.io | other
+registry+https://index.crates.io/ | Registry | https://index.crates.io/ | other
+sparse+https://github.com/rust-lang/crates.io-index | SparseRegistry | https://github.com/rust-lang/crates.io-index | other
+path+file:///a+b | Path | file:///a+b | other
+local-registry+file:///a | LocalRegistry | file:///a | other
+directory+file:///a | Directory | file:///a | other
+";
+
+fn has_parts(alloc: Global, source: &SourceId, kind: &str, url: &str) -> Result<bool, Fail> {
+    let found = format!(in alloc; "{:?}", source.kind())?;
+    Ok(found.as_str() == kind && source.url() == url)
+}
+
+/// Returns whether a text is a source with these parts, and is printed and copied.
+fn is_source(
+    alloc: Global,
+    text: &str,
+    kind: &str,
+    url: &str,
+    is_default: bool,
+) -> Result<bool, Fail> {
+    let source = SourceId::from_url(alloc, text)?;
+    Ok(
+        source.is_default_registry() == is_default
+            && has_parts(alloc, &source, kind, url)?
+            && prints(alloc, &source, text)?
+            && is_copied(&source)?,
+    )
+}
+
+fn is_row(alloc: Global, row: &str) -> Result<bool, Fail> {
+    let (text, kind, url) = (field(row, 0), field(row, 1), field(row, 2));
+    is_source(alloc, text, kind, url, field(row, 3) == "default")
+}
+
+#[test]
+fn source_ids(rt: HostRuntime) -> Result<(), Fail> {
+    for row in SOURCES.trim().lines() {
+        assert!(rt; is_row(rt.alloc(), row)?, "{row}");
+    }
+    assert!(rt; is_source(rt.alloc(), "registry+ ", "Registry", " ", false)?);
+    Ok(())
+}
+
+#[test]
+fn default_source_id(rt: HostRuntime) -> Result<(), Fail> {
+    let source = SourceId::default(rt.alloc())?;
+    assert!(rt; prints(rt.alloc(), &source, GIT_INDEX)?);
     Ok(())
 }

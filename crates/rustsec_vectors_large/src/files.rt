@@ -1,361 +1,166 @@
-//! Databases of thousands of files, and lockfiles of thousands of packages.
+//! Databases of thousands of files, lockfiles of thousands of packages, and reports on them, also by an advisory with a
+//! description of a megabyte.
 
-use crate::folders::{FOLDER, advisory_text, id_of, output_over};
-use crate::numbers::{ADVISORIES, PACKAGES, numbered, occurrences};
+use crate::folders::{entries_of, files_of, output_by, packages, rows_of, source_file};
+use crate::numbers::{COUNT, MANY, MEGABYTE, filled, occurrences};
 use rustsec::database::{Database, Query};
 use rustsec::report::{Report, Settings};
 use rustsec_commands::write_audit;
 use rustsec_error::ErrorKind;
-use rustsec_files::path::FilePath;
-use rustsec_fixtures::{Failing, Holds, MemoryFolders, Paths};
+use rustsec_fixtures::{Failing, MemoryFolders, Paths};
 use rustsec_folders::{SourceFile, source_files};
 use rustsec_lock::Lockfile;
 use rustsec_lock::package::Name;
-use rustsec_texts::Collection;
-use rustsec_values::Text;
+use rustsec_texts::{Collection, Id, Informational};
 use std::alloc::Global;
-use std::ops::Range;
 use std::str;
 use std::test::Fail;
 
-/// The package with a number, in a lockfile.
-const PACKAGE: &str = "[[package]]\nname = \"package-@\"\nversion = \"0.0.@\"\n\
-    source = \"registry+https://github.com/rust-lang/crates.io-index\"\n";
-
-/// The package `base` in a version with a number, in a lockfile.
-pub(crate) const BASE: &str = "[[package]]\nname = \"base\"\nversion = \"0.0.@\"\n\
-    source = \"registry+https://github.com/rust-lang/crates.io-index\"\n";
-
-/// Returns the file of the advisory with a number.
-fn source_file(alloc: Global, number: u32) -> Result<SourceFile, Fail> {
-    let id = id_of(alloc, number)?;
-    let path = format!(in alloc; "{FOLDER}/{id}.md")?;
-    Ok(SourceFile {
-        path: Text::from(path),
-        text: advisory_text(alloc, &id)?,
-    })
-}
-
-/// Returns the files of the advisories with these numbers.
-fn files_of(alloc: Global, numbers: Range<u32>) -> Result<Vec<SourceFile>, Fail> {
-    let mut files = Vec::new(alloc);
-    for number in numbers {
-        files.push(source_file(alloc, number)?)?;
-    }
-    Ok(files)
-}
-
 /// Returns the database of this many advisories.
 fn database(alloc: Global, count: u32) -> Result<Database, Fail> {
-    let files = files_of(alloc, 0..count)?;
+    let files = files_of(alloc, 0..count, false)?;
     Ok(Database::load(alloc, &files)?)
 }
 
-/// Returns how many advisories a query gives.
-fn found(alloc: Global, database: &Database, query: &Query) -> Result<usize, Fail> {
-    let advisories = database.query(alloc, query)?;
-    Ok(advisories.len())
+/// Returns a lockfile of this many packages, and of `base` in this many vulnerable versions.
+fn lockfile(alloc: Global, others: u32, vulnerable: u32) -> Result<String, Fail> {
+    let mut text = packages(alloc, others, "package-$", "0.0.$")?;
+    text.push_str(&packages(alloc, vulnerable, "base", "0.0.$")?)?;
+    Ok(text)
 }
+
+/// Two numbers of elements.
+type Counts = (usize, usize);
 
 /// Returns how many advisories there are, and how many the index gives for crates of a name.
-fn counts(alloc: Global, database: &Database, name: &str) -> Result<(usize, usize), Fail> {
-    let all = found(alloc, database, &Query::new(alloc))?;
+fn counts(alloc: Global, database: &Database, name: &str) -> Result<Counts, Fail> {
+    let all = database.query(alloc, &Query::new(alloc))?.len();
     let query = Query::new(alloc).collection(Collection::Crates);
     let query = query.package_name(Name::from_str(alloc, name)?);
-    Ok((all, found(alloc, database, &query)?))
-}
-
-/// Returns the counts of a database of thousands of files.
-fn large_counts(alloc: Global, name: &str) -> Result<(usize, usize), Fail> {
-    let database = database(alloc, ADVISORIES)?;
-    counts(alloc, &database, name)
+    Ok((all, database.query(alloc, &query)?.len()))
 }
 
 #[test]
 fn thousands_of_advisory_files(rt: HostRuntime) -> Result<(), Fail> {
-    let many = ADVISORIES as usize;
-    assert!(rt; large_counts(rt.alloc(), "base")? == (many, many));
-    assert!(rt; large_counts(rt.alloc(), "other")? == (many, 0));
+    let database = database(rt.alloc(), COUNT)?;
+    assert!(rt; counts(rt.alloc(), &database, "base")? == (MANY, MANY));
+    assert!(rt; counts(rt.alloc(), &database, "other")? == (MANY, 0));
     Ok(())
 }
 
-/// Returns how many packages a lockfile has, and of how many a report says that it is about them; how many
-/// vulnerabilities it lists.
-fn report_counts(
-    alloc: Global,
-    database: &Database,
-    lockfile: &str,
-) -> Result<(usize, usize, usize), Fail> {
-    let lockfile = Lockfile::from_str(alloc, lockfile)?;
+/// Returns whether a lockfile has as many packages as wanted, a report on them counts these, and it and both queries
+/// find as many vulnerabilities as wanted, the second number.
+fn finds(alloc: Global, database: &Database, text: &str, wanted: Counts) -> Result<bool, Fail> {
+    let lockfile = Lockfile::from_str(alloc, text)?;
+    let crates = database.vulnerabilities(alloc, &lockfile)?.len();
+    let all = database
+        .query_vulnerabilities(alloc, &lockfile, &Query::new(alloc))?
+        .len();
     let report = Report::generate(alloc, database, &lockfile, &Settings::new(alloc))?;
-    Ok((
-        lockfile.packages.len(),
-        report.lockfile.dependency_count,
-        report.vulnerabilities.list.len(),
-    ))
+    let (packages, found) = wanted;
+    let has_packages = lockfile.packages.len() == packages
+        && report.lockfile.dependency_count == packages;
+    let listed = report.vulnerabilities.list.len();
+    Ok(has_packages && listed == found && crates == found && all == found)
 }
 
-/// Returns the counts of the report on a lockfile by this many advisories.
-fn report_by(
-    alloc: Global,
-    advisories: u32,
-    lockfile: &str,
-) -> Result<(usize, usize, usize), Fail> {
+/// Returns whether that holds for this many advisories, packages, and versions of `base`.
+fn finds_by(alloc: Global, numbers: (u32, u32, u32), wanted: Counts) -> Result<bool, Fail> {
+    let (advisories, others, vulnerable) = numbers;
+    let lockfile = lockfile(alloc, others, vulnerable)?;
     let database = database(alloc, advisories)?;
-    report_counts(alloc, &database, lockfile)
-}
-
-/// Returns a lockfile of thousands of packages and one more, which is `base` in a vulnerable version.
-fn one_vulnerable(alloc: Global) -> Result<String, Fail> {
-    let packages = numbered(alloc, PACKAGES, PACKAGE)?;
-    let base = numbered(alloc, 1, BASE)?;
-    Ok(format!(in alloc; "{packages}{base}")?)
-}
-
-/// Returns the counts of the report on thousands of vulnerable packages by one advisory.
-fn report_on_vulnerable(alloc: Global) -> Result<(usize, usize, usize), Fail> {
-    let lockfile = numbered(alloc, PACKAGES, BASE)?;
-    report_by(alloc, 1, &lockfile)
-}
-
-/// Returns the counts of the report on one vulnerable package among thousands, by this many advisories.
-fn report_on_one(alloc: Global, advisories: u32) -> Result<(usize, usize, usize), Fail> {
-    let lockfile = one_vulnerable(alloc)?;
-    report_by(alloc, advisories, &lockfile)
-}
-
-#[test]
-fn thousands_of_packages(rt: HostRuntime) -> Result<(), Fail> {
-    let many = PACKAGES as usize;
-    assert!(rt; report_on_vulnerable(rt.alloc())? == (many, many, many));
-    assert!(rt; report_on_one(rt.alloc(), 1)? == (many + 1, many + 1, 1));
-    Ok(())
+    finds(alloc, &database, &lockfile, wanted)
 }
 
 #[test]
 fn thousands_of_packages_and_advisories(rt: HostRuntime) -> Result<(), Fail> {
-    let (packages, advisories) = (PACKAGES as usize + 1, ADVISORIES as usize);
-    assert!(rt; report_on_one(rt.alloc(), ADVISORIES)? == (packages, packages, advisories));
+    assert!(rt; finds_by(rt.alloc(), (1, 0, COUNT), (MANY, MANY))?);
+    assert!(rt; finds_by(rt.alloc(), (1, COUNT, 1), (MANY + 1, 1))?);
+    assert!(rt; finds_by(rt.alloc(), (COUNT, 0, 1), (1, MANY))?);
+    assert!(rt; finds_by(rt.alloc(), (COUNT, COUNT, 1), (MANY + 1, MANY))?);
     Ok(())
 }
 
-/// Returns whether a copy of thousands of packages is equal to them.
-fn packages_are_copied(alloc: Global) -> Result<bool, Fail> {
-    let text = one_vulnerable(alloc)?;
-    let lockfile = Lockfile::from_str(alloc, &text)?;
+/// Returns whether a copy of a report prints as the report does; whether `write_audit` lists each vulnerability of it,
+/// and counts them; and whether both hold for the report of thousands of texts, and it counts the packages.
+fn report_is_copied(alloc: Global, report: &Report) -> Result<bool, Fail> {
+    let printed = report.to_value(alloc)?.to_string(alloc)?;
+    let copy = report.clone(alloc)?;
+    Ok(copy.to_value(alloc)?.to_string(alloc)? == printed)
+}
+
+fn is_written(alloc: Global, report: &Report) -> Result<bool, Fail> {
+    let mut written = Vec::new(alloc);
+    let status = write_audit(alloc, report, false, &mut written)?;
+    Ok(status == 1 && lists_all(str::from_utf8(written.as_slice())?))
+}
+
+fn report_of_texts(alloc: Global, files: &[SourceFile], lockfile: &str) -> Result<bool, Fail> {
+    let report = Report::of_texts(alloc, files, lockfile, &Settings::new(alloc))?;
+    let packages = report.lockfile.dependency_count;
+    let is_copied = report_is_copied(alloc, &report)?;
+    Ok(packages == MANY + 1 && is_copied && is_written(alloc, &report)?)
+}
+
+/// Returns how many vulnerabilities a report of files and of a lockfile's table lists.
+fn listed_by_table(alloc: Global, files: &[SourceFile], lockfile: &str) -> Result<usize, Fail> {
+    let table = toml::table_from_str(alloc, lockfile)?;
+    let report = Report::of_files(alloc, files, &table, &Settings::new(alloc))?;
+    Ok(report.vulnerabilities.list.len())
+}
+
+/// Returns whether a copy of a lockfile's packages is equal to them.
+fn packages_are_copied(alloc: Global, text: &str) -> Result<bool, Fail> {
+    let lockfile = Lockfile::from_str(alloc, text)?;
     let copy = lockfile.clone(alloc)?;
     Ok(copy == lockfile)
 }
 
-/// Returns a report as it prints.
-fn printed(alloc: Global, report: &Report) -> Result<String, Fail> {
-    Ok(report.to_value(alloc)?.to_string(alloc)?)
-}
-
-/// Returns whether a copy of a report prints as the report does.
-fn report_is_copied(alloc: Global, report: &Report) -> Result<bool, Fail> {
-    let copy = report.clone(alloc)?;
-    Ok(printed(alloc, &copy)? == printed(alloc, report)?)
-}
-
-/// Returns the report of thousands of texts.
-fn large_report(alloc: Global) -> Result<Report, Fail> {
-    let files = files_of(alloc, 0..ADVISORIES)?;
-    let lockfile = one_vulnerable(alloc)?;
-    Ok(Report::of_texts(alloc, &files, &lockfile, &Settings::new(alloc))?)
-}
-
-/// Returns how many packages a report of thousands of texts is about and how many vulnerabilities it lists, and whether
-/// a copy of it prints as it does.
-fn report_of_texts(alloc: Global) -> Result<(usize, usize, bool), Fail> {
-    let report = large_report(alloc)?;
-    let is_copied = report_is_copied(alloc, &report)?;
-    let packages = report.lockfile.dependency_count;
-    Ok((packages, report.vulnerabilities.list.len(), is_copied))
-}
-
-/// Returns how many vulnerabilities a report of thousands of files and of a lockfile's table lists.
-fn listed_by_table(alloc: Global) -> Result<usize, Fail> {
-    let lockfile = one_vulnerable(alloc)?;
-    let table = toml::table_from_str(alloc, &lockfile)?;
-    let files = files_of(alloc, 0..ADVISORIES)?;
-    let report = Report::of_files(alloc, &files, &table, &Settings::new(alloc))?;
-    Ok(report.vulnerabilities.list.len())
-}
-
 #[test]
-fn copies_of_thousands_of_elements(rt: HostRuntime) -> Result<(), Fail> {
-    let counts = (PACKAGES as usize + 1, ADVISORIES as usize, true);
-    assert!(rt; packages_are_copied(rt.alloc())?);
-    assert!(rt; report_of_texts(rt.alloc())? == counts);
-    assert!(rt; listed_by_table(rt.alloc())? == ADVISORIES as usize);
+fn reports_of_thousands_of_texts(rt: HostRuntime) -> Result<(), Fail> {
+    let files = files_of(rt.alloc(), 0..COUNT, false)?;
+    let lockfile = lockfile(rt.alloc(), COUNT, 1)?;
+    assert!(rt; packages_are_copied(rt.alloc(), &lockfile)?);
+    assert!(rt; listed_by_table(rt.alloc(), &files, &lockfile)? == MANY);
+    assert!(rt; report_of_texts(rt.alloc(), &files, &lockfile)?);
     Ok(())
 }
 
-/// Returns the entries of the folder of some files.
-fn entries_of<'a>(alloc: Global, files: &'a [SourceFile]) -> Result<Vec<(&'a str, bool)>, Fail> {
-    let mut entries = Vec::new(alloc);
-    for file in files {
-        let name = FilePath::of(file.path.as_str())
-            .file_name()
-            .ok_or("no name")?;
-        entries.push((name, false))?;
+/// Returns whether a text of `audit` lists each advisory, and counts them; and whether a tree of `report` does, and
+/// counts the packages.
+fn lists_all(text: &str) -> bool {
+    text.starts_with("vulnerability RUSTSEC-2001-0 base 0.0.1\n")
+        && occurrences(text, "vulnerability RUSTSEC-2001-") == MANY
+        && text.ends_with("\n10000 vulnerabilities, 0 warnings\n")
+}
+
+fn holds_all(text: &str) -> bool {
+    let count = "\"vulnerabilities\":{\"count\":10000,\"found\":true,";
+    text.starts_with("{\"lockfile\":{\"dependency-count\":10001}")
+        && occurrences(text, count) == 1
+        && occurrences(text, "\"id\":\"RUSTSEC-2001-") == MANY
+}
+
+/// Returns whether a command lists all vulnerabilities over files and a lockfile.
+fn lists(alloc: Global, files: &[SourceFile], lockfile: &str, command: &str) -> Result<bool, Fail> {
+    let words = format!(in alloc; "{command} db lock")?;
+    let (status, text) = output_by(alloc, files, lockfile, &words)?;
+    let lists_all = if command == "audit" {
+        lists_all(&text)
+    } else {
+        holds_all(&text)
+    };
+    Ok(status == 1 && lists_all)
+}
+
+#[test]
+fn commands_over_thousands_of_files(rt: HostRuntime) -> Result<(), Fail> {
+    let files = files_of(rt.alloc(), 0..COUNT, false)?;
+    let lockfile = lockfile(rt.alloc(), COUNT, 1)?;
+    for command in &["audit", "report"] {
+        let is_listed = lists(rt.alloc(), &files, &lockfile, command)?;
+        assert!(rt; is_listed, "by {command}");
     }
-    Ok(entries)
-}
-
-/// Returns rows for some files, their folder with these entries, and a lockfile.
-fn rows_of<'a>(
-    alloc: Global,
-    files: &'a [SourceFile],
-    entries: &'a [(&'a str, bool)],
-    lockfile: &'a str,
-) -> Result<Vec<(&'a str, Holds<'a>)>, Fail> {
-    let mut rows = Vec::new(alloc);
-    rows.push(("lock", Holds::Text(lockfile)))?;
-    rows.push(("db/crates", Holds::Entries(&[("base", true)])))?;
-    rows.push((FOLDER, Holds::Entries(entries)))?;
-    for file in files {
-        rows.push((file.path.as_str(), Holds::Text(file.text.as_str())))?;
-    }
-    Ok(rows)
-}
-
-/// Returns the text that words write over some paths, if the status is 1.
-fn written_over(alloc: Global, rows: Paths<'_>, words: &[&str]) -> Result<String, Fail> {
-    let (status, bytes) = output_over(alloc, rows, words)?;
-    if status != 1 {
-        return Err(Fail::from("another status"));
-    }
-    Ok(String::from_utf8(bytes)?)
-}
-
-/// Returns the text that words write over thousands of packages and these files with their entries.
-fn written_by(
-    alloc: Global,
-    files: &[SourceFile],
-    entries: &[(&str, bool)],
-    words: &[&str],
-) -> Result<String, Fail> {
-    let lockfile = one_vulnerable(alloc)?;
-    let rows = rows_of(alloc, files, entries, &lockfile)?;
-    written_over(alloc, &rows, words)
-}
-
-/// Returns the text that words write over thousands of advisories and packages, if the status is 1.
-fn written(alloc: Global, words: &[&str]) -> Result<String, Fail> {
-    let files = files_of(alloc, 0..ADVISORIES)?;
-    let entries = entries_of(alloc, &files)?;
-    written_by(alloc, &files, &entries, words)
-}
-
-/// Returns whether a text of `audit` lists each advisory, and counts them.
-fn lists_all(alloc: Global, text: &str) -> Result<bool, Fail> {
-    let last = format!(in alloc; "\n{ADVISORIES} vulnerabilities, 0 warnings\n")?;
-    let lines = occurrences(text, "vulnerability RUSTSEC-2001-");
-    Ok(
-        text.starts_with("vulnerability RUSTSEC-2001-0 base 0.0.1\n")
-            && lines == ADVISORIES as usize
-            && text.ends_with(&last),
-    )
-}
-
-/// Returns whether a tree of `report` lists each advisory, and counts them and the packages.
-fn holds_all(alloc: Global, text: &str) -> Result<bool, Fail> {
-    let packages = PACKAGES + 1;
-    let packages = format!(in alloc; "{{\"lockfile\":{{\"dependency-count\":{packages}}}")?;
-    let count = format!(in alloc; "\"vulnerabilities\":{{\"count\":{ADVISORIES},\"found\":true,")?;
-    let ids = occurrences(text, "\"id\":\"RUSTSEC-2001-");
-    Ok(text.starts_with(&packages) && occurrences(text, &count) == 1 && ids == ADVISORIES as usize)
-}
-
-/// Returns whether `audit` lists all.
-fn audit_lists_all(alloc: Global) -> Result<bool, Fail> {
-    let text = written(alloc, &["audit", "db", "lock"])?;
-    lists_all(alloc, &text)
-}
-
-/// Returns whether `report` lists all.
-fn report_holds_all(alloc: Global) -> Result<bool, Fail> {
-    let text = written(alloc, &["report", "db", "lock"])?;
-    holds_all(alloc, &text)
-}
-
-#[test]
-fn an_audit_of_thousands_of_files(rt: HostRuntime) -> Result<(), Fail> {
-    assert!(rt; audit_lists_all(rt.alloc())?);
-    Ok(())
-}
-
-#[test]
-fn a_report_of_thousands_of_files(rt: HostRuntime) -> Result<(), Fail> {
-    assert!(rt; report_holds_all(rt.alloc())?);
-    Ok(())
-}
-
-/// Returns whether `write_audit` lists each vulnerability of a report, and counts them.
-fn is_written(alloc: Global, report: &Report) -> Result<bool, Fail> {
-    let mut written = Vec::new(alloc);
-    let status = write_audit(alloc, report, false, &mut written)?;
-    let text = str::from_utf8(written.as_slice())?;
-    Ok(status == 1 && lists_all(alloc, text)?)
-}
-
-/// Returns whether that holds for the report of thousands of texts.
-fn large_report_is_written(alloc: Global) -> Result<bool, Fail> {
-    let report = large_report(alloc)?;
-    is_written(alloc, &report)
-}
-
-#[test]
-fn an_audit_of_thousands_of_vulnerabilities(rt: HostRuntime) -> Result<(), Fail> {
-    assert!(rt; large_report_is_written(rt.alloc())?);
-    Ok(())
-}
-
-/// Returns how many vulnerabilities of crates a lockfile has.
-fn crate_count(alloc: Global, database: &Database, lockfile: &Lockfile) -> Result<usize, Fail> {
-    let found = database.vulnerabilities(alloc, lockfile)?;
-    Ok(found.len())
-}
-
-/// Returns how many vulnerabilities a query for everything finds in a lockfile.
-fn query_count(alloc: Global, database: &Database, lockfile: &Lockfile) -> Result<usize, Fail> {
-    let found = database.query_vulnerabilities(alloc, lockfile, &Query::new(alloc))?;
-    Ok(found.len())
-}
-
-/// Returns both counts for a lockfile by this many advisories.
-fn vulnerability_counts(
-    alloc: Global,
-    advisories: u32,
-    lockfile: &str,
-) -> Result<(usize, usize), Fail> {
-    let database = database(alloc, advisories)?;
-    let lockfile = Lockfile::from_str(alloc, lockfile)?;
-    Ok((
-        crate_count(alloc, &database, &lockfile)?,
-        query_count(alloc, &database, &lockfile)?,
-    ))
-}
-
-/// Returns both counts for thousands of packages by one advisory, each a vulnerability.
-fn counts_by_packages(alloc: Global) -> Result<(usize, usize), Fail> {
-    let lockfile = numbered(alloc, PACKAGES, BASE)?;
-    vulnerability_counts(alloc, 1, &lockfile)
-}
-
-/// Returns both counts for one package by thousands of advisories, each a vulnerability.
-fn counts_by_advisories(alloc: Global) -> Result<(usize, usize), Fail> {
-    let lockfile = numbered(alloc, 1, BASE)?;
-    vulnerability_counts(alloc, ADVISORIES, &lockfile)
-}
-
-#[test]
-fn thousands_of_vulnerabilities(rt: HostRuntime) -> Result<(), Fail> {
-    let (packages, advisories) = (PACKAGES as usize, ADVISORIES as usize);
-    assert!(rt; counts_by_packages(rt.alloc())? == (packages, packages));
-    assert!(rt; counts_by_advisories(rt.alloc())? == (advisories, advisories));
     Ok(())
 }
 
@@ -367,25 +172,78 @@ fn are_found(alloc: Global, rows: Paths<'_>, files: &[SourceFile]) -> Result<boo
     Ok(found.as_slice() == files)
 }
 
-/// Returns whether files are found in folders with these entries.
-fn are_found_by(
-    alloc: Global,
-    files: &[SourceFile],
-    entries: &[(&str, bool)],
-) -> Result<bool, Fail> {
-    let rows = rows_of(alloc, files, entries, "")?;
-    are_found(alloc, &rows, files)
+// The numbers of these advisories have five digits each, so the names of their files are in order.
+#[test]
+fn thousands_of_source_files(rt: HostRuntime) -> Result<(), Fail> {
+    let files = files_of(rt.alloc(), COUNT..2 * COUNT, false)?;
+    let entries = entries_of(rt.alloc(), &files)?;
+    let rows = rows_of(rt.alloc(), &files, &entries, "")?;
+    assert!(rt; are_found(rt.alloc(), &rows, &files)?);
+    Ok(())
 }
 
-/// Returns whether thousands of files are found. Their numbers have five digits each, so their names are in order.
-fn files_are_found(alloc: Global) -> Result<bool, Fail> {
-    let files = files_of(alloc, ADVISORIES..2 * ADVISORIES)?;
-    let entries = entries_of(alloc, &files)?;
-    are_found_by(alloc, &files, &entries)
+/// A line of an advisory, how many bytes its description has, the number of the ignored ID, how many packages there
+/// are, and how many vulnerabilities and warnings the report lists; it asks for notices alone.
+type Row<'a> = (&'a str, usize, u32, u32, Counts);
+
+/// Worked by hand. The first three list nothing, though the advisory affects each package, and the others list each.
+const ROWS: &[Row<'_>] = &[
+    ("informational = \"x\"", MEGABYTE, 1001, 4000, (0, 0)),
+    ("informational = \"notice\"", MEGABYTE, 2101, 4000, (0, 0)),
+    ("", MEGABYTE, 2101, 4000, (0, 0)),
+    ("informational = \"notice\"", MEGABYTE, 1001, 3, (0, 3)),
+    ("", MEGABYTE, 1001, 3, (3, 0)),
+    ("informational = \"notice\"", 8, 1001, 4000, (0, 4000)),
+];
+
+/// Returns the database of an advisory that affects every version, with a line and a description of this many bytes.
+fn described(alloc: Global, line: &str, bytes: usize) -> Result<Database, Fail> {
+    let description = "survive ".repeat(alloc, bytes / 8)?;
+    let text = format!(in alloc;
+        "```toml\n[advisory]\nid = \"RUSTSEC-2001-2101\"\npackage = \"base\"\ndate = \"2001-02-03\"\n{line}\n[versions]\npatched = []\n```\n# T\n\n{description}\n"
+    )?;
+    Ok(Database::load(alloc, &[source_file(alloc, 2101, text)?])?)
+}
+
+/// Returns settings that ask for notices and ignore the ID with a number.
+fn settings(alloc: Global, ignored: u32) -> Result<Settings, Fail> {
+    let id = Id::from_str(alloc, &filled(alloc, "RUSTSEC-2001-$", ignored)?)?;
+    let mut settings = Settings::new(alloc);
+    settings.informational_warnings.push(Informational::Notice)?;
+    settings.ignore.push(id)?;
+    Ok(settings)
+}
+
+/// Returns how many vulnerabilities and warnings a report lists.
+fn listed(
+    alloc: Global,
+    database: &Database,
+    lockfile: &Lockfile,
+    settings: &Settings,
+) -> Result<Counts, Fail> {
+    let report = Report::generate(alloc, database, lockfile, settings)?;
+    let mut warnings: usize = 0;
+    for (_, list) in report.warnings.as_map() {
+        warnings = warnings.saturating_add(list.len());
+    }
+    Ok((report.vulnerabilities.list.len(), warnings))
+}
+
+/// Returns whether each package gives a pair by a query for everything, and the report lists as many as a row wants.
+fn is_wanted(alloc: Global, row: &Row<'_>) -> Result<bool, Fail> {
+    let (line, bytes, ignored, count, wanted) = row;
+    let database = described(alloc, line, *bytes)?;
+    let lockfile = Lockfile::from_str(alloc, &packages(alloc, *count, "base", "0.0.$")?)?;
+    let pairs = database.query_pairs(alloc, &lockfile, &Query::new(alloc))?;
+    let settings = settings(alloc, *ignored)?;
+    let is_whole = pairs.len() == *count as usize;
+    Ok(is_whole && listed(alloc, &database, &lockfile, &settings)? == *wanted)
 }
 
 #[test]
-fn thousands_of_source_files(rt: HostRuntime) -> Result<(), Fail> {
-    assert!(rt; files_are_found(rt.alloc())?);
+fn pairs_that_are_found_and_not_listed(rt: HostRuntime) -> Result<(), Fail> {
+    for (i, row) in ROWS.iter().enumerate() {
+        assert!(rt; is_wanted(rt.alloc(), row)?, "row {i}");
+    }
     Ok(())
 }

@@ -1,13 +1,17 @@
-//! Calls with long lists: ten thousand packages of a lockfile, six hundred events of an OSV document.
+//! Calls with long lists: ten thousand packages of a lockfile, six hundred events, a thousand packages and nine
+//! thousand links of an OSV document, a thousand versions in an index.
 
-use crate::numbers::{PACKAGES, numbered};
+use crate::folders::{package, packages};
+use crate::numbers::{COUNT, MANY, numbered, numbered_by, occurrences};
 use rustsec_advisory::Advisory;
-use rustsec_fixer::{FixCommand, Fixer};
-use rustsec_fixtures::SHORT;
+use rustsec_error::{Error, ErrorKind};
+use rustsec_fixer::Fixer;
+use rustsec_fixtures::{Failing, Holds, MemoryFolders, SHORT};
+use rustsec_index::yanked_in;
 use rustsec_lock::Lockfile;
 use rustsec_lock::package::Name;
 use rustsec_osv::OsvAdvisory;
-use rustsec_osv_evaluation::{PackageVersion, is_affected};
+use rustsec_osv_evaluation::{PackageVersion, is_affected, normalized};
 use rustsec_query::Vulnerability;
 use rustsec_registry::{CachedIndex, IndexVersion, Lookup};
 use rustsec_values::{Items, Text};
@@ -16,21 +20,14 @@ use serde_json::Value;
 use std::alloc::Global;
 use std::test::Fail;
 
-/// How many ranges of affected versions there are.
-const RANGES: u32 = 300;
-
-/// A registry that has one version of each package, which is yanked.
+/// A registry that has version 1.0.0 of each package, which is yanked.
 #[derive(Drop)]
 struct AllYanked;
 
-/// Returns the version, as yanked.
-fn yanked_version(alloc: Global) -> rustsec_error::Result<Items<IndexVersion>> {
-    let version = Text::from_str(alloc, "1.0.0")?;
+fn yanked_version(alloc: Global) -> Result<Items<IndexVersion>, Error> {
+    let (version, yanked) = (Text::from_str(alloc, "1.0.0")?, true);
     let mut versions = Items::new(alloc);
-    versions.push(IndexVersion {
-        version,
-        yanked: true,
-    })?;
+    versions.push(IndexVersion { version, yanked })?;
     Ok(versions)
 }
 
@@ -39,18 +36,20 @@ impl Lookup for AllYanked {
 
     ghost answers = { λ _ _ _. ⊤ };
 
-    fn krate(
-        &self,
-        alloc: Global,
-        _name: &Name,
-    ) -> rustsec_error::Result<Option<Items<IndexVersion>>> {
+    fn krate(&self, alloc: Global, _name: &Name) -> Result<Option<Items<IndexVersion>>, Error> {
         let versions = yanked_version(alloc)?;
         Ok(Some(versions))
     }
 }
 
+/// Returns the lockfile of thousands of packages.
+fn lockfile_of(alloc: Global, package: &str) -> Result<Lockfile, Fail> {
+    let text = numbered(alloc, COUNT, package)?;
+    Ok(Lockfile::from_str(alloc, &text)?)
+}
+
 /// Returns how many packages of a lockfile are yanked, if none is refused.
-fn yanked_in(alloc: Global, lockfile: &Lockfile) -> Result<usize, Fail> {
+fn yanked_count(alloc: Global, lockfile: &Lockfile) -> Result<usize, Fail> {
     let mut index = CachedIndex::new(alloc, AllYanked);
     let found = index.find_yanked(alloc, lockfile.packages.as_slice())?;
     if found.iter().any(|answer| answer.is_err()) {
@@ -59,18 +58,11 @@ fn yanked_in(alloc: Global, lockfile: &Lockfile) -> Result<usize, Fail> {
     Ok(found.len())
 }
 
-/// Returns how many packages of thousands are yanked.
-fn yanked_of_thousands(alloc: Global) -> Result<usize, Fail> {
-    let template = "[[package]]\nname = \"package-@\"\nversion = \"1.0.0\"\n\
-        source = \"registry+https://github.com/rust-lang/crates.io-index\"\n";
-    let text = numbered(alloc, PACKAGES, template)?;
-    let lockfile = Lockfile::from_str(alloc, &text)?;
-    yanked_in(alloc, &lockfile)
-}
-
 #[test]
 fn thousands_of_yanked_packages(rt: HostRuntime) -> Result<(), Fail> {
-    assert!(rt; yanked_of_thousands(rt.alloc())? == PACKAGES as usize);
+    let package = package(rt.alloc(), "package-$", "1.0.0")?;
+    let lockfile = lockfile_of(rt.alloc(), &package)?;
+    assert!(rt; yanked_count(rt.alloc(), &lockfile)? == MANY);
     Ok(())
 }
 
@@ -85,15 +77,11 @@ pub(crate) fn vulnerability_in(
     Ok(Vulnerability::new(alloc, &advisory, package)?)
 }
 
-/// Returns the command that updates the packages of a lockfile, by the advisory `SHORT`.
-fn command_for(alloc: Global, lockfile: Lockfile) -> Result<FixCommand, Fail> {
+/// Returns the words that update the packages of a lockfile by the advisory `SHORT`, with a space after each.
+fn fix_words(alloc: Global, lockfile: Lockfile) -> Result<String, Fail> {
     let vulnerability = vulnerability_in(alloc, &lockfile, SHORT)?;
     let fixer = Fixer::new(lockfile, None, None);
-    Ok(fixer.get_fix_command(alloc, &vulnerability, false)?)
-}
-
-/// Returns the words of a command, each before a space.
-fn words_of(alloc: Global, command: &FixCommand) -> Result<String, Fail> {
+    let command = fixer.get_fix_command(alloc, &vulnerability, false)?;
     let mut words = String::new(alloc);
     for word in command.words.as_slice() {
         words.push_str(word.as_str())?;
@@ -102,51 +90,38 @@ fn words_of(alloc: Global, command: &FixCommand) -> Result<String, Fail> {
     Ok(words)
 }
 
-/// Returns the words of the command that updates thousands of versions of a package.
-fn words_for_thousands(alloc: Global) -> Result<String, Fail> {
-    let template = "[[package]]\nname = \"base\"\nversion = \"0.0.@\"\n";
-    let text = numbered(alloc, PACKAGES, template)?;
-    let lockfile = Lockfile::from_str(alloc, &text)?;
-    let command = command_for(alloc, lockfile)?;
-    words_of(alloc, &command)
-}
-
-/// Returns whether the command names thousands of versions of a package, each once and in order.
-fn names_thousands(alloc: Global) -> Result<bool, Fail> {
-    let words = words_for_thousands(alloc)?;
-    let wanted = numbered(alloc, PACKAGES, "base$0.0.@ ")?;
-    let wanted = wanted.replace(alloc, "$", "@")?;
-    Ok(words.strip_prefix("update ") == Some(wanted.as_str()))
-}
-
+// The command names each version of the package once and in order.
 #[test]
 fn thousands_of_packages_to_update(rt: HostRuntime) -> Result<(), Fail> {
-    assert!(rt; names_thousands(rt.alloc())?);
+    let package = "[[package]]\nname = \"base\"\nversion = \"0.0.$\"\n";
+    let words = fix_words(rt.alloc(), lockfile_of(rt.alloc(), package)?)?;
+    let wanted = numbered(rt.alloc(), COUNT, "base@0.0.$ ")?;
+    assert!(rt; words.strip_prefix("update ") == Some(wanted.as_str()));
     Ok(())
 }
 
-/// Reads a document.
+/// Reads a document; and returns it as it prints.
 pub(crate) fn read_document(alloc: Global, text: &str) -> Result<OsvAdvisory, Fail> {
     let tree = Value::from_str(alloc, text)?;
     Ok(OsvAdvisory::from_value(alloc, &tree)?)
 }
 
-/// Returns a document as it prints.
 pub(crate) fn printed(alloc: Global, document: &OsvAdvisory) -> Result<String, Fail> {
     let tree = document.to_value(alloc)?;
     Ok(tree.to_string(alloc)?)
 }
 
-/// Returns an OSV document of the crate `base` with hundreds of ranges of affected versions, the greatest first.
-pub(crate) fn document(alloc: Global) -> Result<OsvAdvisory, Fail> {
-    let events = numbered(
-        alloc,
-        RANGES,
-        "{\"fixed\":\"@.2.0\"},{\"introduced\":\"@.1.0\"},",
-    )?;
+/// The text before the lists of a document.
+const HEAD: &str =
+    "{\"details\":\"\",\"id\":\"x\",\"modified\":\"\",\"published\":\"\",\"summary\":\"\",";
+
+/// Returns an OSV document of the crate `base` with 300 ranges of affected versions, the greatest first.
+fn document(alloc: Global) -> Result<OsvAdvisory, Fail> {
+    let events = "{\"fixed\":\"$.2.0\"},{\"introduced\":\"$.1.0\"},";
+    let events = numbered(alloc, 300, events)?;
     let events = events.trim_end_matches(',');
     let text = format!(in alloc;
-        "{{\"details\":\"\",\"id\":\"x\",\"modified\":\"\",\"published\":\"\",\"summary\":\"\",\"affected\":[{{\"database_specific\":{{}},\"package\":{{\"ecosystem\":\"crates.io\",\"name\":\"base\"}},\"ranges\":[{{\"type\":\"SEMVER\",\"events\":[{events}]}}]}}]}}"
+        "{HEAD}\"affected\":[{{\"database_specific\":{{}},\"package\":{{\"ecosystem\":\"crates.io\",\"name\":\"base\"}},\"ranges\":[{{\"type\":\"SEMVER\",\"events\":[{events}]}}]}}]}}"
     )?;
     read_document(alloc, &text)
 }
@@ -162,21 +137,91 @@ fn calls_affected(alloc: Global, document: &OsvAdvisory, version: &str) -> Resul
     Ok(is_affected(alloc, document, &question)?)
 }
 
-/// Returns whether a document calls the version in the middle of the last range affected, and not the one that ends it.
-fn ends_last_range(alloc: Global, document: &OsvAdvisory) -> Result<bool, Fail> {
-    let inside = format!(in alloc; "{RANGES}.1.5")?;
-    let end = format!(in alloc; "{RANGES}.2.0")?;
-    Ok(calls_affected(alloc, document, &inside)? && !calls_affected(alloc, document, &end)?)
+/// Returns how many introductions and fixes a document has after those at one version are dropped.
+fn events_that_are_left(alloc: Global, document: OsvAdvisory) -> Result<(usize, usize), Fail> {
+    let printed = printed(alloc, &normalized(alloc, document)?)?;
+    let introduced = occurrences(&printed, "\"introduced\"");
+    Ok((introduced, occurrences(&printed, "\"fixed\"")))
 }
 
-/// Returns whether the document with hundreds of ranges does so.
-fn is_evaluated(alloc: Global) -> Result<bool, Fail> {
-    let document = document(alloc)?;
-    ends_last_range(alloc, &document)
+// The version is in the middle of the last range, or ends it. No two events are at one version.
+#[test]
+fn hundreds_of_ranges_of_a_document(rt: HostRuntime) -> Result<(), Fail> {
+    let document = document(rt.alloc())?;
+    assert!(rt; calls_affected(rt.alloc(), &document, "300.1.5")?);
+    assert!(rt; !calls_affected(rt.alloc(), &document, "300.2.0")?);
+    assert!(rt; events_that_are_left(rt.alloc(), document)? == (300, 300));
+    Ok(())
+}
+
+/// Returns how many packages a document with these members of `affected` names.
+fn named_packages(alloc: Global, affected: &str) -> Result<usize, Fail> {
+    let affected = affected.trim_end_matches(',');
+    let text = format!(in alloc; "{HEAD}\"affected\":[{affected}]}}")?;
+    let document = read_document(alloc, &text)?;
+    Ok(document.crates(alloc)?.len())
+}
+
+/// The link to an advisory, before a comma, and the link to the first one, with more after its ID.
+const LINK: &str = "{\"type\":\"WEB\",\"url\":\"https://rustsec.org/advisories/RUSTSEC-2001-$\"},";
+
+const AGAIN: &str =
+    "{\"type\":\"WEB\",\"url\":\"https://rustsec.org/advisories/RUSTSEC-2001-1000.html\"}";
+
+/// Returns the IDs that a document imports, each before a line feed.
+fn imported(alloc: Global, document: &OsvAdvisory) -> Result<String, Fail> {
+    let mut text = String::new(alloc);
+    for id in &document.rustsec_refs_imported(alloc)? {
+        text.push_str(id.as_str())?;
+        text.push_str("\n")?;
+    }
+    Ok(text)
+}
+
+/// Returns whether a document with links to thousands of advisories, and once more to the first, imports each ID once.
+fn all_are_imported(alloc: Global) -> Result<bool, Fail> {
+    let links = numbered_by(alloc, (1000, 1, 9000), LINK)?;
+    let text = format!(in alloc; "{HEAD}\"affected\":[],\"references\":[{links}{AGAIN}]}}")?;
+    let document = read_document(alloc, &text)?;
+    let wanted = numbered_by(alloc, (1000, 1, 9000), "RUSTSEC-2001-$\n")?;
+    Ok(imported(alloc, &document)? == wanted)
 }
 
 #[test]
-fn hundreds_of_ranges_of_a_document(rt: HostRuntime) -> Result<(), Fail> {
-    assert!(rt; is_evaluated(rt.alloc())?);
+fn packages_and_links_of_a_document(rt: HostRuntime) -> Result<(), Fail> {
+    let member =
+        "{\"database_specific\":{},\"package\":{\"ecosystem\":\"crates.io\",\"name\":\"p$\"}},";
+    let affected = numbered(rt.alloc(), 1000, member)?;
+    assert!(rt; named_packages(rt.alloc(), &affected)? == 1000);
+    assert!(rt; all_are_imported(rt.alloc())?);
+    Ok(())
+}
+
+/// Returns how many packages of a lockfile an index with this file of `base` lists as yanked, and how many it does not.
+fn counts_by(alloc: Global, file: &str, lockfile: &str) -> Result<(usize, usize), Fail> {
+    let rows = [
+        ("index/ba/se/base", Holds::Text(file)),
+        ("index", Holds::Entries(&[])),
+    ];
+    let (at, kind) = (0, ErrorKind::Io);
+    let mut folders = MemoryFolders::new(&rows, Failing { at, kind });
+    let lockfile = Lockfile::from_str(alloc, lockfile)?;
+    let found = yanked_in(alloc, &mut folders, "index", lockfile.packages.as_slice())?;
+    Ok((found.packages.len(), found.unlisted.len()))
+}
+
+/// Returns the file of a thousand versions of a package, all of them yanked by the last entry of their number.
+fn index_file(alloc: Global) -> Result<String, Fail> {
+    let mut file = numbered(alloc, 1000, "{\"name\":\"base\",\"vers\":\"0.0.$\"}\n")?;
+    let yanked = "{\"name\":\"base\",\"vers\":\"0.0.$\",\"yanked\":true}\n";
+    file.push_str(&numbered(alloc, 1000, yanked)?)?;
+    Ok(file)
+}
+
+#[test]
+fn a_thousand_versions_of_a_name(rt: HostRuntime) -> Result<(), Fail> {
+    let lockfile = packages(rt.alloc(), 1000, "base", "0.0.$")?;
+    let file = index_file(rt.alloc())?;
+    assert!(rt; counts_by(rt.alloc(), &file, &lockfile)? == (1000, 0));
     Ok(())
 }

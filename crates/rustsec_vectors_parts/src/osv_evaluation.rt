@@ -1,99 +1,41 @@
 //! OSV's evaluation of documents, by the page of its schema ("Evaluation"), worked by hand.
 
+use crate::osv_documents::{text_of, with_lists};
+use crate::rows::field;
 use rustsec_osv::OsvAdvisory;
 use rustsec_osv_evaluation::{
     Event, PackageVersion, has_ordered_events, is_affected, normalized, says_affected,
 };
 use semver::Version;
-use serde_json::Value;
 use std::alloc::Global;
-use std::process::Abort;
 use std::test::Fail;
 
-/// A document with these members of `affected`.
-const HEAD: &str =
-    r#"{"details":"","id":"x","modified":"","published":"","summary":"","affected":["#;
+/// The list of a member about the crate `base`, to which a row adds keys.
+const BASE: &str =
+    r#""affected":[{"database_specific":{},"package":{"ecosystem":"crates.io","name":"base"},"#;
 
-/// A member about the crate `base` with these keys.
-const BASE: &str = r#"{"database_specific":{},"package":{"ecosystem":"crates.io","name":"base"},"#;
+/// The keys of a member, and versions of `base`, each with whether it is affected: events in any order, each kind of
+/// event, several ranges, versions that are listed, and commits. Of two events at one version the one that is given
+/// first comes first, so their order decides.
+const VERDICTS: &str = r#"
+"ranges":[{"type":"SEMVER","events":[{"introduced":"1.0.0"},{"fixed":"1.0.2"}]}] | 0.9.0 no, 1.0.0 yes, 1.0.2-rc.1 yes, 1.0.2 no
+"ranges":[{"type":"SEMVER","events":[{"fixed":"3.2.5"},{"introduced":"3.0.0"},{"fixed":"1.0.2"},{"introduced":"1.0.0"}]}] | 1.0.1 yes, 2.0.0 no
+"ranges":[{"type":"SEMVER","events":[{"introduced":"0.0.0-0"},{"last_affected":"2.1.214"}]}] | 2.1.214 yes, 2.1.215-0 no
+"ranges":[{"type":"SEMVER","events":[{"introduced":"1.0.0"},{"fixed":"1.0.2"}]},{"type":"SEMVER","events":[{"introduced":"3.0.0"}]}] | 3.0.0 yes
+"ranges":[{"type":"SEMVER","events":[{"introduced":"1.0.0"}]}],"versions":["0.1.0","0.2.0"] | 0.2.0 yes, 0.3.0 no
+"versions":["1.0.0+b"] | 1.0.0 no
+"ranges":[{"type":"GIT","events":[{"introduced":"0.0.0-0"}]}] | 1.0.0 no
+"ranges":null | 1.0.0 no
+"ranges":[{"type":"SEMVER","events":[{"introduced":"1.2.3"},{"fixed":"1.2.3"}]}] | 1.2.3-0 no, 1.2.3 no, 2.0.0 no
+"ranges":[{"type":"SEMVER","events":[{"fixed":"1.2.3"},{"introduced":"1.2.3"}]}] | 1.2.3-0 no, 1.2.3 yes, 2.0.0 yes
+"#;
 
-/// The keys of a member, a version of `base`, and whether it is affected.
-type Row<'a> = (&'a str, &'a str, bool);
-
-/// Events in any order, each kind of event, several ranges, versions that are listed, and commits.
-const ROWS: &[Row<'static>] = &[
-    (
-        r#""ranges":[{"type":"SEMVER","events":[{"introduced":"1.0.0"},{"fixed":"1.0.2"}]}]"#,
-        "0.9.0",
-        false,
-    ),
-    (
-        r#""ranges":[{"type":"SEMVER","events":[{"introduced":"1.0.0"},{"fixed":"1.0.2"}]}]"#,
-        "1.0.0",
-        true,
-    ),
-    (
-        r#""ranges":[{"type":"SEMVER","events":[{"introduced":"1.0.0"},{"fixed":"1.0.2"}]}]"#,
-        "1.0.2-rc.1",
-        true,
-    ),
-    (
-        r#""ranges":[{"type":"SEMVER","events":[{"introduced":"1.0.0"},{"fixed":"1.0.2"}]}]"#,
-        "1.0.2",
-        false,
-    ),
-    (
-        r#""ranges":[{"type":"SEMVER","events":[{"fixed":"3.2.5"},{"introduced":"3.0.0"},{"fixed":"1.0.2"},{"introduced":"1.0.0"}]}]"#,
-        "1.0.1",
-        true,
-    ),
-    (
-        r#""ranges":[{"type":"SEMVER","events":[{"fixed":"3.2.5"},{"introduced":"3.0.0"},{"fixed":"1.0.2"},{"introduced":"1.0.0"}]}]"#,
-        "2.0.0",
-        false,
-    ),
-    (
-        r#""ranges":[{"type":"SEMVER","events":[{"introduced":"0.0.0-0"},{"last_affected":"2.1.214"}]}]"#,
-        "2.1.214",
-        true,
-    ),
-    (
-        r#""ranges":[{"type":"SEMVER","events":[{"introduced":"0.0.0-0"},{"last_affected":"2.1.214"}]}]"#,
-        "2.1.215-0",
-        false,
-    ),
-    (
-        r#""ranges":[{"type":"SEMVER","events":[{"introduced":"1.0.0"},{"fixed":"1.0.2"}]},{"type":"SEMVER","events":[{"introduced":"3.0.0"}]}]"#,
-        "3.0.0",
-        true,
-    ),
-    (
-        r#""ranges":[{"type":"SEMVER","events":[{"introduced":"1.0.0"}]}],"versions":["0.1.0","0.2.0"]"#,
-        "0.2.0",
-        true,
-    ),
-    (
-        r#""ranges":[{"type":"SEMVER","events":[{"introduced":"1.0.0"}]}],"versions":["0.1.0","0.2.0"]"#,
-        "0.3.0",
-        false,
-    ),
-    (r#""versions":["1.0.0+b"]"#, "1.0.0", false),
-    (
-        r#""ranges":[{"type":"GIT","events":[{"introduced":"0.0.0-0"}]}]"#,
-        "1.0.0",
-        false,
-    ),
-    (r#""ranges":null"#, "1.0.0", false),
-];
-
-/// Returns the document with a member about `base` with these keys.
 fn document(alloc: Global, keys: &str) -> Result<OsvAdvisory, Fail> {
-    let text = format!(in alloc; "{HEAD}{BASE}{keys}}}]}}")?;
-    let tree = Value::from_str(alloc, &text)?;
-    Ok(OsvAdvisory::from_value(alloc, &tree)?)
+    let lists = format!(in alloc; "{BASE}{keys}}}]}}")?;
+    with_lists(alloc, &lists)
 }
 
-/// Returns whether the document with a member about `base` calls a version of a crate affected.
+/// Returns whether the document with a member about `base` and these keys calls a version of a crate affected.
 fn says_of(alloc: Global, keys: &str, name: &str, version: &str) -> Result<bool, Fail> {
     let document = document(alloc, keys)?;
     let version = Version::parse(alloc, version)?;
@@ -105,14 +47,21 @@ fn says_of(alloc: Global, keys: &str, name: &str, version: &str) -> Result<bool,
     Ok(is_affected(alloc, &document, &question)?)
 }
 
+/// Returns whether the document with the keys of a row has its answers.
+fn has_answers(alloc: Global, row: &str) -> Result<bool, Fail> {
+    for answer in field(row, 1).split(", ") {
+        let (version, verdict) = answer.split_once(' ').ok_or("no verdict")?;
+        if says_of(alloc, field(row, 0), "base", version)? != (verdict == "yes") {
+            return Ok(false);
+        }
+    }
+    Ok(true)
+}
+
 #[test]
 fn osv_evaluation(rt: HostRuntime) -> Result<(), Fail> {
-    for row in ROWS {
-        let (keys, version, wanted) = *row;
-        assert!(rt;
-            says_of(rt.alloc(), keys, "base", version)? == wanted,
-            "{row:?}"
-        );
+    for row in VERDICTS.trim().lines() {
+        assert!(rt; has_answers(rt.alloc(), row)?, "{row}");
     }
     let keys = r#""versions":["1.0.0"]"#;
     assert!(rt; !says_of(rt.alloc(), keys, "other", "1.0.0")?);
@@ -122,10 +71,8 @@ fn osv_evaluation(rt: HostRuntime) -> Result<(), Fail> {
 /// Returns whether a range from 1.0.0 with limits at 2.0.0 and at 3.0.0 has a version.
 fn is_within(alloc: Global, version: &str) -> Result<bool, Fail> {
     let from = Version::parse(alloc, "1.0.0")?;
-    let (two, three) = (
-        Version::parse(alloc, "2.0.0")?,
-        Version::parse(alloc, "3.0.0")?,
-    );
+    let two = Version::parse(alloc, "2.0.0")?;
+    let three = Version::parse(alloc, "3.0.0")?;
     let events = vec![in alloc;
         Event::Limit(&two),
         Event::Introduced(&from),
@@ -137,129 +84,65 @@ fn is_within(alloc: Global, version: &str) -> Result<bool, Fail> {
 // A version at or above each limit is out of the range.
 #[test]
 fn osv_limits(rt: HostRuntime) -> Result<(), Fail> {
-    for (version, wanted) in [("0.9.0", false), ("2.5.0", true), ("3.0.0", false)] {
-        assert!(rt; is_within(rt.alloc(), version)? == wanted, "{version}");
-    }
-    Ok(())
-}
-
-/// Events with two at 1.2.3, in both orders, and the answer for 1.2.3 and above.
-const TIES: &[(&str, bool)] = &[
-    (
-        r#""ranges":[{"type":"SEMVER","events":[{"introduced":"1.2.3"},{"fixed":"1.2.3"}]}]"#,
-        false,
-    ),
-    (
-        r#""ranges":[{"type":"SEMVER","events":[{"fixed":"1.2.3"},{"introduced":"1.2.3"}]}]"#,
-        true,
-    ),
-];
-
-/// Returns whether a document has this answer for 1.2.3 and for a later version, and "no" for an earlier one.
-fn is_tied(alloc: Global, row: &(&str, bool)) -> Result<bool, Fail> {
-    let (keys, wanted) = *row;
-    let (earlier, later) = ("1.2.3-0", "2.0.0");
-    Ok(
-        says_of(alloc, keys, "base", "1.2.3")? == wanted
-            && says_of(alloc, keys, "base", later)? == wanted
-            && !says_of(alloc, keys, "base", earlier)?,
-    )
-}
-
-// Of two events at one version the one that is given first comes first, so their order decides.
-#[test]
-fn osv_ties(rt: HostRuntime) -> Result<(), Fail> {
-    for row in TIES {
-        assert!(rt; is_tied(rt.alloc(), row)?, "{row:?}");
+    for (version, wanted) in &[("0.9.0", false), ("2.5.0", true), ("3.0.0", false)] {
+        assert!(rt; is_within(rt.alloc(), version)? == *wanted, "{version}");
     }
     Ok(())
 }
 
 /// The events of a document, and those of its normalized form.
-const PAIRS: &[(&str, &str)] = &[
-    (r#"{"introduced":"0.0.0-0"}"#, r#"{"introduced":"0.0.0-0"}"#),
-    (
-        r#"{"introduced":"0.0.0-0"},{"fixed":"1.0.0"},{"introduced":"2.0.0"}"#,
-        r#"{"introduced":"0.0.0-0"},{"fixed":"1.0.0"},{"introduced":"2.0.0"}"#,
-    ),
-    (
-        r#"{"introduced":"0.0.0-0"},{"fixed":"1.0.0"},{"introduced":"2.0.0"},{"fixed":"2.0.0"},{"introduced":"3.0.0"}"#,
-        r#"{"introduced":"0.0.0-0"},{"fixed":"1.0.0"},{"introduced":"3.0.0"}"#,
-    ),
-    (
-        r#"{"introduced":"0.0.0-0"},{"fixed":"1.0.0"},{"introduced":"1.0.0"},{"fixed":"2.0.0"}"#,
-        r#"{"introduced":"0.0.0-0"},{"fixed":"2.0.0"}"#,
-    ),
-    (
-        r#"{"introduced":"1.0.0"},{"fixed":"1.0.0"},{"introduced":"1.0.0"}"#,
-        r#"{"introduced":"1.0.0"}"#,
-    ),
-    (r#"{"introduced":"1.0.0"},{"fixed":"1.0.0"}"#, ""),
-];
+const EVENTS: &str = r#"
+{"introduced":"0.0.0-0"} | {"introduced":"0.0.0-0"}
+{"introduced":"0.0.0-0"},{"fixed":"1.0.0"},{"introduced":"2.0.0"} | {"introduced":"0.0.0-0"},{"fixed":"1.0.0"},{"introduced":"2.0.0"}
+{"introduced":"0.0.0-0"},{"fixed":"1.0.0"},{"introduced":"2.0.0"},{"fixed":"2.0.0"},{"introduced":"3.0.0"} | {"introduced":"0.0.0-0"},{"fixed":"1.0.0"},{"introduced":"3.0.0"}
+{"introduced":"0.0.0-0"},{"fixed":"1.0.0"},{"introduced":"1.0.0"},{"fixed":"2.0.0"} | {"introduced":"0.0.0-0"},{"fixed":"2.0.0"}
+{"introduced":"1.0.0"},{"fixed":"1.0.0"},{"introduced":"1.0.0"} | {"introduced":"1.0.0"}
+{"introduced":"1.0.0"},{"fixed":"1.0.0"} |
+{"introduced":"1.0.0"},{"last_affected":"1.0.0"} | {"introduced":"1.0.0"},{"last_affected":"1.0.0"}
+{"introduced":"1.0.0"},{"introduced":"1.0.0+b"},{"fixed":"2.0.0"} | {"introduced":"1.0.0"},{"introduced":"1.0.0+b"},{"fixed":"2.0.0"}
+{"introduced":"2.0.0"},{"fixed":"2.0.0"},{"introduced":"1.0.0"} | {"introduced":"2.0.0"},{"fixed":"2.0.0"},{"introduced":"1.0.0"}
+"#;
 
-/// Returns the member with a range of these events.
 fn with_events(alloc: Global, events: &str) -> Result<OsvAdvisory, Fail> {
     let keys = format!(in alloc; "\"ranges\":[{{\"type\":\"SEMVER\",\"events\":[{events}]}}]")?;
     document(alloc, &keys)
 }
 
-/// Returns the text of a document.
-fn text_of(alloc: Global, document: &OsvAdvisory) -> Result<String, Fail> {
-    Ok(document.to_value(alloc)?.to_string(alloc)?)
-}
-
-/// Returns whether the document with some events is the one with others if it is normalized.
-fn is_normalized(alloc: Global, row: &(&str, &str)) -> Result<bool, Fail> {
-    let (events, wanted) = *row;
-    let found = normalized(alloc, with_events(alloc, events)?)?;
+/// Returns whether the document with the first events of a row is the one with the others if it is normalized.
+fn is_normalized(alloc: Global, row: &str) -> Result<bool, Fail> {
+    let found = normalized(alloc, with_events(alloc, field(row, 0))?)?;
     let found = text_of(alloc, &found)?;
-    let wanted = text_of(alloc, &with_events(alloc, wanted)?)?;
+    let wanted = text_of(alloc, &with_events(alloc, field(row, 1))?)?;
     Ok(found.as_str() == wanted.as_str())
-}
-
-/// Checks the rows of pairs.
-fn expect_normalized<T: AllocGlobal + Abort>(rt: &T, rows: &[(&str, &str)]) -> Result<(), Fail> {
-    for row in rows {
-        assert!(rt; is_normalized(rt.alloc(), row)?, "{row:?}");
-    }
-    Ok(())
 }
 
 #[test]
 fn osv_normalized(rt: HostRuntime) -> Result<(), Fail> {
-    expect_normalized(&rt, PAIRS)
-}
-
-/// The events of a range, and whether they rise in precedence.
-const ORDERS: &[(&str, bool)] = &[
-    ("", true),
-    (r#"{"fixed":"1.0.0"}"#, true),
-    (r#"{"introduced":"1.0.0"},{"fixed":"1.0.0+b"}"#, true),
-    (r#"{"introduced":"1.0.0"},{"fixed":"1.0.0-a"}"#, false),
-    (
-        r#"{"introduced":"0"},{"fixed":"3.0.0"},{"introduced":"2.0.0"}"#,
-        false,
-    ),
-    (
-        r#"{"introduced":"0.9.0"},{"last_affected":"0.10.0"},{"introduced":"2"}"#,
-        true,
-    ),
-];
-
-/// Returns whether the document with some events is called ordered.
-fn is_ordered(alloc: Global, events: &str) -> Result<bool, Fail> {
-    Ok(has_ordered_events(&with_events(alloc, events)?))
-}
-
-/// Checks the rows of orders.
-fn expect_orders<T: AllocGlobal + Abort>(rt: &T, rows: &[(&str, bool)]) -> Result<(), Fail> {
-    for row in rows {
-        assert!(rt; is_ordered(rt.alloc(), row.0)? == row.1, "{row:?}");
+    for row in EVENTS.trim().lines() {
+        assert!(rt; is_normalized(rt.alloc(), row)?, "{row}");
     }
     Ok(())
 }
 
+/// Whether the events of a range rise in precedence, and the events.
+const ORDERS: &str = r#"
+yes |
+yes | {"fixed":"1.0.0"}
+yes | {"introduced":"1.0.0"},{"fixed":"1.0.0+b"}
+no | {"introduced":"1.0.0"},{"fixed":"1.0.0-a"}
+no | {"introduced":"0"},{"fixed":"3.0.0"},{"introduced":"2.0.0"}
+yes | {"introduced":"0.9.0"},{"last_affected":"0.10.0"},{"introduced":"2"}
+"#;
+
+fn is_ordered(alloc: Global, events: &str) -> Result<bool, Fail> {
+    Ok(has_ordered_events(&with_events(alloc, events)?))
+}
+
 #[test]
 fn osv_order(rt: HostRuntime) -> Result<(), Fail> {
-    expect_orders(&rt, ORDERS)
+    for row in ORDERS.trim().lines() {
+        let wanted = field(row, 0) == "yes";
+        assert!(rt; is_ordered(rt.alloc(), field(row, 1))? == wanted, "{row}");
+    }
+    Ok(())
 }
