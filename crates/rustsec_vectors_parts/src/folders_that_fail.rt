@@ -68,19 +68,27 @@ fn gives(alloc: Global, mut paths: MemoryFolders<'_>, row: &Row<'_>) -> bool {
 /// A row, after how many askings its output is settled, and which asking may fail with an I/O error.
 type Asked<'a> = (Row<'a>, u64, u64);
 
+/// Returns whether words give their whole answer where an asking fails, or else the refusal of that kind.
+fn gives_there(alloc: Global, whole: &Row<'_>, failing: Failing, is_whole: bool) -> bool {
+    let (words, _, _) = whole;
+    let folders = MemoryFolders::new(FILES, failing);
+    if is_whole {
+        return gives(alloc, folders, whole);
+    }
+    if failing.kind == ErrorKind::Io {
+        let refused = (*words, Ok(2), "refused: I/O operation failed\n");
+        return gives(alloc, folders, &refused);
+    }
+    gives(alloc, folders, &(*words, Err(Fault::Memory), ""))
+}
+
 /// Returns whether words have this answer where one asking fails: the refusal of a kind, or the whole answer where the
 /// asking may fail or comes after all that the output is made of.
 fn fails_at_each(alloc: Global, kind: ErrorKind, asked: &Asked<'_>) -> bool {
     let (whole, settled, may_fail) = asked;
-    let is_io = kind == ErrorKind::Io;
-    let refusal = (whole.0, Ok(2), "refused: I/O operation failed\n");
-    let broken_off = (whole.0, Err(Fault::Memory), "");
     for at in 1..=settled.saturating_add(1) {
-        let folders = MemoryFolders::new(FILES, Failing { at, kind });
-        let is_whole = at > *settled || is_io && at == *may_fail;
-        let refused = if is_io { &refusal } else { &broken_off };
-        let row = if is_whole { whole } else { refused };
-        if !gives(alloc, folders, row) {
+        let is_whole = at > *settled || kind == ErrorKind::Io && at == *may_fail;
+        if !gives_there(alloc, whole, Failing { at, kind }, is_whole) {
             return false;
         }
     }

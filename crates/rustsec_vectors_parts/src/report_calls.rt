@@ -211,6 +211,9 @@ fn leaves(alloc: Global, row: &(OS, BinaryFormat, u8, bool)) -> Result<bool, Fai
     let mut report = report(alloc, "filter | once | 1 | ")?;
     report.warnings = warnings(alloc, *system)?;
     for _ in 0..*times {
+        if report.vulnerabilities.count != report.vulnerabilities.list.len() {
+            return Ok(false);
+        }
         filter_report_by_binary_type(format, &mut report);
     }
     let none = "0 vulnerabilities, 0 warnings\n";
