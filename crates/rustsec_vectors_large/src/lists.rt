@@ -6,7 +6,7 @@ use crate::numbers::{COUNT, MANY, numbered, numbered_by, occurrences};
 use rustsec_advisory::Advisory;
 use rustsec_error::{Error, ErrorKind};
 use rustsec_fixer::Fixer;
-use rustsec_fixtures::{Failing, Holds, MemoryFolders, SHORT};
+use rustsec_fixtures::{Failing, Holds, MemoryFolders, Paths, SHORT};
 use rustsec_index::yanked_in;
 use rustsec_lock::Lockfile;
 use rustsec_lock::package::Name;
@@ -197,17 +197,27 @@ fn packages_and_links_of_a_document(rt: HostRuntime) -> Result<(), Fail> {
     Ok(())
 }
 
-/// Returns how many packages of a lockfile an index with this file of `base` lists as yanked, and how many it does not.
-fn counts_by(alloc: Global, file: &str, lockfile: &str) -> Result<(usize, usize), Fail> {
-    let rows = [
-        ("index/ba/se/base", Holds::Text(file)),
-        ("index", Holds::Entries(&[])),
-    ];
+/// Returns an index with one file, that of `base`.
+fn index_of<'a>(alloc: Global, file: &'a str) -> Result<Vec<(&'a str, Holds<'a>)>, Fail> {
+    let mut rows = Vec::new(alloc);
+    rows.push(("index/ba/se/base", Holds::Text(file)))?;
+    rows.push(("index", Holds::Entries(&[])))?;
+    Ok(rows)
+}
+
+/// Returns how many packages of a lockfile an index lists as yanked, and how many it does not list.
+fn counts_in(alloc: Global, files: Paths<'_>, lockfile: &str) -> Result<(usize, usize), Fail> {
     let (at, kind) = (0, ErrorKind::Io);
-    let mut folders = MemoryFolders::new(&rows, Failing { at, kind });
+    let mut folders = MemoryFolders::new(files, Failing { at, kind });
     let lockfile = Lockfile::from_str(alloc, lockfile)?;
     let found = yanked_in(alloc, &mut folders, "index", lockfile.packages.as_slice())?;
     Ok((found.packages.len(), found.unlisted.len()))
+}
+
+/// Returns these counts for an index with this file of `base`.
+fn counts_by(alloc: Global, file: &str, lockfile: &str) -> Result<(usize, usize), Fail> {
+    let rows = index_of(alloc, file)?;
+    counts_in(alloc, &rows, lockfile)
 }
 
 /// Returns the file of a thousand versions of a package, all of them yanked by the last entry of their number.
