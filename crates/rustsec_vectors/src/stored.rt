@@ -123,11 +123,13 @@ pub(crate) fn load_all(
     entries: &mut Entries,
     files: &str,
 ) -> Result<&'static str, Fail> {
-    let mut answer = "no file";
-    for words in files.split(", ") {
-        answer = load(alloc, entries, words)?;
+    let (before, last) = files.rsplit_once(", ").unwrap_or(("", files));
+    for words in before.split(", ") {
+        if !words.is_empty() {
+            load(alloc, entries, words)?;
+        }
     }
-    Ok(answer)
+    load(alloc, entries, last)
 }
 
 /// Returns whether the advisories that are stored are in these collections, in order.

@@ -141,16 +141,16 @@ fn dates(rt: HostRuntime) -> Result<(), Fail> {
     Ok(())
 }
 
-/// Returns whether identifiers are those between the colons of a text, one after another.
-fn are_between_colons(path: &FunctionPath, text: &str) -> bool {
-    let mut rest = text;
+/// Returns the identifiers of a path, joined by colons.
+fn joined(alloc: Global, path: &FunctionPath) -> Result<String, Fail> {
+    let mut text = String::new(alloc);
     for identifier in path.iter() {
-        let Some(after) = rest.strip_prefix(identifier.as_str()) else {
-            return false;
-        };
-        rest = after.strip_prefix("::").unwrap_or(after);
+        if !text.is_empty() {
+            text.push_str("::")?;
+        }
+        text.push_str(identifier.as_str())?;
     }
-    rest.is_empty()
+    Ok(text)
 }
 
 /// Returns whether a text is a path of this crate with this many identifiers, printed and copied.
@@ -159,7 +159,7 @@ fn is_path(alloc: Global, text: &str, crate_name: &str, count: usize) -> Result<
     Ok(
         path.crate_name() == crate_name
             && path.iter().count() == count
-            && are_between_colons(&path, text)
+            && joined(alloc, &path)?.as_str() == text
             && prints(alloc, &path, text)?
             && is_copied(&path)?,
     )
