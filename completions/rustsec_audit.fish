@@ -29,7 +29,7 @@ complete -c rustsec_audit -n '__fish_seen_subcommand_from check check-many' -l a
 complete -c rustsec_audit -n '__fish_seen_subcommand_from check-many' -l null -d 'the paths end at NUL bytes'
 complete -c rustsec_audit -n '__fish_seen_subcommand_from check-many' -l progress -d 'a line after each lockfile'
 complete -c rustsec_audit -n '__fish_seen_subcommand_from lint-database' -x -a 'text json' -l format -d 'how findings are written'
-complete -c rustsec_audit -n '__fish_seen_subcommand_from lint-database' -l upstream -d 'patched requirements that overlap, sources that are not URLs and forms of TOML 1.1, which the Rust crate refuses, are faults too'
+complete -c rustsec_audit -n '__fish_seen_subcommand_from lint-database' -l upstream -d 'patched requirements that overlap and sources that are not URLs, which the Rust crate refuses, are faults too'
 complete -c rustsec_audit -n '__fish_seen_subcommand_from lint-database' -l progress -d 'a line after each 1,000 files'
 complete -c rustsec_audit -n '__fish_seen_subcommand_from stats' -x -a 'text json' -l format -d 'how the numbers are written'
 complete -c rustsec_audit -n '__fish_seen_subcommand_from osv-database' -l skip-withdrawn -d 'without withdrawn advisories'

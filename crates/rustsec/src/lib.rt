@@ -1,6 +1,10 @@
 //! The RustSec advisory database, and audits of a `Cargo.lock` against it, under the paths of the Rust crate
-//! `rustsec`. Each item is in one of the crates below, with its contract; the only code of this crate is the version.
+//! `rustsec`. Each item is in one of the crates below, with its contract, except the version and the audit of texts: one
+//! call whose contract is the main theorem of these crates.
 #![tactic(auto)]
+
+mod audit;
+mod audited_advisory;
 
 /// The version of the Rust crate that these crates port.
 pub const VERSION: &str = "0.33.0";
@@ -9,7 +13,7 @@ pub const VERSION: &str = "0.33.0";
 pub mod advisory {
     /// The platforms and functions that an advisory affects.
     pub mod affected {
-        pub use rustsec_advisory::{Affected, Functions};
+        pub use rustsec_advisory::Affected;
         pub use rustsec_texts::{FunctionPath, Identifier};
     }
 
@@ -24,8 +28,7 @@ pub mod advisory {
 
 /// Databases of advisories, and queries.
 pub mod database {
-    pub use rustsec_database::{Database, Iter};
-    pub use rustsec_query::Query;
+    pub use rustsec_database::{Database, Iter, Query};
 }
 
 /// Ranges of affected versions, and OSV documents.
@@ -75,20 +78,21 @@ pub mod platforms {
     pub use rustsec_lock::platforms::{Arch, OS};
 }
 
+pub use crate::audit::{Audit, audited};
+pub use crate::audited_advisory::AuditedAdvisory;
 pub use rustsec_advisory::Advisory;
-pub use rustsec_database::{Database, Entries, Index, Pair, Slot, vulnerabilities_of};
-pub use rustsec_error::{Error, ErrorKind, Result};
-pub use rustsec_fixer::{FixCommand, Fixer};
-pub use rustsec_folders::{FolderEntry, Folders, SourceFile};
+pub use rustsec_database::{
+    Database, Entries, Index, Pair, Slot, Vulnerability, vulnerabilities_of,
+};
+pub use rustsec_files::{FolderEntry, Folders, SourceFile};
 pub use rustsec_lock::{
     AttackComplexity, AttackVector, Availability, Base, Confidentiality, Cvss, Integrity, Lockfile,
     PrivilegesRequired, Scope, Severity, SourceId, SourceKind, UserInteraction,
 };
-pub use rustsec_query::Vulnerability;
 pub use rustsec_registry::{IndexVersion, Lookup};
-pub use rustsec_report::{Report, Warning};
+pub use rustsec_report::{FixCommand, Fixer, Report, Warning};
 pub use rustsec_texts::{Collection, WarningKind};
-pub use rustsec_values::{Items, SortedMap, Text};
+pub use rustsec_values::{Error, ErrorKind, Items, Result, SortedMap, Text};
 pub use rustsec_versions::{
     Bound, Requirements, Steps, UnaffectedRange, requirement_text, successor,
 };

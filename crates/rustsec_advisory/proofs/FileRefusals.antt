@@ -1,8 +1,8 @@
 -- The error of a file, from the error of its text.
 use Rattle.std.proofs.Common.{◌≡◌, ◌⊎◌, ◌∙◌, ℕ, List, inl, inr}
-use Rattle.rustsec_error.specs.Failure.{Failure, IsMemory, IsOfKind, IsRefusal}
-use Rattle.rustsec_error.specs.Refusals.{of_file}
-use Rattle.rustsec_error.specs.declared.error.ErrorKind.{ErrorKind}
+use Rattle.rustsec_values.specs.Failure.{Failure, IsMemory, IsOfKind, IsRefusal}
+use Rattle.rustsec_values.specs.Refusals.{of_file}
+use Rattle.rustsec_values.specs.declared.error.ErrorKind.{ErrorKind}
 use Rattle.rustsec_advisory.specs.FileRefusals.{IsOfFile}
 
 -- an error that keeps the kind and out of memory keeps the reason

@@ -2,8 +2,8 @@
 use Rattle.std.proofs.Common.{◌≡◌, ℕ, List, Some, inl, inr, true}
 use Rattle.rustsec_advisory.specs.FileRefusals.{IsLintRefusal, IsNoText, IsTextRefusal}
 use Rattle.rustsec_files.specs.Paths.{is_markdown}
-use Rattle.rustsec_folders.specs.Allowed.{Allowed}
-use Rattle.rustsec_error.specs.Failure.{Failure}
+use Rattle.rustsec_files.specs.Allowed.{Allowed}
+use Rattle.rustsec_values.specs.Failure.{Failure}
 
 pub no_text : (allowed : Allowed) (path : List ℕ) (e : Failure) → IsNoText allowed path e → IsLintRefusal allowed path e
 no_text allowed path e (inl other) = inl other

@@ -1,15 +1,11 @@
 -- How a list of lint errors grows.
-use Rattle.std.proofs.Common.{◌≡◌, ◌≢◌, ◌∙◌, ℕ, ◌+◌, ◌<◌, ◌||◌, ◌&&◌, Bool, List, [], ◌++◌, Option, Some, false, true, true≢false, codes, length, get_or, take, refl, ap, inl, inr}
+use Rattle.std.proofs.Common.{◌≡◌, ◌≢◌, ◌∙◌, ℕ, ◌+◌, ◌<◌, List, ◌++◌, Some, false, length, get_or, take, refl, ap, inl, inr}
 use Rattle.std.proofs.lemmas.Bool.{cases_Bool}
 use Rattle.std.specs.Cmp.Lexicographic.{bytes_decides}
 use Rattle.std.specs.Str.{bytes_eq}
 use Rattle.std.specs.List.{flat_map}
 use Rattle.std.proofs.lemmas.List.{append_assoc, flat_map_more, take_more}
 use Rattle.toml.specs.Data.{Data, string, integer, float, boolean, datetime, array, table, as_str}
-use Rattle.rustsec_advisory.specs.LintErrors.{LintError, advisory_value, differs, has_bad_id, id_rows, is_other_id, of_string, shares_year, when, years_differ}
-use Rattle.rustsec_texts.specs.Dates.{day_of}
-use Rattle.rustsec_texts.specs.Ids.{is_placeholder}
-use Rattle.rustsec_advisory.specs.declared.metadata.Metadata.{Metadata}
 
 -- the rows of one more element, in a loop
 pub rows-more : {X A : Type 0} (f : X → List A) (before after rows : List A) (xs : List X) (i : ℕ) (x : X) → i < length xs → x ≡ get_or xs i x
@@ -38,27 +34,3 @@ not-same a b h = elim (cases_Bool (bytes_eq a b)) [
   | inl is_same ↦ absurd (h ((bytes_decides a b).0 is_same))
   | inr differs ↦ differs
 ]
-
-three-empty : (a b c : Bool) (x y z : LintError) → (a || (b || c)) ≡ false → when a x ++ (when b y ++ when c z) ≡ []
-three-empty false false false x y z h = refl
-three-empty false false true x y z h = absurd (true≢false h)
-three-empty false true c x y z h = absurd (true≢false h)
-three-empty true b c x y z h = absurd (true≢false h)
-
--- an ID without a row
-pub no-id-rows : (draft : Option Bool) (m : Metadata) (printed : List ℕ) → has_bad_id draft m ≡ false → id_rows draft m printed ≡ []
-no-id-rows draft m printed h =
-    three-empty (differs draft (is_placeholder m.id.text)) (is_other_id m.id.kind) (shares_year m.id.kind && years_differ m.id.year (day_of m.date))
-    (advisory_value (codes "id") printed (codes "advisory ID draft status does not match file name"))
-    (advisory_value (codes "id") printed (codes "unknown advisory ID type"))
-    (advisory_value (codes "id") printed (codes "year in advisory ID does not match date")) h
-
--- a value whose rows are none, whichever string it is
-pub no-string-rows : (d : Data) (f : List ℕ → List LintError) → ((text : List ℕ) → f text ≡ []) → of_string f d ≡ []
-no-string-rows (string s) f h = h s
-no-string-rows (integer z) f h = refl
-no-string-rows (float x) f h = refl
-no-string-rows (boolean b) f h = refl
-no-string-rows (datetime t) f h = refl
-no-string-rows (array ds) f h = refl
-no-string-rows (table ms) f h = refl

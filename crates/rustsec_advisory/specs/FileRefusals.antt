@@ -6,10 +6,10 @@ use Rattle.rustsec_advisory.specs.Lints.{Lints}
 use Rattle.rustsec_advisory.specs.declared.advisory.Advisory.{Advisory}
 use Rattle.rustsec_files.specs.Paths.{is_draft, is_markdown}
 use Rattle.rustsec_files.specs.ReadFailures.{IsReadFailure}
-use Rattle.rustsec_folders.specs.Allowed.{Allowed}
-use Rattle.rustsec_error.specs.Failure.{Failure, IsMemory, IsRefusal}
-use Rattle.rustsec_error.specs.Refusals.{of_file}
-use Rattle.rustsec_error.specs.declared.error.ErrorKind.TheVariants as kind
+use Rattle.rustsec_files.specs.Allowed.{Allowed}
+use Rattle.rustsec_values.specs.Failure.{Failure, IsMemory, IsRefusal}
+use Rattle.rustsec_values.specs.Refusals.{of_file}
+use Rattle.rustsec_values.specs.declared.error.ErrorKind.TheVariants as kind
 
 -- the error of a file's text, as that of the file; or out of memory
 abbrev pub IsOfFile : List ℕ → Failure → Type 0

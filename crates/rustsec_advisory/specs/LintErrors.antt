@@ -98,11 +98,6 @@ year_row m printed =
 abbrev pub id_rows : Option Bool → Metadata → List ℕ → List LintError
 id_rows draft m printed = draft_row draft m printed ++ (kind_row m printed ++ year_row m printed)
 
--- whether the ID has a row
-abbrev pub has_bad_id : Option Bool → Metadata → Bool
-has_bad_id draft m =
-    differs draft (is_placeholder m.id.text) || (is_other_id m.id.kind || (shares_year m.id.kind && years_differ m.id.year (day_of m.date)))
-
 -- whether a category is not one of the table
 abbrev pub is_other_category : Category → Bool
 is_other_category (category.Other text) = true

@@ -1,28 +1,27 @@
 //! Advisories, and the reader of their files.
 
-ghost use Rattle.std.specs.Prelude.{◌≡◌, ◌⊎◌, ℕ, IfErr, IfOk, List, None, Some, is_some, nat_eq, option_and_then, string_bytes};
+ghost use Rattle.std.specs.Prelude.{◌≡◌, ◌⊎◌, ℕ, IfErr, IfOk, List, MatchResult, None, Some, is_some, nat_eq, option_and_then, string_bytes};
 ghost use Rattle.std.specs.List.{starts_with};
 ghost use Rattle.rustsec_lock.specs.Cvss.{cvss_severity};
 ghost use Rattle.toml.specs.Parse.{parse_document};
 ghost use Rattle.toml.specs.View.{table_view};
-ghost use Rattle.rustsec_folders.specs.Allowed.{AllowSame, real_folders};
+ghost use Rattle.rustsec_files.specs.Allowed.{AllowSame, read_from, real_files, real_folders};
 ghost use Rattle.rustsec_advisory.specs.Advisory.{IsAdvisory, IsAdvisoryWith, IsOfDocument, document_text, header};
 ghost use Rattle.rustsec_advisory.specs.FileRefusals.{IsAdvisoryAt, IsAdvisoryRefusal, IsOfFile, IsTextRefusal, NamesFile};
 ghost use Rattle.rustsec_files.specs.Paths.{is_draft};
 ghost use Rattle.rustsec_texts.specs.Parts.{parts_of};
 ghost use Rattle.rustsec_advisory.specs.declared.advisory.Advisory as given;
-ghost use Rattle.rustsec_error.specs.Failure.{IsMemory, IsOfKind, IsRefusal, out_of_memory};
+ghost use Rattle.rustsec_values.specs.Failure.{IsMemory, IsOfKind, IsRefusal, out_of_memory};
 
 use crate::affected::Affected;
 use crate::front_matter;
 use crate::metadata::Metadata;
-use rustsec_error::{Error, ErrorKind, Result, file_error};
 use rustsec_files::path::FilePath;
-use rustsec_folders::{Folders, RealFolders};
+use rustsec_files::{Folders, RealFolders};
 use rustsec_lock::Severity;
 use rustsec_texts::{Date, Id, Parts};
 use rustsec_toml::{Section, TablePlace, document, key_at};
-use rustsec_values::{ExactClone, ExactEq, beginning_of};
+use rustsec_values::{Error, ErrorKind, ExactClone, ExactEq, Result, beginning_of, file_error};
 use rustsec_versions::Versions;
 use std::alloc::{AllocError, Global};
 use std::rt::Files;
@@ -207,7 +206,7 @@ fn parts_in(alloc: Global, text: &str) -> Result<Parts<'_>>
 }
 
 /// Parses the advisory of a text with these parts, and returns the document of its front matter too.
-pub(crate) fn read_parts(alloc: Global, text: &str, parts: Parts<'_>) -> Result<(Advisory, Table)>
+fn read_parts(alloc: Global, text: &str, parts: Parts<'_>) -> Result<(Advisory, Table)>
     requires { parts_of text.now ≡ Some (record {
       front_matter = parts.front_matter.now;
       markdown = parts.markdown.now;
@@ -281,6 +280,9 @@ impl Advisory {
         ensures err { IfErr result (IsAdvisoryRefusal (F.allowed folders.old) path.now) }
         ensures same { AllowSame (F.allowed folders.old) (F.allowed folders.new) }
         ensures names { IfErr result (λ e. F.refuses folders.old path.now e ⊎ IsOfFile path.now e) }
+        ensures opened { MatchResult result
+            (IsAdvisoryAt (read_from F.opened (F.allowed folders.old)) path.now)
+            (IsAdvisoryRefusal (read_from F.opened (F.allowed folders.old)) path.now) }
     {
         let text = folders.read(alloc, path)?;
         Advisory::of_file(alloc, path, text.as_str())
@@ -295,6 +297,9 @@ impl Advisory {
         ensures ok { IfOk result (IsAdvisoryAt real_folders path.now) }
         ensures err { IfErr result (IsAdvisoryRefusal real_folders path.now) }
         ensures names { IfErr result (NamesFile path.now) }
+        ensures opened { MatchResult result
+            (IsAdvisoryAt (real_files R.File.remaining) path.now)
+            (IsAdvisoryRefusal (real_files R.File.remaining) path.now) }
     {
         Advisory::load_file_with(alloc, &mut RealFolders::new(rt), path)
     }

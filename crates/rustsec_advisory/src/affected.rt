@@ -1,12 +1,12 @@
 //! The platforms and functions of a package that an advisory affects.
 
 ghost use Rattle.std.specs.Prelude.{◌≡◌, [], IfErr, IfOk};
-ghost use Rattle.rustsec_error.specs.Failure.{IsMemory};
+ghost use Rattle.rustsec_values.specs.Failure.{IsMemory};
 
-use crate::functions::Functions;
-use rustsec_error::Result;
 use rustsec_lock::platforms::{Arch, OS};
-use rustsec_values::{ExactClone, ExactEq, Items};
+use rustsec_texts::FunctionPath;
+use rustsec_values::{ExactClone, ExactEq, Items, Result, SortedMap};
+use rustsec_versions::Requirements;
 use std::alloc::Global;
 
 /// The affected platforms and functions.
@@ -17,7 +17,7 @@ pub struct Affected {
     /// The systems; an empty list means all.
     pub os: Items<OS>,
     /// The functions, each with requirements for the versions in which it is affected.
-    pub functions: Functions,
+    pub functions: SortedMap<FunctionPath, Requirements>,
 }
 
 /// Hand-written: a derived `Drop` is proved again, field by field, at every exit of every owner.
@@ -39,12 +39,18 @@ impl Affected {
         Affected {
             arch: Items::new(alloc),
             os: Items::new(alloc),
-            functions: Functions::new(alloc),
+            functions: SortedMap::new(alloc),
         }
     }
 
     /// Takes the value apart: architectures, systems and functions. This takes no memory.
-    pub fn into_parts(self) -> (Items<Arch>, Items<OS>, Functions)
+    pub fn into_parts(
+        self,
+    ) -> (
+        Items<Arch>,
+        Items<OS>,
+        SortedMap<FunctionPath, Requirements>,
+    )
         ensures { result ≡ (self.arch, self.os, self.functions) }
     {
         let Affected {

@@ -14,17 +14,15 @@ ghost use Rattle.rustsec_advisory.specs.declared.metadata.Subject as subject;
 ghost use Rattle.rustsec_advisory.specs.declared.metadata.Terms as terms;
 ghost use Rattle.rustsec_texts.specs.Paths.{path_of};
 ghost use Rattle.rustsec_toml.specs.Fields.{defaulted};
-ghost use Rattle.rustsec_error.specs.Failure.{IsMemory, IsOfKind, IsRefusal, out_of_memory};
+ghost use Rattle.rustsec_values.specs.Failure.{IsMemory, IsOfKind, IsRefusal, out_of_memory};
 ghost use Rattle.rustsec_versions.specs.acceptance.Lists.{Lists};
 
 use crate::affected::Affected;
-use crate::functions::Functions;
 use crate::metadata::{Kinds, Metadata, MetadataParts, Origin, Subject, Terms};
 use crate::requirements::{optional_requirements_at, requirements, requirements_at};
-use rustsec_error::{Error, ErrorKind, Result};
 use rustsec_texts::{FunctionPath, License};
 use rustsec_toml::{Section, TablePlace};
-use rustsec_values::{SortedMap, Text};
+use rustsec_values::{Error, ErrorKind, Result, SortedMap, Text};
 use rustsec_versions::{Requirements, UnaffectedRange, Versions};
 use semver::VersionReq;
 use std::alloc::{AllocError, Global};
@@ -239,8 +237,8 @@ fn function_path(alloc: Global, section: Section<'_>, key: &str) -> Result<Funct
     section.parse_str(alloc, key, key)
 }
 
-/// Reads the functions of a table into a map. `section` is for messages.
-fn function_map(
+/// Reads the functions of a table, by their paths. `section` is for messages.
+fn functions(
     alloc: Global,
     section: Section<'_>,
     table: &Table,
@@ -258,24 +256,18 @@ fn function_map(
     Ok(functions)
 }
 
-/// Reads the functions of a table, in the order of their paths. `section` is for messages.
-fn functions(alloc: Global, section: Section<'_>, table: &Table) -> Result<Functions>
-    ensures ok { IfOk result (AreFunctions (table_view table.now)) }
-    ensures err { IfErr result (IsRefusal ErrorKind.Parse ((fs : List Function) → ¬ AreFunctions (table_view table.now) fs)) }
-{
-    let map = function_map(alloc, section, table)?;
-    let functions = Functions::from_map(alloc, map)?;
-    Ok(functions)
-}
-
 /// Reads the functions at a key; none if the key is missing.
-fn functions_at(alloc: Global, section: Section<'_>, key: &str) -> Result<Functions>
+fn functions_at(
+    alloc: Global,
+    section: Section<'_>,
+    key: &str,
+) -> Result<SortedMap<FunctionPath, Requirements>>
     ensures ok { IfOk result (AreFunctionsAt (get_member key.now (table_view section.entry.table.now))) }
     ensures err { IfErr result (IsRefusal ErrorKind.Parse
         ((fs : List Function) → ¬ AreFunctionsAt (get_member key.now (table_view section.entry.table.now)) fs)) }
 {
     let Some(value) = section.get(key) else {
-        return Ok(Functions::new(alloc));
+        return Ok(SortedMap::new(alloc));
     };
     match value.as_table() {
         Some(inner) => functions(alloc, functions_section(section, inner), inner),

@@ -4,7 +4,6 @@
 mod advisory;
 mod affected;
 mod front_matter;
-mod functions;
 mod lint_places;
 mod lint_rows;
 mod lint_rules;
@@ -15,7 +14,6 @@ mod requirements;
 
 pub use crate::advisory::{Advisory, first_line};
 pub use crate::affected::Affected;
-pub use crate::functions::Functions;
 pub use crate::lint_places::{lint_error_line, placed_errors};
 pub use crate::linter::Linter;
 pub use crate::metadata::Metadata;

@@ -3,11 +3,10 @@
 ghost use Rattle.std.specs.Prelude.{◌≡◌, ◌++◌, IfErr, OnOk};
 ghost use Rattle.std.specs.Option.{option_copied};
 ghost use Rattle.rustsec_advisory.specs.LintErrors.{bad_content, bad_value, unknown_key, when};
-ghost use Rattle.rustsec_error.specs.Failure.{IsMemory};
+ghost use Rattle.rustsec_values.specs.Failure.{IsMemory};
 
 use crate::linter::{Error, ErrorKind};
-use rustsec_error::Result;
-use rustsec_values::Items;
+use rustsec_values::{Items, Result};
 use std::alloc::Global;
 
 /// A lint error for a value: its place, its text, and what is wrong with it.

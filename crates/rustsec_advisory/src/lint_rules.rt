@@ -5,7 +5,7 @@ ghost use Rattle.toml.specs.View.{table_view, view};
 ghost use Rattle.rustsec_advisory.specs.Affected.{members_of};
 ghost use Rattle.rustsec_advisory.specs.KeyOrder.{DocumentRises, KeysRise, SectionRises, sections};
 ghost use Rattle.rustsec_advisory.specs.LintErrors.{advisory_rows, affected_rows, is_one_of, lint_errors, platform_keys, quiet_keys, section_rows, top_rows, versions_rows};
-ghost use Rattle.rustsec_error.specs.Failure.{IsMemory};
+ghost use Rattle.rustsec_values.specs.Failure.{IsMemory};
 
 use crate::advisory::Advisory;
 use crate::lint_rows::{add_content, add_key};
@@ -13,8 +13,7 @@ use crate::lint_values::{
     lint_categories, lint_functions, lint_id_value, lint_informational, lint_license, lint_url,
 };
 use crate::linter::Error;
-use rustsec_error::Result;
-use rustsec_values::Items;
+use rustsec_values::{Items, Result};
 use std::alloc::Global;
 use toml::{Table, Value};
 

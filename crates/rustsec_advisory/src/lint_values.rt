@@ -5,18 +5,17 @@ ghost use Rattle.std.specs.Map.{keys_of};
 ghost use Rattle.toml.specs.Text.{IsValueText};
 ghost use Rattle.toml.specs.View.{view};
 ghost use Rattle.toml_writer.specs.Text.{string_text};
-ghost use Rattle.rustsec_advisory.specs.LintErrors.{begins_with, category_row, crate_name_of, differs, draft_row, function_row, has_bad_id, id_rows, informational_row, is_other_category, is_other_license, kind_row, license_row, of_string, paths_in, shares_year, url_row, year_row, years_differ};
+ghost use Rattle.rustsec_advisory.specs.LintErrors.{begins_with, category_row, crate_name_of, differs, draft_row, function_row, id_rows, informational_row, is_other_category, is_other_license, kind_row, license_row, of_string, paths_in, shares_year, url_row, year_row, years_differ};
 ghost use Rattle.rustsec_texts.specs.Dates.{day_of};
-ghost use Rattle.rustsec_error.specs.Failure.{IsMemory};
+ghost use Rattle.rustsec_values.specs.Failure.{IsMemory};
 
 use crate::advisory::Advisory;
-use crate::functions::Functions;
 use crate::lint_rows::BadValue;
 use crate::linter::Error;
 use crate::metadata::Metadata;
-use rustsec_error::Result;
 use rustsec_texts::{Category, FunctionPath, Informational, License};
-use rustsec_values::Items;
+use rustsec_values::{Items, Result, SortedMap};
+use rustsec_versions::Requirements;
 use std::alloc::{AllocError, Global};
 use std::fmt;
 use std::fmt::Formatter;
@@ -41,15 +40,6 @@ fn names_another_year(metadata: &Metadata) -> bool
             != metadata.date.year(),
         _ => false,
     }
-}
-
-/// Returns whether the ID has a lint error.
-fn has_bad_id(draft: Option<bool>, metadata: &Metadata) -> bool
-    ensures { result ≡ has_bad_id draft metadata.now }
-{
-    differs(draft, metadata.id.is_placeholder())
-        || metadata.id.is_other()
-        || names_another_year(metadata)
 }
 
 /// Appends the lint error for an ID that disagrees with the draft flag, if so.
@@ -259,10 +249,6 @@ pub(crate) fn lint_id_value(
     if value.as_str().is_none() {
         return Ok(());
     }
-    // Most IDs have no lint error, and are not printed.
-    if !has_bad_id(draft, metadata) {
-        return Ok(());
-    }
     let printed = printed(alloc, value)?;
     lint_id(alloc, errors, draft, metadata, &printed)
 }
@@ -313,12 +299,12 @@ fn lint_paths(
     alloc: Global,
     errors: &mut Items<Error>,
     name: &[u8],
-    functions: &Functions,
+    functions: &SortedMap<FunctionPath, Requirements>,
 ) -> Result<()>
     ensures ok { OnOk result (errors.new ≡ errors.old ++ flat_map (function_row name.now) (keys_of functions.now)) }
     ensures err { IfErr result IsMemory }
 {
-    for (path, _) in functions.as_slice() {
+    for (path, _) in functions {
         lint_function(alloc, errors, name, path)?;
     }
     Ok(())

@@ -1,6 +1,6 @@
 //! The linter of advisories: it finds lint errors in advisories that the reader accepts.
 
-ghost use Rattle.std.specs.Prelude.{◌≡◌, ◌≢◌, ◌⊎◌, ℕ, List, IfErr, IfOk, None, OnErr, Some, false, true};
+ghost use Rattle.std.specs.Prelude.{◌≡◌, ◌≢◌, ◌⊎◌, ℕ, List, IfErr, IfOk, MatchResult, None, OnErr, Some, false, true};
 ghost use Rattle.std.specs.Fmt.{DisplaysOnOk};
 ghost use Rattle.std.specs.Option.{option_copied};
 ghost use Rattle.toml.specs.Data.{Members};
@@ -11,20 +11,17 @@ ghost use Rattle.rustsec_advisory.specs.KnownKeys.{AreKeysKnown};
 ghost use Rattle.rustsec_files.specs.Paths.{is_draft, is_markdown};
 ghost use Rattle.rustsec_advisory.specs.LintErrors.{LintError, lint_error_text, kind_text, message_text, section_text};
 ghost use Rattle.rustsec_advisory.specs.Lints.{Lints};
-ghost use Rattle.rustsec_folders.specs.Allowed.{AllowSame, real_folders};
-ghost use Rattle.rustsec_texts.specs.Parts.{parts_of};
+ghost use Rattle.rustsec_files.specs.Allowed.{AllowSame, read_from, real_files, real_folders};
 ghost use Rattle.rustsec_advisory.specs.declared.advisory.Advisory as given;
 ghost use Rattle.rustsec_advisory.specs.declared.linter.ErrorKind.TheVariants as lint_kind;
-ghost use Rattle.rustsec_error.specs.Failure.{IsMemory, IsOfKind, IsRefusal};
-ghost use Rattle.rustsec_error.specs.declared.error.ErrorKind.TheVariants as failure;
+ghost use Rattle.rustsec_values.specs.Failure.{IsMemory, IsOfKind, IsRefusal};
+ghost use Rattle.rustsec_values.specs.declared.error.ErrorKind.TheVariants as failure;
 
 use crate::advisory::{self, Advisory};
 use crate::lint_rules;
-use rustsec_error::{Result, file_error, text_error};
 use rustsec_files::path::FilePath;
-use rustsec_folders::{Folders, RealFolders};
-use rustsec_texts::Parts;
-use rustsec_values::{ExactClone, ExactEq, Items, Text};
+use rustsec_files::{Folders, RealFolders};
+use rustsec_values::{ExactClone, ExactEq, Items, Result, Text, file_error, text_error};
 use std::alloc::{AllocError, Global};
 use std::fmt;
 use std::marker::Model;
@@ -329,8 +326,7 @@ impl Drop for Linter {
 }
 
 impl Linter {
-    /// Parses an advisory and finds its lint errors. `draft` is whether its file is a draft's, if that is
-    /// known.
+    /// Parses an advisory and finds its lint errors. `draft` is whether its file is a draft's, if that is known.
     ///
     /// # Errors
     ///
@@ -350,28 +346,6 @@ impl Linter {
         Ok(Linter { advisory, errors })
     }
 
-    /// Lints a text with these parts, as `lint_string`, with the same errors.
-    pub fn lint_parts(
-        alloc: Global,
-        text: &str,
-        parts: Parts<'_>,
-        draft: Option<bool>,
-    ) -> Result<Linter>
-        requires { parts_of text.now ≡ Some (record {
-          front_matter = parts.front_matter.now;
-          markdown = parts.markdown.now;
-          title = parts.title.now;
-          description = parts.description.now;
-        }) }
-        ensures ok { IfOk result (λ l. Lints text.now draft l.advisory l.errors) }
-        ensures err { IfErr result (IsRefusal failure.Parse ((a : given.Advisory) → ¬ IsAdvisory text.now a)) }
-    {
-        let (advisory, document) = advisory::read_parts(alloc, text, parts)?;
-        let errors = lint_rules::of_document(alloc, draft, &advisory, &document)?;
-        let linter = Linter { advisory, errors };
-        Ok(linter)
-    }
-
     /// Returns the text of a Markdown file at a path of any folders.
     ///
     /// # Errors
@@ -383,6 +357,7 @@ impl Linter {
         ensures err { IfErr result (IsNoText (F.allowed folders.old) path.now) }
         ensures same { AllowSame (F.allowed folders.old) (F.allowed folders.new) }
         ensures names { IfErr result (λ e. F.refuses folders.old path.now e ⊎ IsOfFile path.now e) }
+        ensures opened { IfOk result F.opened }
     {
         if !FilePath::of(path).is_markdown() {
             let other = text_error(alloc, "not a Markdown file", path, "the extension `md`");
@@ -403,18 +378,17 @@ impl Linter {
         }
     }
 
-    /// Lints the file at a path of any folders, as `lint_string` does its text. It is a draft's where its
-    /// path says so.
+    /// Lints the file at a path of any folders, as `lint_string` does its text. It is a draft's where its path says so.
     ///
     /// # Errors
     ///
-    /// As `file_text_with`; then as `lint_string`. The message of a refused text names the path; the cause is what
-    /// `lint_string` says, followed by its own cause.
+    /// As `file_text_with`; then as `lint_string`. The message of a refused text names the path, its cause says the rest.
     pub fn lint_file_with<F: Folders>(alloc: Global, folders: &mut F, path: &str) -> Result<Linter>
         ensures ok { IfOk result (λ l. AreLintsAt (F.allowed folders.old) path.now l.advisory l.errors) }
         ensures err { IfErr result (IsLintRefusal (F.allowed folders.old) path.now) }
         ensures same { AllowSame (F.allowed folders.old) (F.allowed folders.new) }
         ensures names { IfErr result (λ e. F.refuses folders.old path.now e ⊎ IsOfFile path.now e) }
+        ensures opened { MatchResult result (λ l. AreLintsAt (read_from F.opened (F.allowed folders.old)) path.now l.advisory l.errors) (IsLintRefusal (read_from F.opened (F.allowed folders.old)) path.now) }
     {
         let text = Linter::file_text_with(alloc, folders, path)?;
         Linter::of_file(alloc, path, text.as_str())
@@ -429,6 +403,7 @@ impl Linter {
         ensures ok { IfOk result (λ l. AreLintsAt real_folders path.now l.advisory l.errors) }
         ensures err { IfErr result (IsLintRefusal real_folders path.now) }
         ensures names { IfErr result (NamesFile path.now) }
+        ensures opened { MatchResult result (λ l. AreLintsAt (real_files R.File.remaining) path.now l.advisory l.errors) (IsLintRefusal (real_files R.File.remaining) path.now) }
     {
         Linter::lint_file_with(alloc, &mut RealFolders::new(rt), path)
     }

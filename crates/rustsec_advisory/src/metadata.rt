@@ -2,13 +2,12 @@
 
 ghost use Rattle.std.specs.Prelude.{◌≡◌, IfErr, IfOk};
 ghost use Rattle.rustsec_advisory.specs.FieldGroups.{kinds_of, origin_of, subject_of, terms_of};
-ghost use Rattle.rustsec_error.specs.Failure.{IsMemory};
+ghost use Rattle.rustsec_values.specs.Failure.{IsMemory};
 
-use rustsec_error::Result;
 use rustsec_lock::package::Name;
 use rustsec_lock::{Cvss, SourceId};
 use rustsec_texts::{Address, Category, Collection, Date, Id, Informational, Keyword, License};
-use rustsec_values::{ExactClone, ExactEq, Items, Text};
+use rustsec_values::{ExactClone, ExactEq, Items, Result, Text};
 use std::alloc::{AllocError, Global};
 
 /// The metadata of an advisory: the table `advisory` of its document, and its title and description.

@@ -5,11 +5,11 @@ ghost use Rattle.toml.specs.View.{array_view, table_view, view};
 ghost use Rattle.rustsec_values.specs.Reading.{read_all};
 ghost use Rattle.rustsec_toml.specs.Fields.{defaulted, list_of, required, text};
 ghost use Rattle.rustsec_advisory.specs.Requirements.{requirement_of, requirements_of};
-ghost use Rattle.rustsec_error.specs.Failure.{IsRefusal};
+ghost use Rattle.rustsec_values.specs.Failure.{IsRefusal};
 ghost use Rattle.rustsec_versions.specs.Views.{comparators_of};
 
-use rustsec_error::{ErrorKind, Result};
 use rustsec_toml::Section;
+use rustsec_values::{ErrorKind, Result};
 use rustsec_versions::read_requirement;
 use semver::VersionReq;
 use std::alloc::{AllocError, Global};

@@ -1,15 +1,13 @@
 //! Calls over a database, which is read and loaded before the calls are made.
 
 use crate::dependencies;
-use rustsec_database::{Database, SourceFile};
-use rustsec_error::{Error, ErrorKind, Result};
-use rustsec_folders::{Folders, RealFolders, source_files};
+use rustsec_database::{Database, Query, SourceFile};
+use rustsec_files::{Folders, RealFolders, source_files};
 use rustsec_lock::Lockfile;
 use rustsec_lock::package::Name;
-use rustsec_query::Query;
 use rustsec_report::{Report, Settings};
 use rustsec_texts::Informational;
-use rustsec_values::{Items, exact_copy};
+use rustsec_values::{Error, ErrorKind, Items, Result, exact_copy};
 use std::alloc::{AllocError, Global};
 use std::collections::HashMap;
 

@@ -28,11 +28,11 @@ mod osv;
 mod readers;
 
 use rustsec_advisory::{Advisory, Linter};
-use rustsec_error::{Error, ErrorKind, Result};
 use rustsec_graph::Graph;
 use rustsec_lock::Lockfile;
 use rustsec_texts::Parts;
 use rustsec_toml::TablePlace;
+use rustsec_values::{Error, ErrorKind, Result};
 use std::alloc::Global;
 use std::process::ExitCode;
 use std::{env, fs};

@@ -1,8 +1,8 @@
 //! Calls about OSV documents.
 
 use rustsec_advisory::Advisory;
-use rustsec_error::{Error, ErrorKind, Result};
 use rustsec_osv::OsvAdvisory;
+use rustsec_values::{Error, ErrorKind, Result};
 use serde_json::Value;
 use std::alloc::Global;
 use std::fs;

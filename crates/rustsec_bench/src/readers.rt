@@ -1,16 +1,16 @@
 //! The readers of the library over many inputs in a file.
 
 use rustsec_advisory::{Advisory, Linter};
-use rustsec_error::{FromText, Result};
 use rustsec_lock::package::Name;
 use rustsec_lock::platforms::{Arch, OS};
 use rustsec_lock::{Cvss, Lockfile, SourceId};
 use rustsec_osv::OsvAdvisory;
-use rustsec_osv_schema::is_osv_schema;
+use rustsec_osv_rules::is_osv_schema;
 use rustsec_texts::{
     Address, Category, Collection, Date, FunctionPath, Id, Identifier, Informational, Keyword,
     License, Parts, WarningKind,
 };
+use rustsec_values::{FromText, Result};
 use rustsec_versions::UnaffectedRange;
 use semver::VersionReq;
 use serde_json::Value;

@@ -1,7 +1,7 @@
 //! The folder of the cases on the disk.
 
 use anyhow::{Result, bail};
-use rustsec_folders::{Folders, RealFolders};
+use rustsec_files::{Folders, RealFolders};
 use rustsec_values::Text;
 use std::alloc::AllocError;
 use std::fs;
@@ -11,7 +11,10 @@ use std::rt::Files;
 pub fn text_at<R: Files + AllocGlobal>(rt: &R, path: &str) -> Result<Text> {
     match RealFolders::new(rt).read(rt.alloc(), path) {
         Ok(text) => Ok(text),
-        Err(why) => bail!("{why}"),
+        Err(error) => {
+            let why = error.text_with_cause(rt.alloc())?;
+            bail!("{why}")
+        }
     }
 }
 
@@ -24,7 +27,10 @@ pub fn bytes_at<R: Files + AllocGlobal>(rt: &R, path: &str) -> Result<Vec<u8>> {
 pub fn names_in<R: Files + AllocGlobal>(rt: &R, path: &str) -> Result<Vec<Text>> {
     let names = match RealFolders::new(rt).names(rt.alloc(), path) {
         Ok(names) => names,
-        Err(why) => bail!("{why}"),
+        Err(error) => {
+            let why = error.text_with_cause(rt.alloc())?;
+            bail!("{why}")
+        }
     };
     let mut names = Vec::from(names);
     if names.sort().is_err() {

@@ -5,7 +5,7 @@ use crate::memory::MemoryFiles;
 use anyhow::{Result, bail};
 use rustsec_commands::{Fault, run};
 use rustsec_database_commands::{run_over, run_with_notes};
-use rustsec_folders::RealFolders;
+use rustsec_files::RealFolders;
 use std::alloc::Global;
 use std::fs;
 use std::rt::Files;

@@ -10,8 +10,8 @@ use Rattle.rustsec_lock.specs.Package.{PackageValue}
 use Rattle.rustsec_texts.specs.Ids.{IdValue}
 use Rattle.rustsec_texts.specs.declared.warning_kind.WarningKind.{WarningKind}
 use Rattle.rustsec_advisory.specs.declared.advisory.Advisory.{Advisory}
-use Rattle.rustsec_query.specs.Pairs.{Pair, as_vulnerability, finds, pairs, pairs_of, vulnerability_of}
-use Rattle.rustsec_query.specs.declared.vulnerability.Vulnerability.{Vulnerability}
+use Rattle.rustsec_database.specs.Pairs.{Pair, as_vulnerability, finds, pairs, pairs_of, vulnerability_of}
+use Rattle.rustsec_database.specs.declared.vulnerability.Vulnerability.{Vulnerability}
 use Rattle.rustsec_report.specs.Report.{informational_query, is_among, query_of, vulnerabilities, wanted_kind, without}
 use Rattle.rustsec_report.specs.Report as report
 use Rattle.rustsec_report.specs.declared.settings.Settings.{Settings}

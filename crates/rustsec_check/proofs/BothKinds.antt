@@ -7,9 +7,9 @@ use Rattle.std.proofs.lemmas.Bool.{and_right, cases_Bool}
 use Rattle.rustsec_lock.specs.Package.{PackageValue}
 use Rattle.rustsec_texts.specs.declared.informational.Informational.{Informational}
 use Rattle.rustsec_advisory.specs.declared.advisory.Advisory.{Advisory}
-use Rattle.rustsec_query.specs.Pairs.{finds, is_audited}
-use Rattle.rustsec_query.specs.Query.{Asked, of_package}
-use Rattle.rustsec_query.specs.Selects.{as_withdrawn, has_name, has_source, has_version, in_collection, is_severe, of_year, on_arch, on_os, selects}
+use Rattle.rustsec_database.specs.Pairs.{finds, is_audited}
+use Rattle.rustsec_database.specs.Query.{Asked, of_package}
+use Rattle.rustsec_database.specs.Selects.{as_withdrawn, has_name, has_source, has_version, in_collection, is_severe, of_year, on_arch, on_os, selects}
 use Rattle.rustsec_report.specs.declared.settings.Settings.{Settings}
 use Rattle.rustsec_report.specs.Report.{informational_query, query_of}
 use Rattle.rustsec_check.specs.Pairs.{as_unwarned, as_vulnerable, as_wanted, query_of_both, vulnerable_at, wanted_at}

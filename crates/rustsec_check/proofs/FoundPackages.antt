@@ -8,7 +8,7 @@ use Rattle.rustsec_lock.specs.Package.{PackageValue}
 use Rattle.rustsec_texts.specs.declared.warning_kind.WarningKind.{WarningKind}
 use Rattle.rustsec_advisory.specs.declared.advisory.Advisory.{Advisory}
 use Rattle.rustsec_database.proofs.Places.{got-last}
-use Rattle.rustsec_query.specs.Pairs.{finds}
+use Rattle.rustsec_database.specs.Pairs.{finds}
 use Rattle.rustsec_report.specs.Report.{informational_query, query_of, wanted_kind}
 use Rattle.rustsec_report.specs.declared.settings.Settings.{Settings}
 use Rattle.rustsec_check.specs.Facts.{ArePlaced}

@@ -12,9 +12,9 @@ use Rattle.rustsec_lock.specs.Package.{PackageValue}
 use Rattle.rustsec_texts.specs.IdOrder.{id_eq}
 use Rattle.rustsec_texts.specs.Ids.{IdValue}
 use Rattle.rustsec_advisory.specs.declared.advisory.Advisory.{Advisory}
-use Rattle.rustsec_query.specs.Pairs.{finds, is_audited}
-use Rattle.rustsec_query.specs.Query.{Asked, of_package}
-use Rattle.rustsec_query.specs.Selects.{as_informational, as_withdrawn, has_name, has_source, has_version, in_collection, is_severe, of_year, on_arch, on_os, selects}
+use Rattle.rustsec_database.specs.Pairs.{finds, is_audited}
+use Rattle.rustsec_database.specs.Query.{Asked, of_package}
+use Rattle.rustsec_database.specs.Selects.{as_informational, as_withdrawn, has_name, has_source, has_version, in_collection, is_severe, of_year, on_arch, on_os, selects}
 use Rattle.rustsec_database.proofs.Places.{narrow}
 use Rattle.rustsec_database.specs.Kept.{IsKept, KeptValue, PassesBearing, bears_on, bears_on_any, is_about}
 use Rattle.rustsec_database.specs.Spans.{span_of}

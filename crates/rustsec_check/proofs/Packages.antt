@@ -7,8 +7,8 @@ use Rattle.std.proofs.lemmas.List.{append-nil, length-take-le, map-append, take_
 use Rattle.std.proofs.lemmas.List.Elements.{filter_agree, filter_map-append}
 use Rattle.rustsec_lock.specs.Package.{PackageValue}
 use Rattle.rustsec_advisory.specs.declared.advisory.Advisory.{Advisory}
-use Rattle.rustsec_query.specs.Pairs.{finds, is_audited}
-use Rattle.rustsec_query.specs.Query.{Asked}
+use Rattle.rustsec_database.specs.Pairs.{finds, is_audited}
+use Rattle.rustsec_database.specs.Query.{Asked}
 use Rattle.rustsec_report.specs.declared.settings.Settings.{Settings}
 use Rattle.rustsec_check.specs.Pairs.{found, found_at}
 

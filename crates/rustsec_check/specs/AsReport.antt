@@ -7,8 +7,8 @@ use Rattle.rustsec_texts.specs.WarningKinds.{warning_kinds}
 use Rattle.rustsec_texts.specs.contracts.warning_kind.WarningKind.{the_type as warning_kind}
 use Rattle.rustsec_texts.specs.declared.warning_kind.WarningKind.{WarningKind}
 use Rattle.rustsec_advisory.specs.declared.advisory.Advisory.{Advisory}
-use Rattle.rustsec_query.specs.Pairs.{vulnerability_of}
-use Rattle.rustsec_query.specs.declared.vulnerability.Vulnerability.{Vulnerability}
+use Rattle.rustsec_database.specs.Pairs.{vulnerability_of}
+use Rattle.rustsec_database.specs.declared.vulnerability.Vulnerability.{Vulnerability}
 use Rattle.rustsec_report.specs.Report.{as_warning, present}
 use Rattle.rustsec_report.specs.declared.warning.Warning.{Warning}
 use Rattle.rustsec_check.specs.Values.{FindingValue}

@@ -4,8 +4,8 @@ use Rattle.std.specs.List.{enumerate_from, filter, flat_map}
 use Rattle.rustsec_lock.specs.Package.{PackageValue}
 use Rattle.rustsec_texts.specs.Ids.{IdValue}
 use Rattle.rustsec_advisory.specs.declared.advisory.Advisory.{Advisory}
-use Rattle.rustsec_query.specs.Pairs.{finds}
-use Rattle.rustsec_query.specs.Query.{Asked}
+use Rattle.rustsec_database.specs.Pairs.{finds}
+use Rattle.rustsec_database.specs.Query.{Asked}
 use Rattle.rustsec_report.specs.Report.{informational_query, is_among, query_of, wanted_kind}
 use Rattle.rustsec_report.specs.declared.settings.Settings.{Settings}
 use Rattle.rustsec_check.specs.Values.{Found, IgnoredValue}

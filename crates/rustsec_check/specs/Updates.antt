@@ -9,8 +9,8 @@ use Rattle.rustsec_versions.specs.ranges.Ranges.{is_until}
 use Rattle.rustsec_lock.specs.Package.{PackageValue}
 use Rattle.rustsec_texts.specs.Ids.{IdValue}
 use Rattle.rustsec_advisory.specs.declared.advisory.Advisory.{Advisory}
-use Rattle.rustsec_query.specs.Query.{Asked, crate_scope}
-use Rattle.rustsec_query.specs.Selects.{selects}
+use Rattle.rustsec_database.specs.Query.{Asked, crate_scope}
+use Rattle.rustsec_database.specs.Selects.{selects}
 use Rattle.rustsec_report.specs.Report.{is_among}
 use Rattle.rustsec_check.specs.Compatible.{is_compatible_with}
 use Rattle.rustsec_check.specs.LeastFree.{IsLeastFree, is_affected}

@@ -2,7 +2,7 @@
 
 ghost use Rattle.std.specs.Prelude.{◌≡◌, IfErr, IfOk, option_map};
 ghost use Rattle.semver.specs.Identifiers.{parts_of};
-ghost use Rattle.rustsec_error.specs.Failure.{IsMemory};
+ghost use Rattle.rustsec_values.specs.Failure.{IsMemory};
 ghost use Rattle.rustsec_versions.specs.order.Precedence.{IsVersion};
 ghost use Rattle.rustsec_check.specs.Updates.{IsAdvice, IsUpdateBy, affects, counting, is_same_with};
 
@@ -10,9 +10,9 @@ use crate::counted::Counted;
 use crate::update::Update;
 use rustsec_advisory::Advisory;
 use rustsec_database::Database;
-use rustsec_error::Result;
 use rustsec_lock::package::Package;
 use rustsec_texts::Id;
+use rustsec_values::Result;
 use semver::Version;
 use std::alloc::Global;
 use std::marker::Model;

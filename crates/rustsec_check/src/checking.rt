@@ -2,7 +2,7 @@
 
 ghost use Rattle.std.specs.Prelude.{◌≡◌, ◌-◌, not, IfErr, IfOk, map};
 ghost use Rattle.std.specs.List.{filter, list_any};
-ghost use Rattle.rustsec_error.specs.Failure.{IsMemory};
+ghost use Rattle.rustsec_values.specs.Failure.{IsMemory};
 ghost use Rattle.rustsec_database.specs.Loaded.{has_id};
 ghost use Rattle.rustsec_report.specs.Report.{vulnerabilities, warnings};
 ghost use Rattle.rustsec_lock.specs.Lockfile.{AreValid};
@@ -17,9 +17,9 @@ use crate::found::{Found, all_found, count_of};
 use crate::outcome::Check;
 use crate::subject::{Subject, Viewed};
 use rustsec_database::Database;
-use rustsec_error::Result;
 use rustsec_report::Settings;
 use rustsec_texts::Id;
+use rustsec_values::Result;
 use std::alloc::{AllocError, Global};
 
 /// Returns whether some advisory has an ID.

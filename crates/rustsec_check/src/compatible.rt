@@ -2,11 +2,11 @@
 
 ghost use Rattle.std.specs.Prelude.{◌≡◌, ◌∷◌, [], IfErr, IfOk, option_map};
 ghost use Rattle.semver.specs.Identifiers.{parts_of};
-ghost use Rattle.rustsec_error.specs.Failure.{IsMemory};
+ghost use Rattle.rustsec_values.specs.Failure.{IsMemory};
 ghost use Rattle.rustsec_versions.specs.Views.{comparators_of};
 ghost use Rattle.rustsec_check.specs.Compatible.{caret_of, is_compatible, is_compatible_with};
 
-use rustsec_error::{ErrorKind, Result};
+use rustsec_values::{ErrorKind, Result};
 use rustsec_versions::UnaffectedRange;
 use semver::{Comparator, Op, Version, VersionReq};
 use std::alloc::{AllocError, Global};

@@ -1,15 +1,15 @@
 //! What the findings about one package share.
 
 ghost use Rattle.std.specs.Prelude.{◌≡◌, IfErr, IfOk, option_map};
-ghost use Rattle.rustsec_error.specs.Failure.{IsMemory};
+ghost use Rattle.rustsec_values.specs.Failure.{IsMemory};
 ghost use Rattle.rustsec_check.specs.Facts.{AreAbout, AreFacts, AreLast, IsPlaced};
 
 use crate::advice::{Advice, advice_about};
 use crate::findings::is_old;
 use crate::found::Found;
 use crate::subject::Viewed;
-use rustsec_error::Result;
 use rustsec_lock::package::Package;
+use rustsec_values::Result;
 use std::alloc::{AllocError, Global};
 use std::marker::Model;
 

@@ -2,7 +2,7 @@
 
 ghost use Rattle.std.specs.Prelude.{◌≡◌, IfErr, IfOk, map, option_map};
 ghost use Rattle.std.specs.List.{list_any};
-ghost use Rattle.rustsec_error.specs.Failure.{IsMemory};
+ghost use Rattle.rustsec_values.specs.Failure.{IsMemory};
 ghost use Rattle.rustsec_check.specs.Facts.{AreAbout, AreFacts, ArePlaced};
 ghost use Rattle.rustsec_check.specs.Findings.{AreFindingsOf, IsFinding, denies, is_denied, is_old, is_same, pair_of};
 ghost use Rattle.rustsec_check.specs.Pairs.{as_ignored, left_out};
@@ -13,11 +13,11 @@ use crate::found::{Found, is_ignored};
 use crate::subject::Viewed;
 use crate::update::Update;
 use rustsec_advisory::Advisory;
-use rustsec_error::Result;
 use rustsec_lock::Lockfile;
 use rustsec_lock::package::Package;
 use rustsec_policy::Denied;
 use rustsec_texts::{Id, WarningKind};
+use rustsec_values::Result;
 use std::alloc::{AllocError, Global};
 use std::marker::Model;
 

@@ -2,18 +2,17 @@
 
 ghost use Rattle.std.specs.Prelude.{◌≡◌, ◌++◌, IfErr, IfOk, OnOk, filter_map, length, map};
 ghost use Rattle.std.specs.List.{filter};
-ghost use Rattle.rustsec_error.specs.Failure.{IsMemory};
-ghost use Rattle.rustsec_query.specs.Pairs.{finds, is_audited};
+ghost use Rattle.rustsec_values.specs.Failure.{IsMemory};
+ghost use Rattle.rustsec_database.specs.Pairs.{finds, is_audited};
 ghost use Rattle.rustsec_check.specs.Pairs.{as_unwarned, as_wanted, counted, found, is_ignored, query_of_both};
 
 use rustsec_advisory::Advisory;
-use rustsec_database::Database;
-use rustsec_error::Result;
+use rustsec_database::{Database, Query};
 use rustsec_lock::Lockfile;
 use rustsec_lock::package::Package;
-use rustsec_query::Query;
 use rustsec_report::Settings;
 use rustsec_texts::{Collection, Id, WarningKind};
+use rustsec_values::Result;
 use std::alloc::{AllocError, Global};
 use std::marker::Model;
 

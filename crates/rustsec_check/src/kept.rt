@@ -2,7 +2,7 @@
 
 ghost use Rattle.std.specs.Prelude.{◌≡◌, not, Bool, IfErr, IfOk, List, map};
 ghost use Rattle.std.specs.List.{filter, list_any};
-ghost use Rattle.rustsec_error.specs.Failure.{IsMemory};
+ghost use Rattle.rustsec_values.specs.Failure.{IsMemory};
 ghost use Rattle.rustsec_texts.specs.IdOrder.{id_eq};
 ghost use Rattle.rustsec_advisory.specs.declared.advisory.Advisory as given;
 ghost use Rattle.rustsec_database.specs.Kept.{IsKept, PassesBearing};
@@ -13,8 +13,8 @@ use crate::checking::has_pair;
 use crate::findings::IgnoredPair;
 use crate::outcome::Check;
 use rustsec_database::KeptDatabase;
-use rustsec_error::Result;
 use rustsec_texts::Id;
+use rustsec_values::Result;
 use std::alloc::{AllocError, Global};
 
 /// Returns whether an advisory under the root has an ID, and no ignored pair does.

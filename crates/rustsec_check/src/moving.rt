@@ -3,7 +3,7 @@
 ghost use Rattle.std.specs.Prelude.{◌≡◌, IfErr, IfOk, List, option_map};
 ghost use Rattle.std.specs.Bool.{Decides};
 ghost use Rattle.semver.specs.Identifiers.{parts_of};
-ghost use Rattle.rustsec_error.specs.Failure.{IsMemory};
+ghost use Rattle.rustsec_values.specs.Failure.{IsMemory};
 ghost use Rattle.rustsec_versions.specs.acceptance.Lists.{Lists};
 ghost use Rattle.rustsec_versions.specs.order.Precedence.{IsVersion};
 ghost use Rattle.rustsec_versions.specs.ranges.Ranges.{is_until};
@@ -13,7 +13,7 @@ ghost use Rattle.rustsec_check.specs.Updates.{Moves};
 
 use crate::ranges::is_until;
 use crate::update::sweep;
-use rustsec_error::Result;
+use rustsec_values::Result;
 use rustsec_versions::{OsvRange, Versions, ranges_for_advisory};
 use semver::Version;
 use std::alloc::Global;

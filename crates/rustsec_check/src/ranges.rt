@@ -3,12 +3,12 @@
 ghost use Rattle.std.specs.Prelude.{◌≡◌, ◌++◌, ◌∷◌, [], IfErr, IfOk, List, OnOk, map, option_map};
 ghost use Rattle.std.specs.Option.{option_copied};
 ghost use Rattle.semver.specs.Identifiers.{parts_of};
-ghost use Rattle.rustsec_error.specs.Failure.{IsMemory};
+ghost use Rattle.rustsec_values.specs.Failure.{IsMemory};
 ghost use Rattle.rustsec_versions.specs.acceptance.Lists.{Lists};
 ghost use Rattle.rustsec_versions.specs.ranges.Ranges.{in_range, is_from, is_until};
 ghost use Rattle.rustsec_check.specs.LeastFree.{AreRangesOfAll, holding};
 
-use rustsec_error::Result;
+use rustsec_values::Result;
 use rustsec_versions::{OsvRange, Versions, ranges_for_advisory};
 use semver::Version;
 use std::alloc::Global;

@@ -3,14 +3,14 @@
 ghost use Rattle.std.specs.Prelude.{◌≡◌, IfErr, IfOk, List, Option, map, option_map};
 ghost use Rattle.semver.specs.Identifiers.{parts_of};
 ghost use Rattle.semver.specs.Parse.{Parts};
-ghost use Rattle.rustsec_error.specs.Failure.{IsMemory};
+ghost use Rattle.rustsec_values.specs.Failure.{IsMemory};
 ghost use Rattle.rustsec_versions.specs.acceptance.Lists.{Lists};
 ghost use Rattle.rustsec_versions.specs.order.Precedence.{IsVersion};
 ghost use Rattle.rustsec_check.specs.LeastFree.{AreRangesOfAll, IsLeastFree};
 
 use crate::ranges::{all_ranges, holding};
-use rustsec_error::Result;
 use rustsec_texts::Id;
+use rustsec_values::Result;
 use rustsec_versions::{OsvRange, Versions};
 use semver::Version;
 use std::alloc::{AllocError, Global};

@@ -1,15 +1,15 @@
 //! The packages of a lockfile that are yanked from their registry.
 
 ghost use Rattle.std.specs.Prelude.{◌≡◌, IfErr, IfOk};
-ghost use Rattle.rustsec_error.specs.Failure.{IsMemory};
+ghost use Rattle.rustsec_values.specs.Failure.{IsMemory};
 ghost use Rattle.rustsec_check.specs.Subjects.{subject_view};
 ghost use Rattle.rustsec_check.specs.Yanked.{AreYanked, IsYanked, placed_of, yanked_fails};
 
 use crate::findings::{has_package, is_denied, is_old};
 use crate::subject::{Subject, Viewed};
-use rustsec_error::Result;
 use rustsec_lock::package::Package;
 use rustsec_texts::WarningKind;
+use rustsec_values::Result;
 use std::alloc::{AllocError, Global};
 use std::marker::Model;
 

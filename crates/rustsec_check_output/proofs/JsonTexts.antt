@@ -8,8 +8,8 @@ use Rattle.serde_json.specs.Data.{Data, boolean, string}
 use Rattle.serde_json.specs.View.{items_of}
 use Rattle.serde_json.specs.Written.{compact_text, items_text}
 use Rattle.serde_json.proofs.OnLiterals.{serde_json_on_literals}
-use Rattle.rustsec_error.specs.Failure as failure
-use Rattle.rustsec_error.specs.declared.error.ErrorKind.{ErrorKind}
+use Rattle.rustsec_values.specs.Failure as failure
+use Rattle.rustsec_values.specs.declared.error.ErrorKind.{ErrorKind}
 use Rattle.rustsec_json.specs.Trees.{list_tree, optional_tree, text_tree}
 use Rattle.rustsec_versions.specs.acceptance.Lists.{Lists}
 use Rattle.rustsec_versions.specs.requirement.RequirementText.{requirement_text}
@@ -30,7 +30,8 @@ use Rattle.rustsec_check.specs.Values.{FindingValue, IgnoredValue, YankedValue}
 use Rattle.rustsec_check_output.specs.JsonParts.{first_json, key_json}
 use Rattle.rustsec_check_output.specs.declared.part.First.TheVariants as first
 use Rattle.rustsec_check_output.specs.declared.part.Key.TheVariants as key
-use Rattle.rustsec_check_output.specs.CheckTree.{DatedValue, WrittenValue, advisory_entries, advisory_tree, check_entries, check_tree, command, database_tree, finding_entries, finding_tree, ignored_tree, kind_text, many_tree, named_tree, packages_at, places_tree, reason_of, refused_tree, score_text, severity_of, sourced_tree, tenths_of, tree_line, until_of, update_tree, yanked_tree}
+use Rattle.rustsec_check_output.specs.CheckTree.{DatedValue, WrittenValue, advisory_entries, advisory_tree, check_entries, check_tree, command, database_tree, finding_entries, finding_tree, ignored_tree, kind_text, many_tree, named_tree, packages_at, places_tree, reason_of, refused_tree, score_text, severity_of, sourced_tree, tenths_of, until_of, update_tree, yanked_tree}
+use Rattle.rustsec_json.specs.Lines.{tree_line}
 use Rattle.rustsec_check_output.specs.CheckJson.{named_rating_json, dated_json, moved_json, mended_json, yanked_there_json, reasons_json, listed_json, unneeded_json, advisory_json, boolean_json, check_json, command_json, cvss_json, database_json, database_pieces, entry_json, finding_json, found_json, found_pieces, ids_json, ignored_json, ignored_pieces, later_json, list_json, lockfile_json, looked_at_json, looked_at_pieces, many_json, named_json, optional_json, pair_json, pair_pieces, path_json, places_json, quoted, rating_json, rating_pieces, refused_json, requirements_json, said_json, said_pieces, score_json, severity_json, source_json, sourced_json, sourced_pieces, subject_json, subject_pieces, update_json, update_pieces, versions_json, versions_pieces, yanked_json, yanked_pieces}
 
 -- ---- values

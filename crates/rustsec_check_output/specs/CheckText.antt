@@ -17,7 +17,7 @@ use Rattle.rustsec_policy.specs.Entries.{entry_with}
 use Rattle.rustsec_policy.specs.declared.ignored.Ignored.{Ignored}
 use Rattle.rustsec_check.specs.Values.{FindingValue, IgnoredValue, YankedValue}
 use Rattle.rustsec_check_output.specs.CheckTree.{WrittenValue, kind_text, reason_of, score_text, severity_of, tenths_of, until_of}
-use Rattle.rustsec_shown.specs.Shown.{shown}
+use Rattle.rustsec_values.specs.Shown.{shown}
 use Rattle.rustsec_check_output.specs.declared.rank.Rank.{Rank}
 use Rattle.rustsec_check_output.specs.declared.rank.Rank.TheVariants as rank
 

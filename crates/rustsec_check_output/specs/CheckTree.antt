@@ -4,9 +4,8 @@ use Rattle.std.specs.Fmt.{decimal}
 use Rattle.std.specs.List.{filter_map}
 use Rattle.semver.specs.Identifiers.{parts_text}
 use Rattle.serde_json.specs.Data.{Data, boolean, number, string, unsigned}
-use Rattle.serde_json.specs.Written.{compact_text}
-use Rattle.rustsec_error.specs.Failure as failure
-use Rattle.rustsec_error.specs.declared.error.ErrorKind.{ErrorKind}
+use Rattle.rustsec_values.specs.Failure as failure
+use Rattle.rustsec_values.specs.declared.error.ErrorKind.{ErrorKind}
 use Rattle.rustsec_lock.specs.Cvss.{cvss_severity, cvss_text}
 use Rattle.rustsec_lock.specs.Package.{PackageValue}
 use Rattle.rustsec_lock.specs.Score.{score_tenths_of}
@@ -24,7 +23,7 @@ use Rattle.rustsec_report.specs.Trees.{Entry, ids_tree, lockfile_tree, object_of
 use Rattle.rustsec_policy.specs.Entries.{entry_with}
 use Rattle.rustsec_policy.specs.declared.ignored.Ignored.{Ignored}
 use Rattle.rustsec_database.specs.Latest.{last_date}
-use Rattle.rustsec_fixer.specs.Words.{package_word, program_of}
+use Rattle.rustsec_report.specs.Words.{package_word, program_of}
 use Rattle.rustsec_check.specs.Updates.{UpdateValue}
 use Rattle.rustsec_check.specs.Values.{CheckValue, FindingValue, IgnoredValue, YankedValue}
 
@@ -260,7 +259,3 @@ refused_entries path kind = (codes "lockfile", string path) ∷ (codes "refused"
 
 abbrev pub refused_tree : List ℕ → ErrorKind → Data
 refused_tree path kind = object_of (refused_entries path kind)
-
--- a tree on one line
-abbrev pub tree_line : Data → List ℕ
-tree_line tree = compact_text tree ++ codes "\n"

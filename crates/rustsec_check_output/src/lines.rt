@@ -11,9 +11,8 @@ use crate::written::Written;
 use crate::yanked_block::push_yanked_count;
 use rustsec_check::{Finding, IgnoredPair, Yanked};
 use rustsec_policy::{Ignored, entry_with};
-use rustsec_shown::push_shown;
 use rustsec_texts::Id;
-use rustsec_values::Text;
+use rustsec_values::{Text, push_shown};
 use std::alloc::AllocError;
 use std::fmt::Write as _;
 

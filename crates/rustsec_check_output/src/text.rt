@@ -1,7 +1,7 @@
 //! Writes the text of a check for people.
 
 ghost use Rattle.std.specs.Prelude.{◌≡◌, ◌++◌, IfErr, IfOk, OnOk, string_bytes};
-ghost use Rattle.rustsec_error.specs.Failure.{IsMemory};
+ghost use Rattle.rustsec_values.specs.Failure.{IsMemory};
 ghost use Rattle.rustsec_check_output.specs.CheckText.{blocks, check_text};
 
 use crate::blocks::{Page, push_blocks};
@@ -9,7 +9,7 @@ use crate::lines::{push_further, push_last};
 use crate::rank::with_ranks;
 use crate::written::Written;
 use crate::yanked_block::push_yanked;
-use rustsec_error::Result;
+use rustsec_values::Result;
 use std::alloc::{AllocError, Global};
 
 /// Appends the blocks of all findings of a check.

@@ -1,15 +1,16 @@
 //! Writes the JSON trees of checks, each on one line.
 
 ghost use Rattle.std.specs.Prelude.{◌≡◌, ◌++◌, [], IfErr, IfOk, OnOk, string_bytes};
-ghost use Rattle.rustsec_error.specs.Failure.{IsMemory};
+ghost use Rattle.rustsec_values.specs.Failure.{IsMemory};
 ghost use Rattle.rustsec_check_output.specs.CheckJson.{many_json, refused_json};
-ghost use Rattle.rustsec_check_output.specs.CheckTree.{check_tree, many_tree, refused_tree, tree_line};
+ghost use Rattle.rustsec_check_output.specs.CheckTree.{check_tree, many_tree, refused_tree};
+ghost use Rattle.rustsec_json.specs.Lines.{tree_line};
 
 use crate::check_json::push_check;
 use crate::part::{First, Key, push_first, push_key};
 use crate::quoted::push_quoted;
 use crate::written::Written;
-use rustsec_error::{ErrorKind, Result};
+use rustsec_values::{ErrorKind, Result};
 use std::alloc::{AllocError, Global};
 
 /// Returns an empty line with room for a check. A finding takes some 900 bytes, and a line that grows is copied each time.

@@ -2,7 +2,7 @@
 
 ghost use Rattle.std.specs.Prelude.{◌≡◌, ◌++◌, IfOk, OnOk, option_map, string_bytes};
 ghost use Rattle.semver.specs.Identifiers.{parts_of, parts_text};
-ghost use Rattle.rustsec_fixer.specs.Words.{package_word};
+ghost use Rattle.rustsec_report.specs.Words.{package_word};
 ghost use Rattle.rustsec_check_output.specs.CheckJson.{moved_json, boolean_json, command_json, optional_json, quoted, update_json};
 
 use crate::list_json::push_id_refs;

@@ -1,7 +1,7 @@
 -- What each command writes.
 use Rattle.std.specs.Prelude.{◌≡◌, ◌≢◌, ℕ, Bool, false, true, List, Option, IfErr, IfOk, IfSome, None, Result, map}
 use Rattle.std.specs.Io.KnownBytes.{Appends, Keeps}
-use Rattle.rustsec_folders.specs.Allowed.{Allowed}
+use Rattle.rustsec_files.specs.Allowed.{Allowed}
 use Rattle.rustsec_commands.specs.command.Lint.{IsLintOutput}
 use Rattle.rustsec_commands.specs.command.Osv.{IsOsvOutput}
 use Rattle.rustsec_commands.specs.Output.{IsOnlyRangesOutput, Output, affected_output, usage}

@@ -1,12 +1,10 @@
 -- Outputs: texts and statuses. The outputs of the commands `affected` and `ranges` for an input.
 use Rattle.std.specs.Prelude.{◌≡◌, ℕ, ◌+◌, true, false, List, ◌++◌, Option, Some, None, codes, flat_map, if◌then◌else◌}
 use Rattle.std.specs.Fmt.{decimal}
-use Rattle.serde_json.specs.Data.{Data}
-use Rattle.serde_json.specs.Written.{compact_text}
 use Rattle.semver.specs.Identifiers.{parts_text}
 use Rattle.semver.specs.Parse.{Parts}
-use Rattle.rustsec_error.specs.Failure.{kind_text}
-use Rattle.rustsec_error.specs.declared.error.ErrorKind.{ErrorKind}
+use Rattle.rustsec_values.specs.Failure.{kind_text}
+use Rattle.rustsec_values.specs.declared.error.ErrorKind.{ErrorKind}
 use Rattle.rustsec_versions.specs.acceptance.Lists.{Lists, accepted, affected}
 use Rattle.rustsec_versions.specs.ranges.Ranges.{Range}
 use Rattle.rustsec_versions.specs.ranges.AcceptedRanges.{AreMergedRanges}
@@ -75,12 +73,6 @@ IsRangesOutput input o = AreRangeLinesOr (first_malformed (says input_kind.Range
 -- the one output of `ranges` for an input
 abbrev pub IsOnlyRangesOutput : List ℕ → Output → Type 0
 IsOnlyRangesOutput input o = IsRangesOutput input o × ((other : Output) → IsRangesOutput input other → other ≡ o)
-
--- ---- trees
-
--- a tree on one line
-abbrev pub tree_line : Data → List ℕ
-tree_line d = compact_text d ++ codes "\n"
 
 -- ---- usage
 

@@ -3,7 +3,7 @@
 ghost use Rattle.rustsec_commands.specs.declared.fault.Fault.TheVariants as fault;
 ghost use Rattle.std.specs.Prelude.{◌≡◌, ◌≢◌, IfErr, IfOk, false, map};
 ghost use Rattle.std.specs.Io.KnownBytes.{Appends, Keeps};
-ghost use Rattle.rustsec_folders.specs.Allowed.{AllowSame, AnswersOnce, real_folders};
+ghost use Rattle.rustsec_files.specs.Allowed.{AllowSame, AnswersOnce, real_folders};
 ghost use Rattle.rustsec_commands.specs.Commands.{Carries, CarriesOut, HaveOneOutput, IsOutputOf, command_view, reads_input, words_read_input};
 
 use crate::args::{Command, command_of};
@@ -11,7 +11,7 @@ use crate::command::{affected, audit, lint, osv, ranges, report};
 use crate::error_output::misuse;
 use crate::fault::Fault;
 use crate::output::{Output, usage_output};
-use rustsec_folders::{Folders, RealFolders};
+use rustsec_files::{Folders, RealFolders};
 use std::alloc::Global;
 use std::io::{self, Read, Write};
 use std::rt::Files;

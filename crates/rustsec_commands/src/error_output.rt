@@ -2,11 +2,10 @@
 
 ghost use Rattle.std.specs.Prelude.{◌≡◌, ◌≢◌, IfOk};
 ghost use Rattle.rustsec_commands.specs.Output.{refused, refused_as};
-ghost use Rattle.rustsec_error.specs.declared.error.ErrorKind.TheVariants as failure;
+ghost use Rattle.rustsec_values.specs.declared.error.ErrorKind.TheVariants as failure;
 
 use crate::output::Output;
-use rustsec_error::{Error, ErrorKind, file_error};
-use rustsec_shown::push_shown;
+use rustsec_values::{Error, ErrorKind, file_error, push_shown};
 use std::alloc::{AllocError, Global};
 
 pub(crate) mod misuse;
@@ -14,7 +13,7 @@ pub(crate) mod usage;
 
 /// Returns the note that says why something is refused, with its cause, on one line.
 pub fn why(alloc: Global, error: &Error) -> Result<String, AllocError> {
-    let text = error.to_string(alloc)?;
+    let text = error.text_with_cause(alloc)?;
     let mut note = String::from_str(alloc, "rustsec_audit: ")?;
     push_shown(&mut note, &text)?;
     note.push_str("\n")?;

@@ -1,17 +1,13 @@
 //! The output of a command: a text, a status and a note. Also the outputs for a malformed line and for words that name no command.
 
 ghost use Rattle.rustsec_commands.specs.declared.fault.Fault.TheVariants as fault;
-ghost use Rattle.std.specs.Prelude.{◌≡◌, ◌<◌, ◌^◌, ◌-◌, IfErr, IfOk, OnOk, false, string_bytes};
-ghost use Rattle.serde_json.specs.View.{view};
-ghost use Rattle.serde_json.specs.Written.{has_float};
+ghost use Rattle.std.specs.Prelude.{◌≡◌, ◌<◌, ◌^◌, ◌-◌, IfErr, IfOk, OnOk, string_bytes};
 ghost use Rattle.std.specs.Io.KnownBytes.{Appends};
-ghost use Rattle.rustsec_commands.specs.Output.{malformed, tree_line, usage};
+ghost use Rattle.rustsec_commands.specs.Output.{malformed, usage};
 
 use crate::fault::Fault;
 use crate::input::Malformed;
-use rustsec_error::text_error;
-use rustsec_shown::push_shown;
-use serde_json::Value;
+use rustsec_values::{push_shown, text_error};
 use std::alloc::{AllocError, Global};
 use std::io::Write;
 use std::marker::Model;
@@ -131,13 +127,4 @@ pub fn usage_output(alloc: Global, note: Option<String>) -> Result<Output, Alloc
 {
     let text = String::from_str(alloc, "usage: rustsec_audit COMMAND\n")?;
     Ok(Output::new(text, 2).with_note(note))
-}
-
-/// Returns the text of a tree on one line, with a line feed at its end.
-pub fn tree_line(alloc: Global, tree: &Value) -> Result<String, AllocError>
-    ensures { IfOk result (λ t. has_float (view tree.now) ≡ false → string_bytes t ≡ tree_line (view tree.now)) }
-{
-    let mut text = tree.to_string(alloc)?;
-    text.push_str("\n")?;
-    Ok(text)
 }

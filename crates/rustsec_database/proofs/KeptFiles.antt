@@ -6,13 +6,13 @@ use Rattle.std.proofs.lemmas.List.Folds.{list_any-append}
 use Rattle.std.specs.Prelude.{Err, IfErr, IfOk, Ok, Result}
 use Rattle.std.specs.HashSet.{HashSet, Updates}
 use Rattle.std.specs.List.{list_any}
-use Rattle.rustsec_error.specs.Failure.{Failure, IsMemory}
+use Rattle.rustsec_values.specs.Failure.{Failure, IsMemory}
 use Rattle.rustsec_texts.specs.IdOrder.{id_decides, id_eq}
 use Rattle.rustsec_texts.specs.Ids.{IdValue}
 use Rattle.rustsec_advisory.specs.declared.advisory.Advisory.{Advisory}
-use Rattle.rustsec_folders.specs.Allowed.{Allowed, AllowSame}
-use Rattle.rustsec_folders.specs.Listed.{IsFile, Pairwise, Paths}
-use Rattle.rustsec_folders.specs.declared.source_file.SourceFile.{SourceFile}
+use Rattle.rustsec_files.specs.Allowed.{Allowed, AllowSame, read_from}
+use Rattle.rustsec_files.specs.Listed.{IsFile, Pairwise, Paths}
+use Rattle.rustsec_files.specs.declared.source_file.SourceFile.{SourceFile}
 use Rattle.rustsec_database.specs.Placement.{IsFiled, IsMisfiled}
 use Rattle.rustsec_database.specs.Kept.{AreOpenedFor, HaveIdsAmong, IsKept, IsKeptLoadOf, IsKeptWith, KeptValue}
 use Rattle.rustsec_database.specs.Latest.{later}
@@ -20,7 +20,7 @@ use Rattle.rustsec_database.specs.Loaded.{AreLoaded, IsAtFault, IsFault, IsFirst
 use Rattle.rustsec_database.specs.Opened.{AreRead, IsReadRefusal}
 use Rattle.rustsec_database.proofs.Files.{added, loaded-more, loaded-none, one-more}
 use Rattle.rustsec_database.proofs.Latest.{last-date-more}
-use Rattle.rustsec_database.proofs.Opening.{last-fault, opened, still-refused}
+use Rattle.rustsec_database.proofs.Opening.{last-fault, opened, opened-weaker, still-refused}
 use Rattle.rustsec_database.proofs.Places.{neither}
 
 -- ---- IDs
@@ -162,3 +162,7 @@ kept-refused test a items paths (Err e) is (files, (read, (load, inr memory))) =
 pub kept-opened : (test : Advisory → Bool) (a b : Allowed) (root : List ℕ) (paths items : List (List ℕ)) (k : KeptValue) → AllowSame a b
     → Paths a root (Some paths) → items ≡ paths → (all : List Advisory) × (AreRead b items all × IsKept test all k) → AreOpenedFor a root test k
 kept-opened test a b root paths items k same found is (all, (read, kept)) = (all, (opened a b root paths items all same found is read, kept))
+
+pub kept-weaker : (o : List ℕ → Type 0) (test : Advisory → Bool) (a : Allowed) (root : List ℕ) (k : KeptValue)
+    → AreOpenedFor (read_from o a) root test k → AreOpenedFor a root test k
+kept-weaker o test a root k (all, (load, kept)) = (all, (opened-weaker o a root all load, kept))

@@ -1,3 +1,4 @@
+pub mod EachKept
 pub mod Files
 pub mod FurtherFile
 pub mod KeptFiles

@@ -6,13 +6,13 @@ use Rattle.std.proofs.lemmas.List.Elements.{filter-append}
 use Rattle.std.proofs.lemmas.List.Folds.{Any-from_list_any}
 use Rattle.std.proofs.Math.Seq.{get_or-append_seam}
 use Rattle.std.specs.Prelude.{cond}
-use Rattle.rustsec_error.specs.Failure.{Failure, IsMemory}
-use Rattle.rustsec_error.specs.declared.error.ErrorKind.{ErrorKind}
+use Rattle.rustsec_values.specs.Failure.{Failure, IsMemory}
+use Rattle.rustsec_values.specs.declared.error.ErrorKind.{ErrorKind}
 use Rattle.rustsec_advisory.proofs.Unique.{advisory_unique}
 use Rattle.rustsec_advisory.specs.declared.advisory.Advisory.{Advisory}
-use Rattle.rustsec_folders.specs.Allowed.{Allowed, AnswersOnce}
-use Rattle.rustsec_folders.specs.declared.source_file.SourceFile.{SourceFile}
-use Rattle.rustsec_folders.proofs.Once.{listed-once, listed-or-error}
+use Rattle.rustsec_files.specs.Allowed.{Allowed, AnswersOnce}
+use Rattle.rustsec_files.specs.declared.source_file.SourceFile.{SourceFile}
+use Rattle.rustsec_files.proofs.Once.{listed-once, listed-or-error}
 use Rattle.rustsec_database.specs.Placement.{IsFiled, IsMisfiled, placed_in, kind_of, path_verdict}
 use Rattle.rustsec_database.specs.Loaded.{AreFiled, AreLoaded, HaveOwnIds, IsAtFault, IsFirstFault, has_id, is_known, is_stored}
 use Rattle.rustsec_database.specs.Opened.{AreOpened, IsOpenRefusal}

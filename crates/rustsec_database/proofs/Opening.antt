@@ -1,19 +1,18 @@
 -- The result of loading one file after another: it keeps the error of the first file at fault.
 use Rattle.std.proofs.Common.{◌≡◌, ◌∙◌, ◌⊎◌, ◌++◌, ℕ, List, [], ◌∷◌, Option, Some, None, inl, inr, refl, subst, sym, ap}
 use Rattle.std.proofs.lemmas.List.{append_assoc}
-use Rattle.std.specs.Prelude.{Contains, Err, IfErr, IfOk, Ok, Result}
-use Rattle.rustsec_error.specs.Failure.{Failure, IsMemory}
+use Rattle.std.specs.Prelude.{Contains, Result}
+use Rattle.rustsec_values.specs.Failure.{Failure, IsMemory}
 use Rattle.rustsec_advisory.specs.declared.advisory.Advisory.{Advisory}
-use Rattle.rustsec_folders.specs.Allowed.{Allowed, AllowSame}
-use Rattle.rustsec_folders.specs.Listed.{FailsAtFile, IsFile, Pairwise, Paths}
-use Rattle.rustsec_folders.specs.declared.source_file.SourceFile.{SourceFile}
-use Rattle.rustsec_folders.proofs.Lists.{pairwise-push}
-use Rattle.rustsec_folders.proofs.Same.{listed-fails, listed-found}
-use Rattle.rustsec_error.proofs.Refusals.{refused_by}
-use Rattle.rustsec_error.specs.declared.error.ErrorKind.TheVariants as kind
-use Rattle.rustsec_database.specs.Loaded.{AreLoaded, IsAdded, IsFault, IsFirstFault}
-use Rattle.rustsec_database.specs.Opened.{AreOpened, AreRead, IsLoadOf, IsOpenRefusal, IsReadRefusal}
-use Rattle.rustsec_database.proofs.Files.{loaded-more}
+use Rattle.rustsec_files.specs.Allowed.{Allowed, AllowSame, read_from}
+use Rattle.rustsec_files.specs.Listed.{FailsAtFile, IsFile, Listed, Pairwise, Paths}
+use Rattle.rustsec_files.specs.declared.source_file.SourceFile.{SourceFile}
+use Rattle.rustsec_files.proofs.Lists.{pairwise-push, pairwise-weaker}
+use Rattle.rustsec_files.proofs.Same.{listed-fails, listed-found}
+use Rattle.rustsec_values.proofs.Refusals.{refused_by}
+use Rattle.rustsec_values.specs.declared.error.ErrorKind.TheVariants as kind
+use Rattle.rustsec_database.specs.Loaded.{AreLoaded, IsFault, IsFirstFault}
+use Rattle.rustsec_database.specs.Opened.{AreOpened, AreRead, IsOpenRefusal, IsReadRefusal}
 
 -- ---- the result of loading one more file, from the result for the files before it
 
@@ -51,19 +50,28 @@ last-fault files f loaded e h (inl fault) =
       names = fault.1;
     })
 
--- one more file after files that are loaded
-pub load-next : (files : List SourceFile) (f : SourceFile) (loaded : List Advisory) (answer : Result (List Advisory) Failure) → AreLoaded files loaded
-    → IfOk answer (λ d. (place : Option ℕ) × IsAdded loaded f.path f.text place d) → IfErr answer (IsFault loaded f.path f.text)
-    → IsLoadOf (files ++ f ∷ []) answer
-load-next files f loaded (Ok more) h one fault = (loaded-more files f loaded more one.0 h one.1, tt)
-load-next files f loaded (Err e) h one fault = (tt, last-fault files f loaded e h fault)
+-- ---- folders, and the texts that opened files had
 
--- a refusal is passed on
-pub refused-next : (files : List SourceFile) (f : SourceFile) (before answer : Result (List Advisory) Failure) (e r : Failure) → before ≡ Err e
-    → answer ≡ Err r → r ≡ e → IsLoadOf files before → IsLoadOf (files ++ f ∷ []) answer
-refused-next files f before answer e r was is same h =
-    subst (IsLoadOf (files ++ f ∷ [])) (sym (is ∙ ap (λ x. Err x) same))
-    (tt, still-refused files f e (subst (λ (a : Result (List Advisory) Failure). IfErr a (λ x. IsFirstFault files x ⊎ IsMemory x)) was h.1))
+pub read-same : (o : List ℕ → Type 0) (a b : Allowed) → AllowSame a b → AllowSame (read_from o a) (read_from o b)
+read-same o a b same = record {
+  lists = same.lists;
+  reads = λ path answer. (λ h. ((same.reads path answer).0 h.0, h.1), λ h. ((same.reads path answer).1 h.0, h.1));
+}
+
+listed-weaker : (o : List ℕ → Type 0) (a : Allowed) (root : List ℕ) (answer : Option (List SourceFile)) → Listed (read_from o a) root answer
+    → Listed a root answer
+listed-weaker o a root (Some files) (paths, found, read) =
+    (paths, found, pairwise-weaker (IsFile (read_from o a)) (IsFile a) (λ path file h. (h.0, h.1.0)) paths files read)
+listed-weaker o a root None (inl unlisted) = inl unlisted
+listed-weaker o a root None (inr (paths, found, fails)) = inr (paths, found, (fails.0, fails.1, fails.2.0))
+
+pub opened-weaker : (o : List ℕ → Type 0) (a : Allowed) (root : List ℕ) (loaded : List Advisory) → AreOpened (read_from o a) root loaded
+    → AreOpened a root loaded
+opened-weaker o a root loaded (files, (listed, load)) = (files, (listed-weaker o a root (Some files) listed, load))
+
+pub refused-weaker : (o : List ℕ → Type 0) (a : Allowed) (root : List ℕ) (e : Failure) → IsOpenRefusal (read_from o a) root e → IsOpenRefusal a root e
+refused-weaker o a root e (inl refusal) = inl (refused_by kind.Io e (listed-weaker o a root None) refusal)
+refused-weaker o a root e (inr (files, (listed, fault))) = inr (files, (listed-weaker o a root (Some files) listed, fault))
 
 -- ---- a loop over paths
 
@@ -91,11 +99,6 @@ load-step P a b paths item path copy text whole before answer same is also all (
     next files load,
   ),
 )
-
--- nothing is read yet
-pub load-none : (a : Allowed) (answer : List Advisory) → answer ≡ [] → AreLoaded [] []
-    → (files : List SourceFile) × (Pairwise (IsFile a) [] files × IsLoadOf files (Ok answer))
-load-none a answer is none = ([], (tt, (rw is none, tt)))
 
 -- ---- paths that are listed under a root, and the files that are read at them afterwards
 

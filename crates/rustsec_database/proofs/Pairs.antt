@@ -6,9 +6,9 @@ use Rattle.std.proofs.lemmas.List.{append-nil, take_more}
 use Rattle.std.proofs.lemmas.List.Elements.{filter_agree}
 use Rattle.rustsec_lock.specs.Package.{PackageValue}
 use Rattle.rustsec_advisory.specs.declared.advisory.Advisory.{Advisory}
-use Rattle.rustsec_query.specs.Pairs.{Pair, finds, is_audited, pairs, pairs_of}
-use Rattle.rustsec_query.specs.Query.{Asked, of_package}
-use Rattle.rustsec_query.specs.Selects.{selects}
+use Rattle.rustsec_database.specs.Pairs.{Pair, finds, is_audited, pairs, pairs_of}
+use Rattle.rustsec_database.specs.Query.{Asked, of_package}
+use Rattle.rustsec_database.specs.Selects.{selects}
 
 abbrev pub as_pair : PackageValue → Advisory → Pair
 as_pair p a = record { of = p; by = a }

@@ -16,7 +16,7 @@ use Rattle.rustsec_versions.specs.ranges.Ranges.{Range, in_range}
 use Rattle.rustsec_texts.specs.contracts.collection.Collection.{the_type as collection}
 use Rattle.rustsec_texts.specs.declared.collection.Collection.{Collection}
 use Rattle.rustsec_advisory.specs.declared.advisory.Advisory.{Advisory}
-use Rattle.rustsec_query.specs.Selects.{if_there}
+use Rattle.rustsec_database.specs.Selects.{if_there}
 use Rattle.rustsec_database.specs.Places.{at_places, is_under, places_from}
 use Rattle.rustsec_database.specs.Postings.{AreListed, HaveListed, IsPostingAmong, digest, is_listed, is_near, posting_of, postings_from}
 use Rattle.rustsec_database.specs.Spans.{span_of}

@@ -16,8 +16,8 @@ use Rattle.rustsec_texts.specs.contracts.collection.Collection.{the_type as coll
 use Rattle.rustsec_texts.specs.declared.collection.Collection.{Collection}
 use Rattle.rustsec_advisory.specs.declared.advisory.Advisory.{Advisory}
 use Rattle.rustsec_lock.specs.Package.{PackageValue}
-use Rattle.rustsec_query.specs.Query.{Asked, of_package}
-use Rattle.rustsec_query.specs.Selects.{as_informational, as_withdrawn, has_name, has_source, has_version, if_there, in_collection, is_severe, of_year, on_arch, on_os, selects}
+use Rattle.rustsec_database.specs.Query.{Asked, of_package}
+use Rattle.rustsec_database.specs.Selects.{as_informational, as_withdrawn, has_name, has_source, has_version, if_there, in_collection, is_severe, of_year, on_arch, on_os, selects}
 use Rattle.rustsec_database.specs.Loaded.{has_id, is_known}
 use Rattle.rustsec_database.specs.Places.{IsTableOf, is_under}
 use Rattle.rustsec_database.proofs.Places.{find-any, first-last, first-other, is-false, none-at}

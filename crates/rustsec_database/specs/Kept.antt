@@ -2,15 +2,15 @@
 use Rattle.std.specs.Prelude.{◌≡◌, ◌⊎◌, ◌&&◌, ℕ, Bool, false, true, IfErr, IfOk, List, Option, Result, length, nat_eq}
 use Rattle.std.specs.Cmp.Lexicographic.{pointwise}
 use Rattle.std.specs.List.{filter, list_any}
-use Rattle.rustsec_error.specs.Failure.{Failure, IsMemory}
+use Rattle.rustsec_values.specs.Failure.{Failure, IsMemory}
 use Rattle.rustsec_versions.specs.acceptance.Lists.{affected}
 use Rattle.rustsec_versions.specs.ranges.Ranges.{is_until}
 use Rattle.rustsec_lock.specs.Package.{PackageValue}
 use Rattle.rustsec_texts.specs.IdOrder.{id_eq}
 use Rattle.rustsec_texts.specs.Ids.{IdValue}
 use Rattle.rustsec_advisory.specs.declared.advisory.Advisory.{Advisory}
-use Rattle.rustsec_folders.specs.Allowed.{Allowed}
-use Rattle.rustsec_folders.specs.declared.source_file.SourceFile.{SourceFile}
+use Rattle.rustsec_files.specs.Allowed.{Allowed}
+use Rattle.rustsec_files.specs.declared.source_file.SourceFile.{SourceFile}
 use Rattle.rustsec_database.specs.Latest.{last_date}
 use Rattle.rustsec_database.specs.Loaded.{AreLoaded, IsAdded, IsFirstFault, has_id}
 use Rattle.rustsec_database.specs.Opened.{AreOpened}

@@ -1,10 +1,15 @@
+pub mod EqualityLaws
+pub mod Functions
 pub mod Indexes
 pub mod Kept
 pub mod Latest
 pub mod Loaded
 pub mod Opened
+pub mod Pairs
 pub mod Placement
 pub mod Places
 pub mod Postings
+pub mod Query
+pub mod Selects
 pub mod Slots
 pub mod Spans

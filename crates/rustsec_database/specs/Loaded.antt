@@ -1,14 +1,14 @@
 -- The result of loading files: their advisories, or the first fault.
 use Rattle.std.specs.Prelude.{◌≡◌, ◌⊎◌, ◌++◌, ◌∷◌, [], ℕ, Bool, true, false, List, Option, Some, None, codes, if◌then◌else◌, length, not}
 use Rattle.std.specs.List.{All, AllPairs, AllZip, filter, list_any}
-use Rattle.rustsec_error.specs.Failure.{Failure, IsMemory}
-use Rattle.rustsec_error.specs.declared.error.ErrorKind.{ErrorKind}
-use Rattle.rustsec_error.specs.declared.error.ErrorKind.TheVariants as kind
+use Rattle.rustsec_values.specs.Failure.{Failure, IsMemory}
+use Rattle.rustsec_values.specs.declared.error.ErrorKind.{ErrorKind}
+use Rattle.rustsec_values.specs.declared.error.ErrorKind.TheVariants as kind
 use Rattle.rustsec_texts.specs.IdOrder.{id_eq}
 use Rattle.rustsec_texts.specs.Ids.{IdValue, is_placeholder}
 use Rattle.rustsec_advisory.specs.declared.advisory.Advisory.{Advisory}
 use Rattle.rustsec_database.specs.Placement.{IsFiled, IsMisfiled}
-use Rattle.rustsec_folders.specs.declared.source_file.SourceFile.{SourceFile}
+use Rattle.rustsec_files.specs.declared.source_file.SourceFile.{SourceFile}
 
 -- an advisory is stored unless its ID is the placeholder
 abbrev pub is_stored : Advisory → Bool

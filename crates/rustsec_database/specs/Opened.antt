@@ -1,10 +1,10 @@
 -- The result of opening a root, for the answers that its folders allow.
-use Rattle.std.specs.Prelude.{◌⊎◌, ℕ, IfErr, IfOk, List, None, Option, Result, Some}
-use Rattle.rustsec_folders.specs.Allowed.{Allowed}
-use Rattle.rustsec_folders.specs.Listed.{FailsAtFile, IsFile, Listed, Pairwise}
-use Rattle.rustsec_folders.specs.declared.source_file.SourceFile.{SourceFile}
-use Rattle.rustsec_error.specs.Failure.{Failure, IsMemory, IsRefusal}
-use Rattle.rustsec_error.specs.declared.error.ErrorKind.TheVariants as kind
+use Rattle.std.specs.Prelude.{◌⊎◌, ℕ, List, None, Option, Some}
+use Rattle.rustsec_files.specs.Allowed.{Allowed}
+use Rattle.rustsec_files.specs.Listed.{FailsAtFile, IsFile, Listed, Pairwise}
+use Rattle.rustsec_files.specs.declared.source_file.SourceFile.{SourceFile}
+use Rattle.rustsec_values.specs.Failure.{Failure, IsRefusal}
+use Rattle.rustsec_values.specs.declared.error.ErrorKind.TheVariants as kind
 use Rattle.rustsec_advisory.specs.declared.advisory.Advisory.{Advisory}
 use Rattle.rustsec_database.specs.Loaded.{AreLoaded, IsAdded, IsFault, IsFirstFault}
 
@@ -38,7 +38,3 @@ AreRead allowed paths loaded = (files : List SourceFile) × (Pairwise (IsFile al
 abbrev pub IsReadRefusal : Allowed → List (List ℕ) → Failure → Type 0
 IsReadRefusal allowed paths e =
     IsRefusal kind.Io (FailsAtFile allowed paths) e ⊎ ((files : List SourceFile) × (Pairwise (IsFile allowed) paths files × IsFirstFault files e))
-
--- the result of loading these files: their advisories, the refusal of the first file at fault, or out of memory
-abbrev pub IsLoadOf : List SourceFile → Result (List Advisory) Failure → Type 0
-IsLoadOf files answer = IfOk answer (AreLoaded files) × IfErr answer (λ e. IsFirstFault files e ⊎ IsMemory e)

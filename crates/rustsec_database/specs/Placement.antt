@@ -6,8 +6,8 @@ use Rattle.rustsec_files.specs.Paths.{folder, folder_parent, is_draft, is_markdo
 use Rattle.rustsec_texts.specs.Collections.{collection_of}
 use Rattle.rustsec_texts.specs.contracts.collection.Collection.{the_type as collection}
 use Rattle.rustsec_texts.specs.declared.collection.Collection.{Collection}
-use Rattle.rustsec_error.specs.declared.error.ErrorKind.{ErrorKind}
-use Rattle.rustsec_error.specs.declared.error.ErrorKind.TheVariants as kind
+use Rattle.rustsec_values.specs.declared.error.ErrorKind.{ErrorKind}
+use Rattle.rustsec_values.specs.declared.error.ErrorKind.TheVariants as kind
 use Rattle.rustsec_advisory.specs.Advisory.{IsAdvisory}
 use Rattle.rustsec_advisory.specs.declared.advisory.Advisory.{Advisory}
 use Rattle.rustsec_database.specs.declared.placement.PlacementError.{PlacementError}

@@ -9,7 +9,7 @@ use Rattle.rustsec_texts.specs.contracts.collection.Collection.{the_type as coll
 use Rattle.rustsec_texts.specs.declared.collection.Collection.{Collection}
 use Rattle.rustsec_texts.specs.declared.collection.Collection.TheVariants as kind
 use Rattle.rustsec_advisory.specs.declared.advisory.Advisory.{Advisory}
-use Rattle.rustsec_query.specs.Selects.{if_there}
+use Rattle.rustsec_database.specs.Selects.{if_there}
 use Rattle.rustsec_database.specs.Spans.{span_of}
 
 -- the digest of a name, which different names may share

@@ -1,14 +1,14 @@
 //! The stored advisories, with a table that finds them by ID.
 
-ghost use Rattle.std.specs.Prelude.{◌≡◌, ◌++◌, ◌∷◌, ◌⊎◌, ◌<◌, ◌^◌, [], false, ℕ, IfErr, IfOk, IfSome, IsSome, List, None, Option, OnErr, OnOk, Some, length, slice_get, true};
+ghost use Rattle.std.specs.Prelude.{◌≡◌, ◌++◌, ◌∷◌, ◌⊎◌, ◌<◌, ◌^◌, [], false, ℕ, IfErr, IfOk, IfSome, IsSome, List, MatchResult, None, Option, OnErr, OnOk, Some, length, slice_get, true};
 ghost use Rattle.std.specs.HashMap as hash;
 ghost use Rattle.std.specs.Iterator.Adapters.{IterYieldsInOrder};
 ghost use Rattle.std.specs.List.{find};
 ghost use Rattle.std.specs.Option.{option_copied};
 ghost use Rattle.std.specs.Slice.Iter.{iter_rest};
 ghost use Rattle.rustsec_files.specs.ReadFailures.{IsReadFailure};
-ghost use Rattle.rustsec_folders.specs.Allowed.{AllowSame, real_folders};
-ghost use Rattle.rustsec_error.specs.Failure.{IsMemory, IsOfKind};
+ghost use Rattle.rustsec_files.specs.Allowed.{AllowSame, read_from, real_files, real_folders};
+ghost use Rattle.rustsec_values.specs.Failure.{IsMemory, IsOfKind};
 ghost use Rattle.rustsec_texts.specs.IdOrder.{id_eq};
 ghost use Rattle.rustsec_database.specs.Loaded.{IsAdded, IsAtFault, IsFault, IsOnlyWithId, has_id, is_known};
 ghost use Rattle.rustsec_database.specs.Opened.{IsAddedAt, IsFaultAt};
@@ -16,10 +16,9 @@ ghost use Rattle.rustsec_database.specs.Opened.{IsAddedAt, IsFaultAt};
 use crate::placement::load_placed;
 use crate::slot::Slot;
 use rustsec_advisory::Advisory;
-use rustsec_error::{Error, ErrorKind, Result, file_error};
-use rustsec_folders::{Folders, RealFolders};
+use rustsec_files::{Folders, RealFolders};
 use rustsec_texts::Id;
-use rustsec_values::exact_copy;
+use rustsec_values::{Error, ErrorKind, Result, exact_copy, file_error};
 use std::alloc::{AllocError, Global};
 use std::collections::HashMap;
 use std::collections::hash_map::Entry;
@@ -190,6 +189,9 @@ impl Entries {
         ensures err { IfErr result (IsFaultAt (F.allowed folders.old) path.now self.old) }
         ensures same { AllowSame (F.allowed folders.old) (F.allowed folders.new) }
         ensures names { IfErr result (λ e. F.refuses folders.old path.now e ⊎ ((text : List ℕ) × IsFault self.old path.now text e)) }
+        ensures opened { MatchResult result
+            (λ slot. IsAddedAt (read_from F.opened (F.allowed folders.old)) path.now self.old slot self.new)
+            (IsFaultAt (read_from F.opened (F.allowed folders.old)) path.now self.old) }
     {
         let text = folders.read(alloc, path)?;
         self.load_text(alloc, path, text.as_str())
@@ -205,6 +207,9 @@ impl Entries {
         ensures kept { OnErr result (self.new ≡ self.old) }
         ensures err { IfErr result (IsFaultAt real_folders path.now self.old) }
         ensures names { IfErr result (λ e. IsReadFailure path.now e ⊎ ((text : List ℕ) × IsFault self.old path.now text e)) }
+        ensures opened { MatchResult result
+            (λ slot. IsAddedAt (real_files R.File.remaining) path.now self.old slot self.new)
+            (IsFaultAt (real_files R.File.remaining) path.now self.old) }
     {
         self.load_file_with(alloc, &mut RealFolders::new(rt), path)
     }

@@ -4,13 +4,12 @@ ghost use Rattle.std.specs.Prelude.{◌≡◌, ◌∷◌, [], if◌then◌else�
 ghost use Rattle.std.specs.Cmp.Lexicographic.{pointwise};
 ghost use Rattle.std.specs.List.{list_any};
 ghost use Rattle.std.specs.Option.{option_copied};
-ghost use Rattle.rustsec_error.specs.Failure.{IsMemory};
+ghost use Rattle.rustsec_values.specs.Failure.{IsMemory};
 ghost use Rattle.rustsec_database.specs.Slots.{Rises, slots_at, where_any, with_slot};
 
 use crate::slot::Slot;
-use rustsec_error::Result;
 use rustsec_lock::package::Name;
-use rustsec_values::exact_copy;
+use rustsec_values::{Result, exact_copy};
 use std::alloc::{AllocError, Global};
 use std::collections::HashMap;
 use std::marker::Model;

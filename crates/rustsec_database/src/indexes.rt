@@ -1,15 +1,15 @@
 //! The indexes of a database, one for each collection.
 
 ghost use Rattle.std.specs.Prelude.{IfErr, IfOk, List};
-ghost use Rattle.rustsec_error.specs.Failure.{IsMemory};
+ghost use Rattle.rustsec_values.specs.Failure.{IsMemory};
 ghost use Rattle.rustsec_advisory.specs.declared.advisory.Advisory as given;
 ghost use Rattle.rustsec_database.specs.Postings.{AreIndexesOf, AreListed};
 
 use crate::name_index::NameIndex;
 use crate::posting::Posting;
 use rustsec_advisory::Advisory;
-use rustsec_error::Result;
 use rustsec_texts::Collection;
+use rustsec_values::Result;
 use std::alloc::Global;
 
 /// The indexes of the advisories of each collection, by the names of their packages.

@@ -2,9 +2,9 @@
 
 ghost use Rattle.std.specs.Prelude.{◌≡◌, ◌++◌, ◌∷◌, ◌+◌, ◌||◌, ◌⊎◌, [], false, if◌then◌else◌, not, IfErr, IfOk, List, None, OnOk, length};
 ghost use Rattle.std.specs.List.{list_any};
-ghost use Rattle.rustsec_error.specs.Failure.{IsMemory};
-ghost use Rattle.rustsec_folders.specs.Allowed.{AllowSame};
-ghost use Rattle.rustsec_folders.specs.declared.source_file.SourceFile.{SourceFile};
+ghost use Rattle.rustsec_values.specs.Failure.{IsMemory};
+ghost use Rattle.rustsec_files.specs.Allowed.{AllowSame, read_from};
+ghost use Rattle.rustsec_files.specs.declared.source_file.SourceFile.{SourceFile};
 ghost use Rattle.rustsec_texts.specs.IdOrder.{id_eq};
 ghost use Rattle.rustsec_texts.specs.Ids.{IdValue};
 ghost use Rattle.rustsec_advisory.specs.declared.advisory.Advisory as given;
@@ -16,10 +16,9 @@ ghost use Rattle.rustsec_database.specs.Opened.{AreRead, IsReadRefusal};
 use crate::entries::{Entries, duplicate_error};
 use crate::placement::load_placed;
 use rustsec_advisory::Advisory;
-use rustsec_error::{Result, file_error};
-use rustsec_folders::Folders;
+use rustsec_files::Folders;
 use rustsec_texts::{Date, Id};
-use rustsec_values::{Items, Predicate, Text, exact_copy};
+use rustsec_values::{Items, Predicate, Result, Text, exact_copy, file_error};
 use std::alloc::{AllocError, Global};
 use std::collections::HashSet;
 use std::marker::Model;
@@ -176,8 +175,8 @@ pub(crate) fn keep_paths<F: Folders, T: Predicate<Advisory>>(
     paths: Items<Text>,
     test: &T,
 ) -> Result<Keeping>
-    ensures ok { IfOk result (λ k. (all : List given.Advisory) × (AreRead (F.allowed folders.old) paths all × IsKept (T.holds test.now) all k)) }
-    ensures err { IfErr result (IsReadRefusal (F.allowed folders.old) paths) }
+    ensures ok { IfOk result (λ k. (all : List given.Advisory) × (AreRead (read_from F.opened (F.allowed folders.old)) paths all × IsKept (T.holds test.now) all k)) }
+    ensures err { IfErr result (IsReadRefusal (read_from F.opened (F.allowed folders.old)) paths) }
     ensures same { AllowSame (F.allowed folders.old) (F.allowed folders.new) }
 {
     let mut loaded = Ok(Keeping::empty(alloc));

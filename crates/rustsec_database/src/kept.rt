@@ -1,9 +1,9 @@
 //! The advisories under a root that pass a test, beside the IDs and the latest date of all advisories there.
 
-ghost use Rattle.std.specs.Prelude.{◌≡◌, IfErr, IfOk, length, option_map};
+ghost use Rattle.std.specs.Prelude.{◌≡◌, IfErr, IfOk, MatchResult, length, option_map};
 ghost use Rattle.std.specs.List.{list_any};
-ghost use Rattle.rustsec_error.specs.Failure.{IsMemory};
-ghost use Rattle.rustsec_folders.specs.Allowed.{AllowSame};
+ghost use Rattle.rustsec_values.specs.Failure.{IsMemory};
+ghost use Rattle.rustsec_files.specs.Allowed.{AllowSame, read_from};
 ghost use Rattle.rustsec_texts.specs.IdOrder.{id_eq};
 ghost use Rattle.rustsec_database.specs.Kept.{AreOpenedFor};
 ghost use Rattle.rustsec_database.specs.Opened.{IsOpenRefusal};
@@ -11,10 +11,9 @@ ghost use Rattle.rustsec_database.specs.Opened.{IsOpenRefusal};
 use crate::database::Database;
 use crate::keeping::{Keeping, keep_paths};
 use rustsec_advisory::Advisory;
-use rustsec_error::Result;
-use rustsec_folders::{Folders, source_paths};
+use rustsec_files::{Folders, source_paths};
 use rustsec_texts::{Date, Id};
-use rustsec_values::Predicate;
+use rustsec_values::{Predicate, Result};
 use std::alloc::Global;
 use std::collections::HashSet;
 use std::marker::Model;
@@ -112,6 +111,9 @@ impl KeptDatabase {
         ensures ok { IfOk result (AreOpenedFor (F.allowed folders.old) root.now (T.holds test.now)) }
         ensures err { IfErr result (IsOpenRefusal (F.allowed folders.old) root.now) }
         ensures same { AllowSame (F.allowed folders.old) (F.allowed folders.new) }
+        ensures opened { MatchResult result
+            (AreOpenedFor (read_from F.opened (F.allowed folders.old)) root.now (T.holds test.now))
+            (IsOpenRefusal (read_from F.opened (F.allowed folders.old)) root.now) }
     {
         let paths = source_paths(alloc, folders, root)?;
         let keeping = keep_paths(alloc, folders, paths, test)?;

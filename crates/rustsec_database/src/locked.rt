@@ -2,7 +2,7 @@
 
 ghost use Rattle.std.specs.Prelude.{◌≡◌, IfErr, IfOk};
 ghost use Rattle.std.specs.List.{list_any};
-ghost use Rattle.rustsec_error.specs.Failure.{IsMemory};
+ghost use Rattle.rustsec_values.specs.Failure.{IsMemory};
 ghost use Rattle.rustsec_database.specs.Kept.{bears_on_any, touches_any};
 ghost use Rattle.rustsec_database.specs.Places.{IsIndexByName, affects_at, bears_at, is_named, places_from};
 
@@ -10,9 +10,8 @@ use crate::index::Index;
 use crate::slot::Slot;
 use crate::span::{Span, span_of};
 use rustsec_advisory::Advisory;
-use rustsec_error::Result;
 use rustsec_lock::package::{Name, Package};
-use rustsec_values::Predicate;
+use rustsec_values::{Predicate, Result};
 use rustsec_versions::Versions;
 use std::alloc::Global;
 use std::marker::Model;

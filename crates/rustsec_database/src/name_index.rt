@@ -1,16 +1,15 @@
 //! An index of the advisories of a collection by the names of their packages.
 
 ghost use Rattle.std.specs.Prelude.{◌≡◌, ◌++◌, ◌%◌, ◌<◌, ◌==◌, ◌∷◌, [], if◌then◌else◌, ℕ, IfErr, IfOk, List, OnOk, length, slice_index_or};
-ghost use Rattle.rustsec_error.specs.Failure.{IsMemory};
+ghost use Rattle.rustsec_values.specs.Failure.{IsMemory};
 ghost use Rattle.rustsec_advisory.specs.declared.advisory.Advisory as given;
 ghost use Rattle.rustsec_database.specs.Postings.{HaveListed, IsIndexOf};
 
 use crate::posting::Posting;
 use crate::slot::Slot;
 use rustsec_advisory::Advisory;
-use rustsec_error::Result;
 use rustsec_texts::Collection;
-use rustsec_values::Items;
+use rustsec_values::{Items, Result};
 use std::alloc::{AllocError, Global};
 use std::marker::Model;
 

@@ -1,41 +1,29 @@
 //! Opens the database of the files under a root.
 
-ghost use Rattle.std.specs.Prelude.{◌++◌, ◌∷◌, [], IfErr, IfOk, List};
-ghost use Rattle.rustsec_folders.specs.Allowed.{AllowSame, real_folders};
-ghost use Rattle.rustsec_folders.specs.declared.source_file.SourceFile.{SourceFile};
-ghost use Rattle.rustsec_database.specs.Opened.{AreOpened, AreRead, IsLoadOf, IsOpenRefusal, IsReadRefusal};
+ghost use Rattle.std.specs.Prelude.{IfErr, IfOk, MatchResult};
+ghost use Rattle.rustsec_files.specs.Allowed.{AllowSame, read_from, real_files, real_folders};
+ghost use Rattle.rustsec_database.specs.Opened.{AreOpened, IsOpenRefusal};
 
 use crate::database::Database;
-use crate::entries::Entries;
-use rustsec_error::Result;
-use rustsec_folders::{Folders, RealFolders, source_paths};
-use rustsec_values::{Items, Text};
+use crate::kept::KeptDatabase;
+use rustsec_advisory::Advisory;
+use rustsec_files::{Folders, RealFolders};
+use rustsec_values::{Predicate, Result};
 use std::alloc::Global;
 use std::rt::Files;
 
-/// Loads one more file after the files before it. If `before` is an error, that error is returned and the file is not
-/// loaded.
-fn load_next(alloc: Global, before: Result<Entries>, path: &str, text: &str) -> Result<Entries>
-    ensures { (files : List SourceFile) → IsLoadOf files before
-        → IsLoadOf (files ++ record { path = path.now; text = text.now } ∷ []) result }
-{
-    let entries = before?;
-    entries.with_file(alloc, path, text)
-}
+/// The test that each advisory passes.
+#[derive(Drop)]
+struct Every;
 
-/// Loads the files at some paths. Files after one at fault are read too. One text is held at a time, and a path until its
-/// file is loaded.
-fn load_paths<F: Folders>(alloc: Global, folders: &mut F, paths: Items<Text>) -> Result<Entries>
-    ensures ok { IfOk result (AreRead (F.allowed folders.old) paths) }
-    ensures err { IfErr result (IsReadRefusal (F.allowed folders.old) paths) }
-    ensures same { AllowSame (F.allowed folders.old) (F.allowed folders.new) }
-{
-    let mut loaded = Ok(Entries::new(alloc));
-    for path in Vec::from(paths) {
-        let text = folders.read(alloc, path.as_str())?;
-        loaded = load_next(alloc, loaded, path.as_str(), text.as_str());
+impl Predicate<Advisory> for Every {
+    ghost use Rattle.std.specs.Prelude.{true};
+
+    ghost holds = { λ _ _. true };
+
+    fn holds(&self, _: &Advisory) -> bool {
+        true
     }
-    loaded
 }
 
 impl Database {
@@ -51,11 +39,12 @@ impl Database {
         ensures ok { IfOk result (AreOpened (F.allowed folders.old) root.now) }
         ensures err { IfErr result (IsOpenRefusal (F.allowed folders.old) root.now) }
         ensures same { AllowSame (F.allowed folders.old) (F.allowed folders.new) }
+        ensures opened { MatchResult result
+            (AreOpened (read_from F.opened (F.allowed folders.old)) root.now)
+            (IsOpenRefusal (read_from F.opened (F.allowed folders.old)) root.now) }
     {
-        let paths = source_paths(alloc, folders, root)?;
-        let entries = load_paths(alloc, folders, paths)?;
-        let database = Database::of(alloc, entries)?;
-        Ok(database)
+        let kept = KeptDatabase::open_with(alloc, folders, root, &Every)?;
+        Ok(kept.into_database())
     }
 
     /// Opens the database of the files under a root of the disk. A pipe, a device or a socket where a file
@@ -69,6 +58,9 @@ impl Database {
     pub fn open<R: Files>(rt: &R, alloc: Global, root: &str) -> Result<Database>
         ensures ok { IfOk result (AreOpened real_folders root.now) }
         ensures err { IfErr result (IsOpenRefusal real_folders root.now) }
+        ensures opened { MatchResult result
+            (AreOpened (real_files R.File.remaining) root.now)
+            (IsOpenRefusal (real_files R.File.remaining) root.now) }
     {
         let mut folders = RealFolders::new(rt);
         Database::open_with(alloc, &mut folders, root)

@@ -1,14 +1,13 @@
 //! Pairs of a package and an advisory that a query finds, as references.
 
 ghost use Rattle.std.specs.Prelude.{◌≡◌, ◌++◌, ◌<◌, IfErr, IfOk, OnErr, OnOk, length, map};
-ghost use Rattle.rustsec_error.specs.Failure.{IsMemory};
-ghost use Rattle.rustsec_query.specs.Pairs.{as_vulnerability};
+ghost use Rattle.rustsec_values.specs.Failure.{IsMemory};
+ghost use Rattle.rustsec_database.specs.Pairs.{as_vulnerability};
 
+use crate::Vulnerability;
 use rustsec_advisory::Advisory;
-use rustsec_error::Result;
 use rustsec_lock::package::Package;
-use rustsec_query::Vulnerability;
-use rustsec_values::Items;
+use rustsec_values::{Items, Result};
 use std::alloc::{AllocError, Global};
 use std::marker::Model;
 
@@ -22,7 +21,7 @@ pub struct Pair<'a> {
 }
 
 impl<'a> Model for Pair<'a> {
-    ghost use Rattle.rustsec_query.specs.Pairs.{Pair};
+    ghost use Rattle.rustsec_database.specs.Pairs.{Pair};
 
     ghost Value = { Pair };
 

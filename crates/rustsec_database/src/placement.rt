@@ -1,14 +1,13 @@
 //! Checks the path of an advisory's file against the advisory, and sets the advisory's collection.
 
 ghost use Rattle.std.specs.Prelude.{◌≡◌, ◌⊎◌, IfErr, IfOk};
-ghost use Rattle.rustsec_error.specs.Failure.{IsMemory, IsOfKind};
+ghost use Rattle.rustsec_values.specs.Failure.{IsMemory, IsOfKind};
 ghost use Rattle.rustsec_database.specs.Placement.{IsFiled, IsMisfiled, agreed, agrees, collection_at, is_in_folder, is_named, kind_of, path_verdict};
 
 use rustsec_advisory::Advisory;
-use rustsec_error::{Error, ErrorKind, Result};
 use rustsec_files::path::FilePath;
 use rustsec_texts::Collection;
-use rustsec_values::from_name;
+use rustsec_values::{Error, ErrorKind, Result, from_name};
 use std::alloc::{AllocError, Global};
 
 /// A check that the path of an advisory's file fails.

@@ -1,9 +1,9 @@
 -- Outputs of `stats`, `osv-database` and `query-osv`, by what their parts give.
 use Rattle.std.proofs.Common.{◌≡◌, ◌≢◌, ◌∙◌, ℕ, Bool, List, Option, Some, ap, refl, subst, sym}
 use Rattle.semver.specs.Parse.{Parts}
-use Rattle.rustsec_error.specs.Failure.{Failure, IsRefusal}
-use Rattle.rustsec_error.specs.declared.error.ErrorKind.TheVariants as kind
-use Rattle.rustsec_folders.specs.Allowed.{Allowed}
+use Rattle.rustsec_values.specs.Failure.{Failure, IsRefusal}
+use Rattle.rustsec_values.specs.declared.error.ErrorKind.TheVariants as kind
+use Rattle.rustsec_files.specs.Allowed.{Allowed}
 use Rattle.rustsec_advisory.specs.declared.advisory.Advisory.{Advisory}
 use Rattle.rustsec_database.specs.Opened.{AreOpened, IsOpenRefusal}
 use Rattle.rustsec_osv_database.specs.Answers.{HasNoAnswer, IsAnswerOf}

@@ -1,13 +1,13 @@
 -- If each path has one answer, each command has one output.
 use Rattle.std.proofs.Common.{◌≡◌, ◌≢◌, ◌∙◌, ℕ, Bool, List, Option, None, Some, true, ap, subst, sym}
-use Rattle.rustsec_folders.specs.Allowed.{Allowed, AnswersOnce}
+use Rattle.rustsec_files.specs.Allowed.{Allowed, AnswersOnce}
 use Rattle.rustsec_lint_database.proofs.Once.{entries-once, entries-or-unlisted}
 use Rattle.rustsec_commands.specs.Output.{Output, refused_as}
 use Rattle.rustsec_commands.proofs.lemmas.Once.{kinds-of, no-memory, same-output}
 use Rattle.semver.specs.Parse.{Parts, version_parts}
 use Rattle.rustsec_values.specs.Reading.{value_of}
-use Rattle.rustsec_error.specs.Failure.{Failure}
-use Rattle.rustsec_error.specs.declared.error.ErrorKind.TheVariants as kind
+use Rattle.rustsec_values.specs.Failure.{Failure}
+use Rattle.rustsec_values.specs.declared.error.ErrorKind.TheVariants as kind
 use Rattle.rustsec_lock.specs.Names.{name_of}
 use Rattle.rustsec_advisory.specs.declared.advisory.Advisory.{Advisory}
 use Rattle.rustsec_database.specs.Opened.{IsOpenRefusal}

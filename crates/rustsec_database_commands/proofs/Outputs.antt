@@ -1,9 +1,9 @@
 -- Outputs of `lint-database`, by what its parts give.
 use Rattle.std.proofs.Common.{◌≡◌, ◌≢◌, ℕ, Bool, List, Option, None, Some, ap, subst, sym}
-use Rattle.rustsec_error.specs.Failure.{Failure, IsRefusal}
-use Rattle.rustsec_error.specs.declared.error.ErrorKind.TheVariants as kind
-use Rattle.rustsec_folders.specs.Allowed.{Allowed}
-use Rattle.rustsec_folders.specs.Listed.{Paths}
+use Rattle.rustsec_values.specs.Failure.{Failure, IsRefusal}
+use Rattle.rustsec_values.specs.declared.error.ErrorKind.TheVariants as kind
+use Rattle.rustsec_files.specs.Allowed.{Allowed}
+use Rattle.rustsec_files.specs.Listed.{Paths}
 use Rattle.rustsec_lint_database.specs.Entries.{AreEntries}
 use Rattle.rustsec_lint_database.specs.declared.database.Entry.{Entry}
 use Rattle.rustsec_commands.specs.Output.{Output, refused_as, usage}

@@ -3,7 +3,7 @@ use Rattle.std.proofs.Common.{◌≡◌, ℕ, Err, List, Ok, Option, None, Resul
 use Rattle.std.specs.Io.KnownBytes.{Appends, Keeps}
 use Rattle.std.specs.Prelude.{IfOk, IsOkAnd}
 use Rattle.std.specs.declared.alloc.AllocError.{AllocError}
-use Rattle.rustsec_folders.specs.Allowed.{Allowed}
+use Rattle.rustsec_files.specs.Allowed.{Allowed}
 use Rattle.rustsec_commands.specs.Output.{Output}
 use Rattle.rustsec_program.specs.Commands as audits
 use Rattle.rustsec_program.specs.Words as audit_words

@@ -1,7 +1,7 @@
 -- What each command writes.
 use Rattle.std.specs.Prelude.{◌≡◌, ◌≢◌, ℕ, Bool, false, true, List, Option, Some, None, map}
 use Rattle.std.specs.Io.KnownBytes.{Appends, Keeps}
-use Rattle.rustsec_folders.specs.Allowed.{Allowed}
+use Rattle.rustsec_files.specs.Allowed.{Allowed}
 use Rattle.rustsec_commands.specs.Output.{Output, usage}
 use Rattle.rustsec_program.specs.Commands as audits
 use Rattle.rustsec_program.specs.Words as audit_words

@@ -1,16 +1,17 @@
 -- The output of `lint-database`.
 use Rattle.std.specs.Prelude.{◌≡◌, ◌==◌, ℕ, Bool, List, [], ◌∷◌, Option, Some, None, codes, if◌then◌else◌, length}
 use Rattle.rustsec_values.specs.ClosedTables.{from_name}
-use Rattle.rustsec_folders.specs.Allowed.{Allowed}
-use Rattle.rustsec_folders.specs.Listed.{Paths}
-use Rattle.rustsec_error.specs.declared.error.ErrorKind.TheVariants as kind
+use Rattle.rustsec_files.specs.Allowed.{Allowed}
+use Rattle.rustsec_files.specs.Listed.{Paths}
+use Rattle.rustsec_values.specs.declared.error.ErrorKind.TheVariants as kind
 use Rattle.rustsec_lint_database.specs.Counts.{faults, notes}
 use Rattle.rustsec_lint_database.specs.Entries.{AreEntries}
 use Rattle.rustsec_lint_database.specs.declared.counts.Counts.{Counts}
 use Rattle.rustsec_lint_database.specs.declared.database.Entry.{Entry}
 use Rattle.rustsec_lint_output.specs.LintText.{lint_text}
 use Rattle.rustsec_lint_output.specs.LintTree.{lint_tree}
-use Rattle.rustsec_commands.specs.Output.{Output, refused_as, tree_line, usage}
+use Rattle.rustsec_commands.specs.Output.{Output, refused_as, usage}
+use Rattle.rustsec_json.specs.Lines.{tree_line}
 use Rattle.rustsec_database_commands.specs.Options.{AskedValue, asked_of}
 use Rattle.rustsec_database_commands.specs.declared.form.Form.{Form}
 use Rattle.rustsec_database_commands.specs.declared.form.Form.TheVariants as form

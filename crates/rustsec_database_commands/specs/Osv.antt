@@ -4,9 +4,9 @@ use Rattle.std.specs.List.{list_all, list_any, starts_with}
 use Rattle.std.specs.Str.{bytes_eq}
 use Rattle.semver.specs.Parse.{Parts, version_parts}
 use Rattle.rustsec_values.specs.Reading.{value_of}
-use Rattle.rustsec_folders.specs.Allowed.{Allowed}
-use Rattle.rustsec_error.specs.Failure.{Failure}
-use Rattle.rustsec_error.specs.declared.error.ErrorKind.TheVariants as kind
+use Rattle.rustsec_files.specs.Allowed.{Allowed}
+use Rattle.rustsec_values.specs.Failure.{Failure}
+use Rattle.rustsec_values.specs.declared.error.ErrorKind.TheVariants as kind
 use Rattle.rustsec_lock.specs.Names.{name_of}
 use Rattle.rustsec_advisory.specs.declared.advisory.Advisory.{Advisory}
 use Rattle.rustsec_database.specs.Opened.{AreOpened, IsOpenRefusal}

@@ -1,14 +1,15 @@
 -- The output of `stats`.
 use Rattle.std.specs.Prelude.{◌≡◌, ◌≢◌, ℕ, List, [], ◌∷◌, Option, Some, None, if◌then◌else◌}
-use Rattle.rustsec_folders.specs.Allowed.{Allowed}
-use Rattle.rustsec_error.specs.Failure.{Failure}
-use Rattle.rustsec_error.specs.declared.error.ErrorKind.TheVariants as kind
+use Rattle.rustsec_files.specs.Allowed.{Allowed}
+use Rattle.rustsec_values.specs.Failure.{Failure}
+use Rattle.rustsec_values.specs.declared.error.ErrorKind.TheVariants as kind
 use Rattle.rustsec_advisory.specs.declared.advisory.Advisory.{Advisory}
 use Rattle.rustsec_database.specs.Opened.{AreOpened, IsOpenRefusal}
 use Rattle.rustsec_stats.specs.Stats.{stats_of}
 use Rattle.rustsec_stats.specs.StatsText.{stats_text}
 use Rattle.rustsec_stats.specs.StatsTree.{stats_tree}
-use Rattle.rustsec_commands.specs.Output.{Output, refused_as, tree_line, usage}
+use Rattle.rustsec_commands.specs.Output.{Output, refused_as, usage}
+use Rattle.rustsec_json.specs.Lines.{tree_line}
 use Rattle.rustsec_database_commands.specs.Lint.{form_named}
 use Rattle.rustsec_database_commands.specs.Options.{is_format}
 use Rattle.rustsec_database_commands.specs.declared.form.Form.{Form}

@@ -3,7 +3,7 @@
 ghost use Rattle.rustsec_commands.specs.declared.fault.Fault.TheVariants as fault;
 ghost use Rattle.std.specs.Prelude.{◌≡◌, ◌≢◌, IfErr, IfOk, false, map};
 ghost use Rattle.std.specs.Io.KnownBytes.{Keeps};
-ghost use Rattle.rustsec_folders.specs.Allowed.{AllowSame, AnswersOnce, real_folders};
+ghost use Rattle.rustsec_files.specs.Allowed.{AllowSame, AnswersOnce, real_folders};
 ghost use Rattle.rustsec_database_commands.specs.Commands.{Carries, HaveOneOutput, IsBrokenOff, IsOwnOutput, command_view, words_read_input};
 ghost use Rattle.rustsec_database_commands.specs.Words.{command_of};
 
@@ -15,7 +15,7 @@ use crate::osv_query::query_osv;
 use crate::stats::stats;
 use rustsec_commands::output::{Output, usage_output};
 use rustsec_commands::{Fault, unlisted_note};
-use rustsec_folders::{Folders, RealFolders};
+use rustsec_files::{Folders, RealFolders};
 use rustsec_program::finish;
 use std::alloc::{AllocError, Global};
 use std::io::{Read, Write};

@@ -1,11 +1,10 @@
 //! The forms of an output.
 
 ghost use Rattle.std.specs.Prelude.{◌≡◌, IfErr, IfOk, None, Some, option_map};
-ghost use Rattle.rustsec_error.specs.Failure.{IsRefusal};
+ghost use Rattle.rustsec_values.specs.Failure.{IsRefusal};
 ghost use Rattle.rustsec_database_commands.specs.Lint.{form_named};
 
-use rustsec_error::{ErrorKind, Result, text_error};
-use rustsec_values::{ClosedEnum, from_name};
+use rustsec_values::{ClosedEnum, ErrorKind, Result, from_name, text_error};
 use std::alloc::Global;
 
 /// The form of an output.

@@ -1,12 +1,12 @@
 //! The command `lint-database`.
 
 ghost use Rattle.std.specs.Prelude.{◌≡◌, ◌≢◌, IfErr, IfOk, List, None, Some, map, string_bytes};
-ghost use Rattle.rustsec_folders.specs.Allowed.{AllowSame};
-ghost use Rattle.rustsec_folders.specs.Listed.{Paths};
+ghost use Rattle.rustsec_files.specs.Allowed.{AllowSame};
+ghost use Rattle.rustsec_files.specs.Listed.{Paths};
 ghost use Rattle.rustsec_lint_database.specs.Entries.{AreEntries};
 ghost use Rattle.rustsec_lint_database.specs.declared.database.Entry as linted;
-ghost use Rattle.rustsec_error.specs.Failure.{IsRefusal};
-ghost use Rattle.rustsec_error.specs.declared.error.ErrorKind.TheVariants as failure;
+ghost use Rattle.rustsec_values.specs.Failure.{IsRefusal};
+ghost use Rattle.rustsec_values.specs.declared.error.ErrorKind.TheVariants as failure;
 ghost use Rattle.rustsec_commands.specs.Output.{refused_as};
 ghost use Rattle.rustsec_database_commands.specs.Lint.{IsLintOutput, IsLintedBy, counts_in, entries_output, entries_text};
 ghost use Rattle.rustsec_database_commands.specs.Steps.{asked_view};
@@ -17,10 +17,10 @@ use crate::notes::Notes;
 use crate::options::{LintInput, asked_of};
 use rustsec_commands::error_output::refusal_output;
 use rustsec_commands::output::{Output, usage_output};
-use rustsec_error::{ErrorKind, Result};
-use rustsec_folders::Folders;
+use rustsec_files::Folders;
 use rustsec_lint_database::{Counts, Entry, counts_of, lint_database};
 use rustsec_lint_output::{lint_line, lint_text};
+use rustsec_values::{ErrorKind, Result};
 use std::alloc::{AllocError, Global};
 use std::io::Write;
 

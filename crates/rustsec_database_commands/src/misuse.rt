@@ -3,8 +3,7 @@
 use crate::options::Flag;
 use crate::usage::PAGE;
 use rustsec_policy::nearest_word;
-use rustsec_shown::push_shown;
-use rustsec_values::from_name;
+use rustsec_values::{from_name, push_shown};
 use std::alloc::{AllocError, Global};
 
 /// The names of the options.

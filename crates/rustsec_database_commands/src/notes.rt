@@ -1,9 +1,8 @@
 //! Notes on the files of a database, for a person.
 
 use rustsec_commands::error_output::why;
-use rustsec_error::{Error, ErrorKind, file_error};
 use rustsec_lint_database::{Step, Watcher};
-use rustsec_shown::push_shown;
+use rustsec_values::{Error, ErrorKind, file_error, push_shown};
 use std::alloc::{AllocError, Global};
 use std::io::Write;
 

@@ -1,7 +1,7 @@
 //! The command `osv-database`.
 
 ghost use Rattle.std.specs.Prelude.{◌≡◌, Bool, IfErr, IfOk, List, ℕ, map, string_bytes};
-ghost use Rattle.rustsec_folders.specs.Allowed.{AllowSame};
+ghost use Rattle.rustsec_files.specs.Allowed.{AllowSame};
 ghost use Rattle.rustsec_advisory.specs.declared.advisory.Advisory.{Advisory};
 ghost use Rattle.rustsec_database.specs.Opened.{AreOpened, IsOpenRefusal};
 ghost use Rattle.rustsec_osv_database.specs.Lines.{AreParts};
@@ -13,9 +13,9 @@ use crate::misuse;
 use rustsec_commands::error_output::refusal_output;
 use rustsec_commands::output::{Output, usage_output};
 use rustsec_database::Database;
-use rustsec_error::Result;
-use rustsec_folders::Folders;
+use rustsec_files::Folders;
 use rustsec_osv_database::{Choice, Exported, export};
+use rustsec_values::Result;
 use std::alloc::{AllocError, Global};
 
 /// Returns whether a word asks to leave out withdrawn advisories.

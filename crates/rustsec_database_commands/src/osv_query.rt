@@ -2,13 +2,13 @@
 
 ghost use Rattle.std.specs.Prelude.{IfOk};
 ghost use Rattle.semver.specs.Identifiers.{parts_of};
-ghost use Rattle.rustsec_folders.specs.Allowed.{AllowSame};
+ghost use Rattle.rustsec_files.specs.Allowed.{AllowSame};
 ghost use Rattle.rustsec_database_commands.specs.Osv.{IsAnswered, IsQueryOutput};
 
 use rustsec_commands::error_output::refusal_output;
 use rustsec_commands::output::Output;
 use rustsec_database::Database;
-use rustsec_folders::Folders;
+use rustsec_files::Folders;
 use rustsec_lock::package::Name;
 use rustsec_osv_database::answer_of;
 use rustsec_versions::read_version;

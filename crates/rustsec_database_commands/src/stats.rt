@@ -2,12 +2,13 @@
 
 ghost use Rattle.std.specs.Prelude.{◌≡◌, ◌≢◌, IfErr, IfOk, List, Some, map, option_map, string_bytes};
 ghost use Rattle.serde_json.specs.View.{view};
-ghost use Rattle.rustsec_folders.specs.Allowed.{AllowSame};
+ghost use Rattle.rustsec_files.specs.Allowed.{AllowSame};
 ghost use Rattle.rustsec_advisory.specs.declared.advisory.Advisory as given;
 ghost use Rattle.rustsec_database.specs.Opened.{AreOpened, IsOpenRefusal};
-ghost use Rattle.rustsec_error.specs.Failure.{IsMemory};
-ghost use Rattle.rustsec_error.specs.declared.error.ErrorKind.TheVariants as failure;
-ghost use Rattle.rustsec_commands.specs.Output.{refused_as, tree_line};
+ghost use Rattle.rustsec_values.specs.Failure.{IsMemory};
+ghost use Rattle.rustsec_values.specs.declared.error.ErrorKind.TheVariants as failure;
+ghost use Rattle.rustsec_commands.specs.Output.{refused_as};
+ghost use Rattle.rustsec_json.specs.Lines.{tree_line};
 ghost use Rattle.rustsec_stats.specs.Stats.{stats_of};
 ghost use Rattle.rustsec_stats.specs.StatsTree.{stats_tree};
 ghost use Rattle.rustsec_database_commands.specs.Stats.{IsCountedBy, IsStatsOutput, asked_form, stats_output, stats_text_in};
@@ -16,11 +17,12 @@ use crate::form::{Form, form_named};
 use crate::misuse;
 use rustsec_advisory::Advisory;
 use rustsec_commands::error_output::refusal_output;
-use rustsec_commands::output::{Output, tree_line, usage_output};
+use rustsec_commands::output::{Output, usage_output};
 use rustsec_database::Database;
-use rustsec_error::Result;
-use rustsec_folders::Folders;
+use rustsec_files::Folders;
+use rustsec_json::tree_line;
 use rustsec_stats::{Stats, stats_of, stats_text, stats_tree};
+use rustsec_values::Result;
 use std::alloc::{AllocError, Global};
 
 /// Returns the name of the form that the words ask for, if any; `None` for words that are not `--format` and a name.

@@ -6,8 +6,8 @@ pub const PAGE: &str = "
       for all files of the database under the folder ROOT: a line for each lint error, each file that is refused or is
       not where its advisory belongs, and each ID that occurs twice; the error output says why a file is refused
       --format json: the same as one line of JSON
-      --upstream: patched requirements that overlap, sources that are not URLs and forms of TOML 1.1, which the Rust crate
-      refuses, are faults too; --progress: a line on the error output after each 1,000 files
+      --upstream: patched requirements that overlap and sources that are not URLs, which the Rust crate refuses, are faults
+      too; --progress: a line on the error output after each 1,000 files
       status 0: no fault; 1: some
       example: rustsec_audit lint-database advisory-db --upstream
   stats ROOT [--format text|json]

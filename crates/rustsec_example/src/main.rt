@@ -88,7 +88,10 @@ fn main(rt: HostRuntime) -> ExitCode {
         Ok(answer) => (answer.text, if answer.is_forbidden { 1 } else { 0 }),
         Err(error) => {
             // A message that cannot be written changes nothing: the status tells.
-            let _ = eprintln!(rt; "{error}");
+            let _ = match error.cause() {
+                Some(cause) => eprintln!(rt; "{error}: {cause}"),
+                None => eprintln!(rt; "{error}"),
+            };
             return ExitCode::from(2);
         }
     };

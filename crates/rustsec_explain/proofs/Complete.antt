@@ -16,8 +16,8 @@ use Rattle.rustsec_texts.specs.Informational.{kind_of_warnings}
 use Rattle.rustsec_texts.specs.declared.informational.Informational.{Informational}
 use Rattle.rustsec_texts.specs.declared.warning_kind.WarningKind.{WarningKind}
 use Rattle.rustsec_advisory.specs.declared.advisory.Advisory.{Advisory}
-use Rattle.rustsec_query.specs.Pairs.{is_default_there}
-use Rattle.rustsec_query.specs.Selects.{has_name, has_source, in_collection, is_severe, on_arch, on_os, selects}
+use Rattle.rustsec_database.specs.Pairs.{is_default_there}
+use Rattle.rustsec_database.specs.Selects.{has_name, has_source, in_collection, is_severe, on_arch, on_os, selects}
 use Rattle.rustsec_report.specs.Report.{is_wanted, wanted_kind}
 use Rattle.rustsec_report.specs.declared.settings.Settings.{Settings}
 use Rattle.rustsec_explain.specs.declared.reason.Reason.{Reason}

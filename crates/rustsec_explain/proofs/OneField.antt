@@ -6,8 +6,8 @@ use Rattle.rustsec_lock.specs.declared.platforms.OS.{OS}
 use Rattle.rustsec_lock.specs.declared.severity.Severity.{Severity}
 use Rattle.rustsec_advisory.specs.declared.advisory.Advisory.{Advisory}
 use Rattle.rustsec_advisory.specs.declared.affected.Affected.{Affected}
-use Rattle.rustsec_query.specs.Query.{unset}
-use Rattle.rustsec_query.specs.Selects.{has_source, if_there, is_severe, on_arch, on_os, selects}
+use Rattle.rustsec_database.specs.Query.{unset}
+use Rattle.rustsec_database.specs.Selects.{has_source, if_there, is_severe, on_arch, on_os, selects}
 
 -- a test that every value passes
 all-pass : {A : Type 0} (o : Option A) → if_there (λ x. true) o ≡ true

@@ -10,9 +10,9 @@ use Rattle.rustsec_texts.specs.contracts.warning_kind.WarningKind.{the_type as w
 use Rattle.rustsec_texts.specs.declared.warning_kind.WarningKind.{WarningKind}
 use Rattle.rustsec_texts.specs.declared.warning_kind.WarningKind.TheVariants as kind
 use Rattle.rustsec_advisory.specs.declared.advisory.Advisory.{Advisory}
-use Rattle.rustsec_query.specs.Pairs.{as_vulnerability, finds, pairs, pairs_of, vulnerability_of}
-use Rattle.rustsec_query.specs.Query.{Asked}
-use Rattle.rustsec_query.specs.declared.vulnerability.Vulnerability.{Vulnerability}
+use Rattle.rustsec_database.specs.Pairs.{as_vulnerability, finds, pairs, pairs_of, vulnerability_of}
+use Rattle.rustsec_database.specs.Query.{Asked}
+use Rattle.rustsec_database.specs.declared.vulnerability.Vulnerability.{Vulnerability}
 use Rattle.rustsec_report.specs.Report.{as_warning, found, informational_query, present, query_of, report_of, wanted_kind, warnings_by_kind, without}
 use Rattle.rustsec_report.specs.declared.settings.Settings.{Settings}
 use Rattle.rustsec_report.specs.declared.warning.Warning.{Warning}

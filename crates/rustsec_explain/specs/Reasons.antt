@@ -9,9 +9,9 @@ use Rattle.rustsec_lock.specs.Source.{Source, is_default}
 use Rattle.rustsec_texts.specs.Informational.{kind_of_warnings}
 use Rattle.rustsec_texts.specs.declared.informational.Informational.{Informational}
 use Rattle.rustsec_advisory.specs.declared.advisory.Advisory.{Advisory}
-use Rattle.rustsec_query.specs.Pairs.{finds}
-use Rattle.rustsec_query.specs.Query.{Asked, of_package}
-use Rattle.rustsec_query.specs.Selects.{has_name, has_source, in_collection, is_severe, on_arch, on_os}
+use Rattle.rustsec_database.specs.Pairs.{finds}
+use Rattle.rustsec_database.specs.Query.{Asked, of_package}
+use Rattle.rustsec_database.specs.Selects.{has_name, has_source, in_collection, is_severe, on_arch, on_os}
 use Rattle.rustsec_report.specs.Report.{informational_query, is_among, is_wanted, query_of, wanted_kind}
 use Rattle.rustsec_report.specs.declared.settings.Settings.{Settings}
 use Rattle.rustsec_explain.specs.declared.reason.Reason.{Reason}

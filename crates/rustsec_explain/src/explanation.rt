@@ -3,17 +3,16 @@
 ghost use Rattle.std.specs.Prelude.{◌≡◌, ◌++◌, ◌∷◌, [], IfErr, IfOk, OnOk, map};
 ghost use Rattle.std.specs.List.{filter, find, flat_map};
 ghost use Rattle.std.specs.Option.{option_copied};
-ghost use Rattle.rustsec_error.specs.Failure.{IsMemory};
+ghost use Rattle.rustsec_values.specs.Failure.{IsMemory};
 ghost use Rattle.rustsec_explain.specs.Explained.{advisories_with, explained, explained_by, explained_by_id, explained_by_name, explained_pairs, has_alias, has_id, is_about, is_named};
 
 use crate::pairs::reasons;
 use crate::reason::Reason;
 use rustsec_advisory::Advisory;
-use rustsec_error::Result;
 use rustsec_lock::package::Package;
 use rustsec_report::Settings;
 use rustsec_texts::Id;
-use rustsec_values::Items;
+use rustsec_values::{Items, Result};
 use std::alloc::{AllocError, Global};
 use std::marker::Model;
 

@@ -2,14 +2,13 @@
 
 ghost use Rattle.std.specs.Prelude.{◌≡◌, ◌++◌, IfErr, IfOk, OnOk, map};
 ghost use Rattle.semver.specs.Identifiers.{parts_of};
-ghost use Rattle.rustsec_error.specs.Failure.{IsMemory};
+ghost use Rattle.rustsec_values.specs.Failure.{IsMemory};
 ghost use Rattle.rustsec_versions.specs.requirement.Requirement.{interval_of};
 ghost use Rattle.rustsec_versions.specs.Views.{comparators_of};
 ghost use Rattle.rustsec_explain.specs.Reasons.{applying, held_by, is_within, requirement_rows};
 
 use crate::reason::{Reason, add_if};
-use rustsec_error::{ErrorKind, Result};
-use rustsec_values::Items;
+use rustsec_values::{ErrorKind, Items, Result};
 use rustsec_versions::UnaffectedRange;
 use semver::{Version, VersionReq};
 use std::alloc::Global;

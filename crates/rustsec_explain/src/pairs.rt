@@ -1,7 +1,7 @@
 //! Every reason why a pair is not a finding.
 
 ghost use Rattle.std.specs.Prelude.{◌≡◌, ◌≢◌, ◌↔◌, ◌++◌, ◌∷◌, [], IfErr, IfOk, OnOk, true};
-ghost use Rattle.rustsec_error.specs.Failure.{IsMemory};
+ghost use Rattle.rustsec_values.specs.Failure.{IsMemory};
 ghost use Rattle.rustsec_report.specs.Report.{report_of};
 ghost use Rattle.rustsec_explain.specs.Reported.{ListsNothing};
 ghost use Rattle.rustsec_explain.specs.Reasons.{applying, is_finding, limit_rows, reasons_of, standing_rows, subject_rows, version_rows};
@@ -13,10 +13,9 @@ use crate::tests_of_pairs::{
     is_without_warnings, on_arch, on_os,
 };
 use rustsec_advisory::Advisory;
-use rustsec_error::Result;
 use rustsec_lock::package::Package;
 use rustsec_report::Settings;
-use rustsec_values::Items;
+use rustsec_values::{Items, Result};
 use std::alloc::{AllocError, Global};
 
 /// Appends the reasons about where the package comes from, and what the advisory is about.

@@ -1,18 +1,18 @@
 //! The tests that a finding passes, one by one.
 
 ghost use Rattle.std.specs.Prelude.{◌≡◌, IfErr, IfOk};
-ghost use Rattle.rustsec_query.specs.Query.{crate_scope, of_package};
-ghost use Rattle.rustsec_query.specs.Selects.{has_name, has_source, in_collection, is_severe, on_arch, on_os};
+ghost use Rattle.rustsec_database.specs.Query.{crate_scope, of_package};
+ghost use Rattle.rustsec_database.specs.Selects.{has_name, has_source, in_collection, is_severe, on_arch, on_os};
 ghost use Rattle.rustsec_report.specs.Report.{is_wanted, query_of};
-ghost use Rattle.rustsec_error.specs.Failure.{IsMemory};
+ghost use Rattle.rustsec_values.specs.Failure.{IsMemory};
 ghost use Rattle.rustsec_explain.specs.Reasons.{fails, is_elsewhere, is_ignored, warns};
 
 use rustsec_advisory::Advisory;
-use rustsec_error::Result;
+use rustsec_database::Query;
 use rustsec_lock::package::Package;
-use rustsec_query::Query;
 use rustsec_report::Settings;
 use rustsec_texts::Collection;
+use rustsec_values::Result;
 use std::alloc::Global;
 
 /// Returns whether a package's source is there and is not the default registry.

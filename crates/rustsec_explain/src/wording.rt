@@ -2,17 +2,16 @@
 
 ghost use Rattle.std.specs.Prelude.{◌≡◌, ◌++◌, IfErr, IfOk, OnOk, codes, map, option_and_then, slice_get, string_bytes};
 ghost use Rattle.semver.specs.Identifiers.{parts_of};
-ghost use Rattle.rustsec_error.specs.Failure.{IsMemory};
+ghost use Rattle.rustsec_values.specs.Failure.{IsMemory};
 ghost use Rattle.rustsec_versions.specs.Views.{comparators_of};
 ghost use Rattle.rustsec_lock.specs.Cvss.{cvss_severity};
 ghost use Rattle.rustsec_explain.specs.Wording.{below_threshold_text, further_names, held_text, kind_text, not_audited_text, other_architecture_text, other_collection_text, other_package_text, other_platform_text, other_source_text, other_system_text, quoted, quoted_names, reason_text, subject_source_text, withdrawn_text};
 
 use crate::reason::Reason;
 use rustsec_advisory::Advisory;
-use rustsec_error::Result;
 use rustsec_lock::package::Package;
 use rustsec_report::Settings;
-use rustsec_values::ClosedEnum;
+use rustsec_values::{ClosedEnum, Result};
 use rustsec_versions::requirement_text;
 use semver::{Version, VersionReq};
 use std::alloc::{AllocError, Global};

@@ -5,7 +5,7 @@ use Rattle.rustsec_explain.specs.Pair.{ExplainedPair}
 use Rattle.rustsec_explain.specs.declared.reason.Reason.{Reason}
 use Rattle.rustsec_explain_output.specs.ReasonWords.{reason_words}
 use Rattle.rustsec_explain_output.specs.Rules.{RulesValue}
-use Rattle.rustsec_shown.specs.Shown.{shown}
+use Rattle.rustsec_values.specs.Shown.{shown}
 
 -- the words of each reason of a pair, after a semicolon
 abbrev pub further_words : RulesValue → ExplainedPair → List Reason → List ℕ

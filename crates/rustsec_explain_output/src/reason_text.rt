@@ -2,14 +2,14 @@
 
 ghost use Rattle.std.specs.Prelude.{◌≡◌, ◌++◌, IfErr, IfOk, OnOk, string_bytes};
 ghost use Rattle.std.specs.Option.{option_copied};
-ghost use Rattle.rustsec_error.specs.Failure.{IsMemory};
+ghost use Rattle.rustsec_values.specs.Failure.{IsMemory};
 ghost use Rattle.rustsec_explain_output.specs.ReasonWords.{by_policy, entry_words, ignored_by, note_words, reason_words, until_words};
 ghost use Rattle.rustsec_explain_output.specs.Rules.{entry_of};
 
 use crate::rules::{Rules, entry_of};
-use rustsec_error::Result;
 use rustsec_explain::{Explained, Reason};
 use rustsec_policy::Ignored;
+use rustsec_values::Result;
 use std::alloc::{AllocError, Global};
 
 /// Appends the last day of an entry, if present.

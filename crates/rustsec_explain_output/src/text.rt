@@ -1,15 +1,14 @@
 //! Writes an explanation as text: a line for each pair.
 
 ghost use Rattle.std.specs.Prelude.{◌≡◌, ◌++◌, IfErr, IfOk, OnOk, flat_map, string_bytes};
-ghost use Rattle.rustsec_error.specs.Failure.{IsMemory};
+ghost use Rattle.rustsec_values.specs.Failure.{IsMemory};
 ghost use Rattle.rustsec_explain_output.specs.ExplainText.{explain_text, further_words, pair_line, pair_words, told_by};
 ghost use Rattle.rustsec_explain_output.specs.ReasonWords.{reason_words};
 
 use crate::reason_text::reason_words;
 use crate::rules::Rules;
-use rustsec_error::Result;
 use rustsec_explain::{Explained, Reason};
-use rustsec_shown::push_shown;
+use rustsec_values::{Result, push_shown};
 use std::alloc::Global;
 use std::fmt::Write as _;
 

@@ -1,3 +1,8 @@
-pub mod LastSegments
-pub mod Names
+pub mod FileNames
+pub mod InOrder
+pub mod ListFailures
+pub mod Lists
+pub mod Once
+pub mod Same
 pub mod Segments
+pub mod Shown

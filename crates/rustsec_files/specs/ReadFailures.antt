@@ -4,8 +4,8 @@ use Rattle.std.specs.IoError.{error_kind}
 use Rattle.std.specs.declared.io.Error.{Error}
 use Rattle.std.specs.declared.io.ErrorKind.TheVariants as io_kind
 use Rattle.std.specs.Fmt.{decimal}
-use Rattle.rustsec_error.specs.Failure.{Failure, out_of_memory}
-use Rattle.rustsec_error.specs.declared.error.ErrorKind.TheVariants as kind
+use Rattle.rustsec_values.specs.Failure.{Failure, out_of_memory}
+use Rattle.rustsec_values.specs.declared.error.ErrorKind.TheVariants as kind
 
 -- the message that names the path of a file that cannot be opened, or of a folder that cannot be listed
 abbrev pub open_message : List ℕ → List ℕ

@@ -1,29 +1,17 @@
 //! Paths of files: segments between slashes. The last segment names the file. Empty segments and `.` are
 //! dropped; `..` is a segment as any other.
 
-ghost use Rattle.std.specs.Prelude.{◌≡◌, ◌++◌, ◌∷◌, [], IfSome, MatchOption, codes, false};
+ghost use Rattle.std.specs.Prelude.{◌≡◌, MatchOption, codes, false};
 ghost use Rattle.std.specs.Option.{option_copied};
 ghost use Rattle.std.specs.Str.{bytes_eq};
 ghost use Rattle.rustsec_files.specs.Paths as paths;
-ghost use Rattle.rustsec_files.specs.Paths.{has_markdown_extension, is_draft, is_draft_name, is_markdown, is_markdown_file_of, is_markdown_name, is_segment, segments};
+ghost use Rattle.rustsec_files.specs.Paths.{has_markdown_extension, is_draft, is_draft_name, is_markdown, is_markdown_file_of, is_markdown_name, is_segment};
 
 /// Returns whether a text between two slashes is a segment.
 fn is_segment(text: &str) -> bool
     ensures { result ≡ is_segment text.now }
 {
     !text.is_empty() && text != "."
-}
-
-/// Returns the text before the last slash of a path and the one after it, if that is a segment.
-fn split_last(path: &str) -> Option<(&str, &str)>
-    ensures { IfSome result (λ parts. segments path.now ≡ segments parts.0.now ++ parts.1.now ∷ []) }
-{
-    let (before, after) = path.rsplit_once('/')?;
-    if is_segment(after) {
-        Some((before, after))
-    } else {
-        None
-    }
 }
 
 /// Returns whether a byte and `.md` end a file's name.
@@ -73,23 +61,8 @@ pub struct FilePath<'a> {
 }
 
 impl<'a> FilePath<'a> {
-    /// Returns a path with its last segments, if they are three, each of them right after a slash.
-    fn of_three(path: &'a str) -> Option<FilePath<'a>>
-        ensures { IfSome result (λ p. p.path.now ≡ path.now) }
-    {
-        let (within_folder, file) = split_last(path)?;
-        let (within_parent, folder) = split_last(within_folder)?;
-        let (_, parent) = split_last(within_parent)?;
-        Some(FilePath {
-            path,
-            file: Some(file),
-            folder: Some(folder),
-            parent: Some(parent),
-        })
-    }
-
-    /// Returns a path with its last segments, from a look at all of them.
-    fn of_any(path: &'a str) -> FilePath<'a>
+    /// Returns a path with its last segments.
+    pub fn of(path: &'a str) -> FilePath<'a>
         ensures { result.path.now ≡ path.now }
     {
         let (mut file, mut folder, mut parent) = (None, None, None);
@@ -105,16 +78,6 @@ impl<'a> FilePath<'a> {
             file,
             folder,
             parent,
-        }
-    }
-
-    /// Returns a path with its last segments.
-    pub fn of(path: &'a str) -> FilePath<'a>
-        ensures { result.path.now ≡ path.now }
-    {
-        match FilePath::of_three(path) {
-            Some(it) => it,
-            None => FilePath::of_any(path),
         }
     }
 

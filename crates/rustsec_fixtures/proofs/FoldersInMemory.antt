@@ -2,11 +2,11 @@
 use Rattle.std.proofs.Common.{◌≡◌, ◌≢◌, ◌∙◌, ℕ, List, Option, None, Some, ap, inl, inr, refl, sym}
 use Rattle.std.specs.Prelude.{IfErr, IfOk, Result}
 use Rattle.std.proofs.lemmas.Result.{IfErr-weaker, IfOk-weaker}
-use Rattle.rustsec_error.specs.Failure.{Failure, IsOfKind, IsRefusal}
-use Rattle.rustsec_error.specs.declared.error.ErrorKind.TheVariants as kind
-use Rattle.rustsec_error.proofs.Refusals.{refusal, refused_by}
-use Rattle.rustsec_folders.specs.Allowed.{AllowSame, AnswersOnce}
-use Rattle.rustsec_folders.specs.declared.entry.FolderEntry.{FolderEntry}
+use Rattle.rustsec_values.specs.Failure.{Failure, IsOfKind, IsRefusal}
+use Rattle.rustsec_values.specs.declared.error.ErrorKind.TheVariants as kind
+use Rattle.rustsec_values.proofs.Refusals.{refusal, refused_by}
+use Rattle.rustsec_files.specs.Allowed.{AllowSame, AnswersOnce}
+use Rattle.rustsec_files.specs.declared.entry.FolderEntry.{FolderEntry}
 use Rattle.rustsec_fixtures.specs.FoldersInMemory.{IsAnswer, IsHeld, answers_of, held_at, listed, read}
 use Rattle.rustsec_fixtures.specs.declared.folders_in_memory.Holds.{Holds}
 use Rattle.rustsec_fixtures.specs.declared.folders_in_memory.MemoryFolders.{MemoryFolders}

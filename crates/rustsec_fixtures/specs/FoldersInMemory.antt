@@ -3,8 +3,8 @@ use Rattle.std.specs.Borrow.{Bor}
 use Rattle.std.specs.List.{find}
 use Rattle.std.specs.Prelude.{◌≡◌, ◌≢◌, ◌⊎◌, ℕ, Bool, List, Option, Some, None, map, option_map}
 use Rattle.std.specs.Str.{bytes_eq}
-use Rattle.rustsec_folders.specs.Allowed.{Allowed}
-use Rattle.rustsec_folders.specs.declared.entry.FolderEntry.{FolderEntry}
+use Rattle.rustsec_files.specs.Allowed.{Allowed}
+use Rattle.rustsec_files.specs.declared.entry.FolderEntry.{FolderEntry}
 use Rattle.rustsec_fixtures.specs.declared.folders_in_memory.Holds.{Holds}
 use Rattle.rustsec_fixtures.specs.declared.folders_in_memory.Holds.TheVariants as holds
 use Rattle.rustsec_fixtures.specs.declared.folders_in_memory.MemoryFolders.{MemoryFolders}

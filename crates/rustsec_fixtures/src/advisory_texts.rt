@@ -2,7 +2,7 @@
 
 use crate::values::kind_of;
 use rustsec_advisory::Advisory;
-use rustsec_error::ErrorKind;
+use rustsec_values::ErrorKind;
 use std::alloc::Global;
 use std::test::Fail;
 

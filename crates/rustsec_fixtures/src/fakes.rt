@@ -21,23 +21,25 @@ impl<'a> ByteReader<'a> {
     pub fn new(bytes: &'a [u8], fails_at: u64) -> ByteReader<'a>
         ensures { result.rest.now ≡ bytes.now }
     {
-        ByteReader {
-            rest: bytes,
-            calls: 0,
-            fails_at,
-            failure: ErrorKind::Other,
-        }
+        ByteReader::failing(bytes, fails_at, ErrorKind::Other)
     }
 
     /// Returns a reader of bytes whose failure is that the call was interrupted.
     pub fn interrupted(bytes: &'a [u8], fails_at: u64) -> ByteReader<'a>
         ensures { result.rest.now ≡ bytes.now }
     {
+        ByteReader::failing(bytes, fails_at, ErrorKind::Interrupted)
+    }
+
+    /// Returns a reader of bytes whose failure is of a kind.
+    pub fn failing(bytes: &'a [u8], fails_at: u64, failure: ErrorKind) -> ByteReader<'a>
+        ensures { result.rest.now ≡ bytes.now }
+    {
         ByteReader {
             rest: bytes,
             calls: 0,
             fails_at,
-            failure: ErrorKind::Interrupted,
+            failure,
         }
     }
 }

@@ -2,13 +2,12 @@
 
 ghost use Rattle.std.specs.Option.{option_copied};
 ghost use Rattle.std.specs.Prelude.{◌≡◌, ◌≢◌, IfErr, IfOk, None, Some, map, true};
-ghost use Rattle.rustsec_folders.specs.Allowed.{AllowSame, AnswersOnce};
-ghost use Rattle.rustsec_error.specs.Failure.{IsMemory, IsOfKind, IsRefusal};
+ghost use Rattle.rustsec_files.specs.Allowed.{AllowSame, AnswersOnce};
+ghost use Rattle.rustsec_values.specs.Failure.{IsMemory, IsOfKind, IsRefusal};
 ghost use Rattle.rustsec_fixtures.specs.FoldersInMemory.{IsHeld, answers_of, entry_of, held_at, listed, read};
 
-use rustsec_error::{Error, ErrorKind, Result};
-use rustsec_folders::{FolderEntry, Folders};
-use rustsec_values::{Items, Text};
+use rustsec_files::{FolderEntry, Folders};
+use rustsec_values::{Error, ErrorKind, Items, Result, Text};
 use std::alloc::{AllocError, Global};
 
 /// The contents of a path: a folder with these entries, each a folder or not, or a file with this text.

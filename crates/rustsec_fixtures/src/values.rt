@@ -1,6 +1,6 @@
 //! Versions, requirements and lists of texts.
 
-use rustsec_error::{Error, ErrorKind};
+use rustsec_values::{Error, ErrorKind};
 use rustsec_versions::{OsvRange, UnaffectedRange, Versions};
 use semver::{Version, VersionReq};
 use std::alloc::Global;

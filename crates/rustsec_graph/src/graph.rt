@@ -2,7 +2,7 @@
 
 ghost use Rattle.std.specs.Prelude.{◌≡◌, ◌<◌, IfErr, IfOk, List, OnErr, length, option_map, ℕ};
 ghost use Rattle.toml.specs.View.{table_view};
-ghost use Rattle.rustsec_error.specs.Failure.{IsMemory};
+ghost use Rattle.rustsec_values.specs.Failure.{IsMemory};
 ghost use Rattle.rustsec_graph.specs.Edges.{dependents};
 ghost use Rattle.rustsec_graph.specs.Graph.{graph_of};
 ghost use Rattle.rustsec_graph.specs.Paths.{IsAnswer, IsPathTo};
@@ -12,9 +12,8 @@ use crate::edges::{Resolved, resolve_all, roots_of};
 use crate::index::Index;
 use crate::reverse::{copied, reversed};
 use crate::search::{Search, path_to, search_from};
-use rustsec_error::Result;
 use rustsec_lock::Lockfile;
-use rustsec_values::{Items, Text};
+use rustsec_values::{Items, Result, Text};
 use std::alloc::Global;
 use std::marker::Model;
 use toml::Table;

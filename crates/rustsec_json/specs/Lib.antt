@@ -1,4 +1,5 @@
 pub mod Codecs
 pub mod Fields
+pub mod Lines
 pub mod TextCodecs
 pub mod Trees

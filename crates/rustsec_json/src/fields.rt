@@ -5,12 +5,11 @@ ghost use Rattle.serde_json.specs.Data.{null};
 ghost use Rattle.serde_json.specs.Find.{as_object, get_member};
 ghost use Rattle.serde_json.specs.View.{members_view, view};
 ghost use Rattle.rustsec_json.specs.Fields.{defaulted, every, optional, required};
-ghost use Rattle.rustsec_error.specs.Failure.{IsRefusal};
+ghost use Rattle.rustsec_values.specs.Failure.{IsRefusal};
 
 use crate::read::FromTree;
 use crate::refusal::{missing_error, unexpected_error, with_key};
-use rustsec_error::{ErrorKind, Result};
-use rustsec_values::Items;
+use rustsec_values::{ErrorKind, Items, Result};
 use serde_json::{Map, Value};
 use std::alloc::Global;
 

@@ -2,6 +2,7 @@
 #![tactic(auto)]
 
 mod fields;
+mod line;
 mod make;
 mod object;
 mod read;
@@ -9,6 +10,7 @@ mod refusal;
 mod texts;
 
 pub use crate::fields::{fields_of, list_at, member, optional_at, required_at};
+pub use crate::line::tree_line;
 pub use crate::make::ToTree;
 pub use crate::object::{put_at, put_if};
 pub use crate::read::FromTree;

@@ -5,11 +5,10 @@ ghost use Rattle.serde_json.specs.Data.{Data, null};
 ghost use Rattle.serde_json.specs.View.{items_view, view};
 ghost use Rattle.rustsec_json.specs.Fields.{list_of, or_null, text};
 ghost use Rattle.rustsec_values.specs.Reading.{read_all};
-ghost use Rattle.rustsec_error.specs.Failure.{IsRefusal};
+ghost use Rattle.rustsec_values.specs.Failure.{IsRefusal};
 
 use crate::refusal::{unexpected_error, with_index};
-use rustsec_error::{ErrorKind, FromText, Result};
-use rustsec_values::Items;
+use rustsec_values::{ErrorKind, FromText, Items, Result};
 use serde_json::Value;
 use std::alloc::Global;
 

@@ -1,10 +1,9 @@
 //! Errors about JSON trees: they name the path of keys and positions that leads to a value; for a tree of another kind, also what was found
 //! and what was expected.
 
-ghost use Rattle.rustsec_error.specs.Failure.{IsMemory, IsOfKind};
+ghost use Rattle.rustsec_values.specs.Failure.{IsMemory, IsOfKind};
 
-use rustsec_error::{Error, ErrorKind, text_error};
-use rustsec_values::beginning_of;
+use rustsec_values::{Error, ErrorKind, beginning_of, text_error};
 use serde_json::Value;
 use std::alloc::{AllocError, Global};
 use std::fmt;

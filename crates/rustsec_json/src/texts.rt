@@ -6,14 +6,13 @@ ghost use Rattle.rustsec_json.specs.Fields.{text};
 use crate::make::ToTree;
 use crate::read::{FromTree, read_text};
 use crate::refusal::unexpected_error;
-use rustsec_error::Result;
 use rustsec_lock::package::Name;
 use rustsec_lock::platforms::{Arch, OS};
 use rustsec_lock::{Cvss, SourceId};
 use rustsec_texts::{
     Address, Category, Collection, Date, FunctionPath, Id, Informational, Keyword, License,
 };
-use rustsec_values::Text;
+use rustsec_values::{Result, Text};
 use serde_json::Value;
 use std::alloc::{AllocError, Global};
 

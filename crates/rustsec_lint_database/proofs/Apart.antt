@@ -9,7 +9,7 @@ use Rattle.rustsec_versions.specs.acceptance.Sweep.{are_clear, clashes, tag, tag
 use Rattle.rustsec_versions.specs.interval.Interval.{Interval, overlap}
 use Rattle.rustsec_versions.specs.order.Precedence.{precedence}
 use Rattle.rustsec_versions.specs.requirement.Requirement.{interval_of}
-use Rattle.rustsec_versions.proofs.lemmas.acceptance.Clashes.{accepted-all, accepted-clear}
+use Rattle.rustsec_versions.proofs.lemmas.acceptance.Clashes.{accepted-all, accepted-clear, apart-tagged}
 use Rattle.rustsec_versions.proofs.lemmas.requirement.Sound.{interval_of-sound, overlap-plain}
 use Rattle.rustsec_lint_database.specs.Upstream.{AreApart}
 
@@ -36,14 +36,14 @@ two-clear p q us i j is js apart h =
     rw (is, js, apart, ← as-unaffected i rest, ← as-unaffected j rest) clear
 
 two-accepted : (p q : List Held) (us : List (List Held)) → AreApart p q → accepted (record { patched = p ∷ q ∷ []; unaffected = us }) ≡ true
-    → accepted (record { patched = []; unaffected = p ∷ q ∷ us }) ≡ true
+    → accepted_apart (record { patched = p ∷ q ∷ []; unaffected = us }) ≡ true
 two-accepted p q us apart h =
     let ls : Lists = record { patched = p ∷ q ∷ []; unaffected = us } in
     let all : all_admissible (p ∷ q ∷ us) ≡ true = accepted-all ls h in
     let i = some-interval (interval_of p) (first_so _ _ all) in
     let j = some-interval (interval_of q) (first_so _ _ (second_so (is_some (interval_of p)) _ all)) in
     let plain = overlap-plain i.0 j.0 (interval_of-sound p i.0 i.1) (interval_of-sound q j.0 j.1) in
-    accepted-clear (record { patched = []; unaffected = p ∷ q ∷ us }) all
+    apart-tagged ls all
     ∙ two-clear p q us i.0 j.0 i.1 j.1 (sym plain ∙ apart i.0 j.0 i.1 j.1) (sym (accepted-clear ls all) ∙ h)
 
 -- the two patched requirements are apart, so all are

@@ -7,9 +7,9 @@ use Rattle.std.specs.BTreeMap as tree
 use Rattle.std.specs.BTreeMap.{BTreeMap, Updates}
 use Rattle.std.specs.List.{find}
 use Rattle.std.proofs.lemmas.Bool.{false_from_ne_true}
-use Rattle.rustsec_folders.specs.Allowed.{Allowed, AllowSame}
-use Rattle.rustsec_folders.specs.Listed.{Pairwise, Paths}
-use Rattle.rustsec_folders.proofs.Lists.{pairwise-step, pairwise-weaker}
+use Rattle.rustsec_files.specs.Allowed.{Allowed, AllowSame}
+use Rattle.rustsec_files.specs.Listed.{Pairwise, Paths}
+use Rattle.rustsec_files.proofs.Lists.{pairwise-step, pairwise-weaker}
 use Rattle.rustsec_texts.specs.IdOrder.{id_decides, id_eq, id_order, id_ties}
 use Rattle.rustsec_texts.specs.Ids.{IdValue}
 use Rattle.rustsec_lint_database.specs.Entries.{AreEntries, AreLintedAt, entries_after, entries_of, first_with, has_id}

@@ -1,9 +1,9 @@
 -- If each path has one answer, the files under a root have one list of entries.
 use Rattle.std.proofs.Common.{◌≡◌, ◌∙◌, ℕ, List, [], ◌∷◌, None, Some, ap, refl, subst, sym}
 use Rattle.rustsec_files.specs.Paths.{is_draft}
-use Rattle.rustsec_folders.specs.Allowed.{Allowed, AnswersOnce}
-use Rattle.rustsec_folders.specs.Listed.{Pairwise, Paths}
-use Rattle.rustsec_folders.proofs.Once.{paths-once, paths-or-not, read-or-not, text-once}
+use Rattle.rustsec_files.specs.Allowed.{Allowed, AnswersOnce}
+use Rattle.rustsec_files.specs.Listed.{Pairwise, Paths}
+use Rattle.rustsec_files.proofs.Once.{paths-once, paths-or-not, read-or-not, text-once}
 use Rattle.rustsec_advisory.proofs.Unique.{lints_unique}
 use Rattle.rustsec_lint_database.specs.Entries.{AreEntries, AreLintedAt, entries_of}
 use Rattle.rustsec_lint_database.specs.Files.{IsLintAt, IsLintOf, linted, of_advisory, of_text, refused, unread}
@@ -14,7 +14,7 @@ use Rattle.rustsec_lint_database.specs.declared.file.FileLint.{FileLint}
 lint-unique : (path text : List ℕ) (f g : FileLint) → IsLintOf path text f → IsLintOf path text g → f ≡ g
 lint-unique path text f g (linted a errors h is) (linted b others k also) =
     let same = lints_unique text (Some (is_draft path)) a b errors others h k in
-    let step : of_advisory path text a errors ≡ of_advisory path text b others = λ i. of_advisory path text (same.0 i) (same.1 i) in
+    let step : of_advisory path a errors ≡ of_advisory path b others = λ i. of_advisory path (same.0 i) (same.1 i) in
     is ∙ (step ∙ sym also)
 lint-unique path text f g (linted a errors h is) (refused never also) = absurd (never a (h.document, h.is_advisory))
 lint-unique path text f g (refused never is) (linted a errors h also) = absurd (never a (h.document, h.is_advisory))

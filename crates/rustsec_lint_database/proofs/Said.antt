@@ -21,10 +21,3 @@ pub three : (none one two all first second third : List Remark) → none ≡ [] 
     → all ≡ first ++ (second ++ third)
 three none one two all first second third empty a b c =
     c ∙ (ap (λ xs. xs ++ third) (b ∙ ap (λ xs. xs ++ second) (a ∙ ap (λ xs. xs ++ first) empty)) ∙ append_assoc first second third)
-
--- four parts
-pub four : (none one two up all first second third fourth : List Remark) → none ≡ [] → one ≡ none ++ first → two ≡ one ++ second → up ≡ two ++ third
-    → all ≡ up ++ fourth → all ≡ first ++ (second ++ (third ++ fourth))
-four none one two up all first second third fourth n f s t u =
-    u ∙ (ap (λ rs. rs ++ fourth) (three none one two up first second third n f s t)
-    ∙ (append_assoc first (second ++ third) fourth ∙ ap (λ rs. first ++ rs) (append_assoc second third fourth)))

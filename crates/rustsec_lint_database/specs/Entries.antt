@@ -2,8 +2,8 @@
 use Rattle.std.specs.Prelude.{◌≡◌, ℕ, ◌++◌, ◌∷◌, [], Bool, List, Option, None, Some, option_map}
 use Rattle.std.specs.List.{find}
 use Rattle.std.specs.Option.{option_eq}
-use Rattle.rustsec_folders.specs.Allowed.{Allowed}
-use Rattle.rustsec_folders.specs.Listed.{Pairwise, Paths}
+use Rattle.rustsec_files.specs.Allowed.{Allowed}
+use Rattle.rustsec_files.specs.Listed.{Pairwise, Paths}
 use Rattle.rustsec_texts.specs.IdOrder.{id_eq}
 use Rattle.rustsec_texts.specs.Ids.{IdValue}
 use Rattle.rustsec_lint_database.specs.Files.{IsLintAt}

@@ -1,5 +1,4 @@
 pub mod Counts
-pub mod Edition
 pub mod Entries
 pub mod Files
 pub mod Firsts

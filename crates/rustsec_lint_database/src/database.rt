@@ -1,9 +1,9 @@
 //! Lints the files under a root, and finds the IDs that occur twice.
 
 ghost use Rattle.std.specs.Prelude.{◌≡◌, ◌++◌, ◌∷◌, [], IfErr, IfOk, List, None, OnOk, map};
-ghost use Rattle.rustsec_folders.specs.Allowed.{AllowSame};
-ghost use Rattle.rustsec_folders.specs.Listed.{Paths};
-ghost use Rattle.rustsec_error.specs.Failure.{IsRefusal};
+ghost use Rattle.rustsec_files.specs.Allowed.{AllowSame};
+ghost use Rattle.rustsec_files.specs.Listed.{Paths};
+ghost use Rattle.rustsec_values.specs.Failure.{IsRefusal};
 ghost use Rattle.rustsec_lint_database.specs.Entries.{AreEntries, AreLintedAt, first_with};
 ghost use Rattle.rustsec_lint_database.specs.Files.{IsLintAt};
 ghost use Rattle.rustsec_lint_database.specs.Firsts.{AreFirsts, IsAdded, file_of, path_at};
@@ -11,10 +11,9 @@ ghost use Rattle.rustsec_lint_database.specs.declared.file.FileLint.{FileLint};
 
 use crate::file::{FileLint, FileNotes, lint_file};
 use crate::lines::{KeyIn, after_line};
-use rustsec_error::{ErrorKind, Result};
-use rustsec_folders::{Folders, source_paths};
+use rustsec_files::{Folders, source_paths};
 use rustsec_texts::Id;
-use rustsec_values::{Items, Text, exact_copy};
+use rustsec_values::{ErrorKind, Items, Result, Text, exact_copy};
 use std::alloc::{AllocError, Global};
 use std::collections::BTreeMap;
 

@@ -1,28 +1,23 @@
 //! The remarks on one file.
 
-ghost use Rattle.std.specs.Prelude.{◌≡◌, ◌++◌, ◌≢◌, IfOk, None, OnOk, Some, map, option_map};
-ghost use Rattle.rustsec_folders.specs.Allowed.{AllowSame};
+ghost use Rattle.std.specs.Prelude.{◌≡◌, ◌++◌, ◌≢◌, IfOk, OnOk, map};
+ghost use Rattle.rustsec_files.specs.Allowed.{AllowSame};
 ghost use Rattle.rustsec_advisory.specs.LintErrors.{LintError};
 ghost use Rattle.rustsec_advisory.specs.declared.advisory.Advisory as given;
-ghost use Rattle.rustsec_error.specs.declared.error.ErrorKind.TheVariants as failure;
-ghost use Rattle.rustsec_texts.specs.Parts.{parts_of};
-ghost use Rattle.rustsec_lint_database.specs.Edition.{form_of};
+ghost use Rattle.rustsec_values.specs.declared.error.ErrorKind.TheVariants as failure;
 ghost use Rattle.rustsec_lint_database.specs.Placement.{HasNone};
-ghost use Rattle.rustsec_lint_database.specs.Files.{IsLintAt, IsLintOf, file_with, lint_remark, of_advisory, of_refusal, own_id, remarks_with};
+ghost use Rattle.rustsec_lint_database.specs.Files.{IsLintAt, IsLintOf, lint_remark, of_advisory, of_refusal, own_id, remarks_with};
 
-use crate::edition::push_edition;
 use crate::messages::{Source, words_of};
 use crate::placement::push_placement;
 use crate::remark::{Remark, RemarkKind, push_remark};
 use crate::upstream::push_upstream;
 use rustsec_advisory::Advisory;
 use rustsec_advisory::linter::{self, Linter};
-use rustsec_edition::{FoundForm, first_form};
-use rustsec_error::{Error, ErrorKind};
+use rustsec_files::Folders;
 use rustsec_files::path::FilePath;
-use rustsec_folders::Folders;
-use rustsec_texts::{Id, Parts};
-use rustsec_values::{Items, Text, exact_copy};
+use rustsec_texts::Id;
+use rustsec_values::{Error, ErrorKind, Items, Text, exact_copy};
 use std::alloc::{AllocError, Global};
 
 /// A file with its remarks.
@@ -51,21 +46,19 @@ fn push_lints(
     Ok(())
 }
 
-/// Returns the remarks on the file of an advisory with this first form of TOML 1.1.
+/// Returns the remarks on the file of an advisory.
 fn remarks_of(
     alloc: Global,
     file: &FilePath<'_>,
     linter: &Linter,
-    found: Option<FoundForm>,
 ) -> Result<Items<Remark>, AllocError>
-    ensures { IfOk result (λ rs. rs ≡ remarks_with file.now.path.now linter.now.advisory linter.now.errors (option_map (λ f. f.form) found)) }
+    ensures { IfOk result (λ rs. rs ≡ remarks_with file.now.path.now linter.now.advisory linter.now.errors) }
 {
     let mut remarks = Items::new(alloc);
     let advisory = linter.advisory();
     push_lints(alloc, &mut remarks, linter.errors())?;
     push_placement(alloc, &mut remarks, file, advisory)?;
     push_upstream(alloc, &mut remarks, advisory)?;
-    push_edition(alloc, &mut remarks, found)?;
     Ok(remarks)
 }
 
@@ -81,16 +74,11 @@ fn own_id(advisory: &Advisory) -> Result<Option<Id>, AllocError>
     Ok(Some(copy))
 }
 
-/// Returns the file of an advisory with this first form of TOML 1.1, with its remarks.
-fn of_advisory(
-    alloc: Global,
-    file: &FilePath<'_>,
-    linter: &Linter,
-    found: Option<FoundForm>,
-) -> Result<FileLint, AllocError>
-    ensures { IfOk result (λ f. f ≡ file_with file.now.path.now linter.now.advisory linter.now.errors (option_map (λ f. f.form) found)) }
+/// Returns the file of an advisory with its remarks.
+fn of_advisory(alloc: Global, file: &FilePath<'_>, linter: &Linter) -> Result<FileLint, AllocError>
+    ensures { IfOk result (λ f. f ≡ of_advisory file.now.path.now linter.now.advisory linter.now.errors) }
 {
-    let remarks = remarks_of(alloc, file, linter, found)?;
+    let remarks = remarks_of(alloc, file, linter)?;
     let id = own_id(linter.advisory())?;
     let path = Text::from_str(alloc, file.path)?;
     Ok(FileLint { path, id, remarks })
@@ -152,24 +140,17 @@ fn refused(alloc: Global, path: &str, error: Error) -> Result<Linted, AllocError
     })
 }
 
-/// Returns the remarks on the file of an advisory with this text and this first form of TOML 1.1, and the notes on it.
+/// Returns the remarks on the file of an advisory with this text, and the notes on it.
 fn accepted(
     alloc: Global,
     file: &FilePath<'_>,
     text: &str,
     linter: &Linter,
-    found: Option<FoundForm>,
 ) -> Result<Linted, AllocError>
-    requires { option_map (λ f. f.form) found ≡ form_of (parts_of text.now) }
-    ensures { IfOk result (λ r. r.lint ≡ of_advisory file.now.path.now text.now linter.now.advisory linter.now.errors) }
+    ensures { IfOk result (λ r. r.lint ≡ of_advisory file.now.path.now linter.now.advisory linter.now.errors) }
 {
-    let lint = of_advisory(alloc, file, linter, found)?;
-    let source = Source {
-        file,
-        text,
-        linter,
-        found,
-    };
+    let lint = of_advisory(alloc, file, linter)?;
+    let source = Source { file, text, linter };
     let notes = FileNotes {
         refusal: None,
         words: words_of(alloc, source, lint.remarks.as_slice())?,
@@ -179,36 +160,6 @@ fn accepted(
         notes,
         text: None,
     })
-}
-
-/// Returns the remarks on a text without the parts of an advisory, which the linter refuses, and the notes on it.
-fn without_parts(alloc: Global, path: &str, text: &str) -> Result<Linted, AllocError>
-    requires { parts_of text.now ≡ None }
-    ensures { IfOk result (λ r. IsLintOf path.now text.now r.lint) }
-{
-    let file = FilePath::of(path);
-    match Linter::lint_string(alloc, text, Some(file.is_draft())) {
-        Ok(linter) => accepted(alloc, &file, text, &linter, None),
-        Err(error) => refused(alloc, path, error),
-    }
-}
-
-/// Returns the remarks on a text with these parts, and the notes on it.
-fn with_parts(alloc: Global, path: &str, text: &str, parts: Parts<'_>) -> Result<Linted, AllocError>
-    requires { parts_of text.now ≡ Some (record {
-      front_matter = parts.front_matter.now;
-      markdown = parts.markdown.now;
-      title = parts.title.now;
-      description = parts.description.now;
-    }) }
-    ensures { IfOk result (λ r. IsLintOf path.now text.now r.lint) }
-{
-    let found = first_form(alloc, parts.front_matter)?;
-    let file = FilePath::of(path);
-    match Linter::lint_parts(alloc, text, parts, Some(file.is_draft())) {
-        Ok(linter) => accepted(alloc, &file, text, &linter, found),
-        Err(error) => refused(alloc, path, error),
-    }
 }
 
 /// Lints the text of a file: finds its lint errors or that it is not an advisory, whether its path fits the advisory,
@@ -224,9 +175,10 @@ pub fn lint_source(alloc: Global, path: &str, text: &str) -> Result<Linted, Allo
     // The place of the file has no remark exactly if loading a database accepts it.
     ensures placed { (a : given.Advisory) → HasNone path.now a }
 {
-    match Parts::parse(alloc, text) {
-        Ok(parts) => with_parts(alloc, path, text, parts),
-        Err(_) => without_parts(alloc, path, text),
+    let file = FilePath::of(path);
+    match Linter::lint_string(alloc, text, Some(file.is_draft())) {
+        Ok(linter) => accepted(alloc, &file, text, &linter),
+        Err(error) => refused(alloc, path, error),
     }
 }
 

@@ -3,7 +3,6 @@
 
 mod counts;
 mod database;
-mod edition;
 mod file;
 mod hints;
 mod lines;
@@ -15,7 +14,6 @@ mod upstream;
 
 pub use crate::counts::{Counts, counts_of};
 pub use crate::database::{Entry, Step, Watcher, lint_database};
-pub use crate::edition::edition_note;
 pub use crate::file::{FileLint, FileNotes, Linted, lint_file, lint_source};
 pub use crate::hints::lint_help;
 pub use crate::readings::{reading_notes, readings_of};

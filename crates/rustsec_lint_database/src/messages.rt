@@ -1,6 +1,5 @@
 //! Words on an advisory for a person: where the remarks on it are, and what others read differently.
 
-use crate::edition::form_note;
 use crate::hints::lint_help;
 use crate::lines::{KeyIn, after_line, push_remarks};
 use crate::placement::{push_collection, push_folder, push_name};
@@ -10,12 +9,11 @@ use crate::upstream::upstream_notes;
 use rustsec_advisory::linter::{self, Linter};
 use rustsec_advisory::{lint_error_line, placed_errors};
 use rustsec_database::placement;
-use rustsec_edition::FoundForm;
 use rustsec_files::path::FilePath;
 use rustsec_values::{Items, Text};
 use std::alloc::{AllocError, Global};
 
-/// The file of an advisory: its path, its text, what the linter read of it, and the first form of TOML 1.1 in it.
+/// The file of an advisory: its path, its text, and what the linter read of it.
 #[derive(Clone, Copy)]
 pub(crate) struct Source<'a> {
     /// The path.
@@ -24,8 +22,6 @@ pub(crate) struct Source<'a> {
     pub text: &'a str,
     /// What the linter read.
     pub linter: &'a Linter,
-    /// The form, if any.
-    pub found: Option<FoundForm>,
 }
 
 /// Returns a lint error, and what helps against it, after its line in the text of the advisory, if the line is known.
@@ -116,9 +112,6 @@ pub(crate) fn words_of(
     }
     if has_kind(remarks, RemarkKind::Upstream) {
         push_all(&mut words, upstream_notes(alloc, text, advisory)?)?;
-    }
-    if let Some(found) = source.found {
-        words.push(form_note(alloc, text, found)?)?;
     }
     push_all(&mut words, reading_notes(alloc, text, &advisory.versions)?)?;
     Ok(words)

@@ -14,12 +14,7 @@ use rustsec_values::Items;
 use std::alloc::{AllocError, Global};
 
 /// Returns a name between two texts.
-pub(crate) fn between(
-    alloc: Global,
-    before: &str,
-    name: &str,
-    after: &str,
-) -> Result<String, AllocError>
+fn between(alloc: Global, before: &str, name: &str, after: &str) -> Result<String, AllocError>
     ensures { IfOk result (λ t. string_bytes t ≡ before.now ++ (name.now ++ after.now)) }
 {
     let mut text = String::from_str(alloc, before)?;

@@ -1,9 +1,8 @@
 //! Notes on requirements that Cargo's matching reads differently.
 
 use crate::lines::{KeyIn, after_line};
-use rustsec_matching::{Difference, find_difference};
 use rustsec_values::{Items, Text};
-use rustsec_versions::{Versions, requirement_text};
+use rustsec_versions::{Difference, Versions, find_difference, requirement_text};
 use semver::{Comparator, Op, VersionReq};
 use std::alloc::{AllocError, Global};
 

@@ -9,10 +9,9 @@ ghost use Rattle.rustsec_lint_database.specs.Upstream.{AreApart, overlap_remarks
 use crate::lines::{KeyIn, push_remarks};
 use crate::remark::{Remark, RemarkKind, push_remark};
 use rustsec_advisory::Advisory;
-use rustsec_error::ErrorKind;
 use rustsec_lock::SourceId;
 use rustsec_texts::Address;
-use rustsec_values::{Items, Text};
+use rustsec_values::{ErrorKind, Items, Text};
 use rustsec_versions::{UnaffectedRange, Versions};
 use semver::{Version, VersionReq};
 use std::alloc::{AllocError, Global};

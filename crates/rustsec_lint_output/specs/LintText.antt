@@ -1,7 +1,7 @@
 -- The text about what is wrong in a database, for people.
 use Rattle.std.specs.Prelude.{◌++◌, ℕ, List, [], Option, Some, None, codes, flat_map}
 use Rattle.std.specs.Fmt.{decimal}
-use Rattle.rustsec_shown.specs.Shown.{shown}
+use Rattle.rustsec_values.specs.Shown.{shown}
 use Rattle.rustsec_lint_database.specs.Remarks.{kind_name}
 use Rattle.rustsec_lint_database.specs.declared.counts.Counts.{Counts}
 use Rattle.rustsec_lint_database.specs.declared.database.Entry.{Entry}

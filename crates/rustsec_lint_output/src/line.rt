@@ -1,11 +1,11 @@
 //! Writes the JSON tree of what is wrong in a database on one line.
 
 ghost use Rattle.std.specs.Prelude.{◌≡◌, IfOk, string_bytes};
-ghost use Rattle.rustsec_commands.specs.Output.{tree_line};
+ghost use Rattle.rustsec_json.specs.Lines.{tree_line};
 ghost use Rattle.rustsec_lint_output.specs.LintTree.{lint_tree};
 
 use crate::tree::lint_tree;
-use rustsec_commands::output::tree_line;
+use rustsec_json::tree_line;
 use rustsec_lint_database::{Counts, Entry};
 use std::alloc::{AllocError, Global};
 

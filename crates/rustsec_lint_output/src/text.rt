@@ -4,8 +4,7 @@ ghost use Rattle.std.specs.Prelude.{◌≡◌, ◌++◌, IfOk, OnOk, flat_map, s
 ghost use Rattle.rustsec_lint_output.specs.LintText.{count_line, file_lines, line, lint_text, remark_line, twice_line};
 
 use rustsec_lint_database::{Counts, Entry, Remark};
-use rustsec_shown::push_shown;
-use rustsec_values::Text;
+use rustsec_values::{Text, push_shown};
 use std::alloc::{AllocError, Global};
 use std::fmt::Write as _;
 

@@ -91,7 +91,7 @@ fn is_listed(entry: &Entry) -> bool
 }
 
 /// Appends the tree of a file, if it is listed.
-#[tactic(auto, using(rustsec_folders::proofs::ListFailures::filter_kept, rustsec_folders::proofs::ListFailures::filter_left))]
+#[tactic(auto, using(rustsec_files::proofs::ListFailures::filter_kept, rustsec_files::proofs::ListFailures::filter_left))]
 fn push_file(
     alloc: Global,
     trees: &mut Vec<Value>,

@@ -7,9 +7,9 @@ use Rattle.toml.specs.Parse.{parse_document}
 use Rattle.rustsec_values.specs.Reading.{◌>>=◌, read_optional, value_of}
 use Rattle.rustsec_toml.specs.Fields.{defaulted, every, optional, required}
 use Rattle.rustsec_files.specs.ReadFailures.{IsReadFailure}
-use Rattle.rustsec_folders.specs.Allowed.{Allowed}
-use Rattle.rustsec_error.specs.Failure.{Failure, IsMemory, IsRefusal}
-use Rattle.rustsec_error.specs.declared.error.ErrorKind.TheVariants as kind
+use Rattle.rustsec_files.specs.Allowed.{Allowed}
+use Rattle.rustsec_values.specs.Failure.{Failure, IsMemory, IsRefusal}
+use Rattle.rustsec_values.specs.declared.error.ErrorKind.TheVariants as kind
 use Rattle.rustsec_versions.specs.order.Precedence.{IsVersion}
 use Rattle.rustsec_lock.specs.Names.{name_of}
 use Rattle.rustsec_lock.specs.Package.{PackageValue}

@@ -2,14 +2,15 @@
 
 ghost use Rattle.std.specs.Prelude.{◌≡◌, ◌==◌, ℕ, List, OnErr, Some, None, IfErr, IfOk, IfSome, length, map, option_map};
 ghost use Rattle.std.specs.Fmt.{DisplaysOnOk};
-ghost use Rattle.rustsec_error.specs.Failure.{IsMemory, IsRefusal};
+ghost use Rattle.rustsec_values.specs.Failure.{IsMemory, IsRefusal};
 ghost use Rattle.rustsec_lock.specs.declared.cvss.Cvss.TheVariants as cvss;
 ghost use Rattle.rustsec_lock.specs.Cvss.{base_of, base_text, after_prefix, cvss_of, cvss_severity, cvss_text, metric_letter, parse_metric, metrics_of, parts_of};
 
 use crate::metrics::Base;
 use crate::severity::Severity;
-use rustsec_error::{ErrorKind, FromText, Result, text_error};
-use rustsec_values::{ClosedEnum, ExactClone, ExactEq, Text, from_name};
+use rustsec_values::{
+    ClosedEnum, ErrorKind, ExactClone, ExactEq, FromText, Result, Text, from_name, text_error,
+};
 use std::alloc::{AllocError, Global};
 use std::fmt;
 

@@ -1,12 +1,12 @@
 //! Lockfiles (`Cargo.lock`).
 
-ghost use Rattle.std.specs.Prelude.{◌≡◌, ◌≢◌, ◌++◌, ◌∷◌, ◌⊎◌, [], ℕ, IfErr, IfOk, List, None, OnErr, OnOk, Some, codes, option_map};
+ghost use Rattle.std.specs.Prelude.{◌≡◌, ◌≢◌, ◌++◌, ◌∷◌, ◌⊎◌, [], ℕ, IfErr, IfOk, List, MatchResult, None, OnErr, OnOk, Some, codes, option_map};
 ghost use Rattle.semver.specs.Identifiers.{parts_of};
 ghost use Rattle.toml.specs.Data.{get_member};
 ghost use Rattle.toml.specs.View.{array_view, table_view, view};
 ghost use Rattle.rustsec_values.specs.Reading.{read_all, read_optional};
-ghost use Rattle.rustsec_folders.specs.Allowed.{AllowSame, real_folders};
-ghost use Rattle.rustsec_error.specs.Failure.{IsMemory, IsOfKind, IsRefusal};
+ghost use Rattle.rustsec_files.specs.Allowed.{AllowSame, read_from, real_files, real_folders};
+ghost use Rattle.rustsec_values.specs.Failure.{IsMemory, IsOfKind, IsRefusal};
 ghost use Rattle.rustsec_toml.specs.Fields.{list_of};
 ghost use Rattle.rustsec_lock.specs.Lockfile.{AreValid, IsLockfileAt, IsLockfileRefusal, IsParseFailure, NamesLockfile, lockfile_of, package_in, package_of, packages_of, version_of};
 ghost use Rattle.rustsec_lock.specs.Source.{source_id_of};
@@ -14,10 +14,12 @@ ghost use Rattle.rustsec_lock.specs.Source.{source_id_of};
 use crate::names::Name;
 use crate::packages::Package;
 use crate::source::SourceId;
-use rustsec_error::{Error, ErrorKind, Result, file_error, text_error, with_place};
-use rustsec_folders::{Folders, RealFolders};
+use rustsec_files::{Folders, RealFolders};
 use rustsec_toml::{Section, TablePlace, document};
-use rustsec_values::{ExactClone, ExactEq, Items, Text, beginning_of};
+use rustsec_values::{
+    Error, ErrorKind, ExactClone, ExactEq, Items, Result, Text, beginning_of, file_error,
+    text_error, with_place,
+};
 use rustsec_versions::read_version;
 use semver::Version;
 use std::alloc::{AllocError, Global};
@@ -196,7 +198,24 @@ impl Lockfile {
         // A lockfile without the key `package` takes no memory.
         ensures none { OnErr result (get_member (codes "package") (table_view table.now) ≢ None) }
     {
-        let packages = packages_at(alloc, table, "")?;
+        Lockfile::from_document(alloc, table, "")
+    }
+
+    /// Reads the lockfile of a document's table, as `from_table`. The text of the document is for the messages alone: they
+    /// then have the line and the column of the fault, both from 1 on, and the beginning of that line.
+    ///
+    /// # Errors
+    ///
+    /// As `from_table`.
+    pub fn from_document(alloc: Global, table: &Table, text: &str) -> Result<Lockfile>
+        ensures ok { IfOk result (λ l. packages_of (table_view table.now) ≡ Some l.packages) }
+        ensures valid { IfOk result (λ l. AreValid l.packages) }
+        ensures err { IfErr result (IsRefusal ErrorKind.Parse (packages_of (table_view table.now) ≡ None)) }
+
+        // A lockfile without the key `package` takes no memory.
+        ensures none { OnErr result (get_member (codes "package") (table_view table.now) ≢ None) }
+    {
+        let packages = packages_at(alloc, table, text)?;
         Ok(Lockfile { packages })
     }
 
@@ -212,8 +231,7 @@ impl Lockfile {
         ensures err { IfErr result (IsRefusal ErrorKind.Parse (lockfile_of text.now ≡ None)) }
     {
         let table = document(alloc, text, TablePlace::whole(text), "the lockfile")?;
-        let packages = packages_at(alloc, &table, text)?;
-        Ok(Lockfile { packages })
+        Lockfile::from_document(alloc, &table, text)
     }
 
     /// Reads the lockfile of a file's text. `path` is for the message alone.
@@ -241,6 +259,9 @@ impl Lockfile {
         ensures err { IfErr result (IsLockfileRefusal (F.allowed folders.old) path.now) }
         ensures same { AllowSame (F.allowed folders.old) (F.allowed folders.new) }
         ensures names { IfErr result (λ e. IsParseFailure path.now e ⊎ F.refuses folders.old path.now e) }
+        ensures opened { MatchResult result
+            (λ l. IsLockfileAt (read_from F.opened (F.allowed folders.old)) path.now l.packages)
+            (IsLockfileRefusal (read_from F.opened (F.allowed folders.old)) path.now) }
     {
         let text = folders.read(alloc, path)?;
         Lockfile::of_file(alloc, path, text.as_str())
@@ -256,6 +277,9 @@ impl Lockfile {
         ensures valid { IfOk result (λ l. AreValid l.packages) }
         ensures err { IfErr result (IsLockfileRefusal real_folders path.now) }
         ensures names { IfErr result (NamesLockfile path.now) }
+        ensures opened { MatchResult result
+            (λ l. IsLockfileAt (real_files R.File.remaining) path.now l.packages)
+            (IsLockfileRefusal (real_files R.File.remaining) path.now) }
     {
         Lockfile::load_with(alloc, &mut RealFolders::new(rt), path)
     }

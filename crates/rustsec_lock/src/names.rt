@@ -1,11 +1,12 @@
 //! Names of packages.
 
 ghost use Rattle.std.specs.Prelude.{◌≡◌, ◌<◌, IfErr, IfOk, None, Some, length};
-ghost use Rattle.rustsec_error.specs.Failure.{IsMemory, IsRefusal};
+ghost use Rattle.rustsec_values.specs.Failure.{IsMemory, IsRefusal};
 ghost use Rattle.rustsec_lock.specs.Names.{name_cmp, name_of};
 
-use rustsec_error::{ErrorKind, FromText, Result, text_error};
-use rustsec_values::{ExactClone, ExactEq, StatedOrder, Text};
+use rustsec_values::{
+    ErrorKind, ExactClone, ExactEq, FromText, Result, StatedOrder, Text, text_error,
+};
 use std::alloc::Global;
 use std::convert::AsStr;
 use std::fmt;

@@ -2,13 +2,12 @@
 
 ghost use Rattle.std.specs.Prelude.{◌≡◌, IfErr, IfOk, Some, refl};
 ghost use Rattle.std.specs.Cmp.{partial_equiv_from_equiv, po};
-ghost use Rattle.rustsec_error.specs.Failure.{IsMemory};
+ghost use Rattle.rustsec_values.specs.Failure.{IsMemory};
 ghost use Rattle.rustsec_lock.specs.Package.{package_cmp, package_decides, package_eq, package_equiv, package_ties, package_total};
 
 use crate::names::Name;
 use crate::source::SourceId;
-use rustsec_error::Result;
-use rustsec_values::{ExactClone, ExactEq, Text};
+use rustsec_values::{ExactClone, ExactEq, Result, Text};
 use semver::Version;
 use std::alloc::Global;
 use std::cmp::Ordering;

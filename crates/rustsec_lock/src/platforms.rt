@@ -1,11 +1,12 @@
 //! Architectures and operating systems: two closed tables of names.
 
 ghost use Rattle.std.specs.Prelude.{◌≡◌, IfErr, IfOk, None, Some};
-ghost use Rattle.rustsec_error.specs.Failure.{IsRefusal};
+ghost use Rattle.rustsec_values.specs.Failure.{IsRefusal};
 ghost use Rattle.rustsec_lock.specs.Platforms.{arch_of, arch_text, os_of, os_text};
 
-use rustsec_error::{ErrorKind, FromText, Result, text_error};
-use rustsec_values::{ClosedEnum, ExactClone, ExactEq, from_name};
+use rustsec_values::{
+    ClosedEnum, ErrorKind, ExactClone, ExactEq, FromText, Result, from_name, text_error,
+};
 use std::alloc::Global;
 use std::fmt;
 

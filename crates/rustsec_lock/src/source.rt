@@ -2,11 +2,12 @@
 
 ghost use Rattle.std.specs.Prelude.{◌≡◌, ◌==◌, ◌<◌, IfErr, IfOk, None, Some, length};
 ghost use Rattle.std.specs.List.{before_first};
-ghost use Rattle.rustsec_error.specs.Failure.{IsMemory, IsRefusal};
+ghost use Rattle.rustsec_values.specs.Failure.{IsMemory, IsRefusal};
 ghost use Rattle.rustsec_lock.specs.Source.{default_source, is_default, kind_word, location_of, source_id_of, source_text, url_of};
 
-use rustsec_error::{ErrorKind, FromText, Result, text_error};
-use rustsec_values::{ClosedEnum, ExactClone, ExactEq, Text, from_name};
+use rustsec_values::{
+    ClosedEnum, ErrorKind, ExactClone, ExactEq, FromText, Result, Text, from_name, text_error,
+};
 use std::alloc::Global;
 use std::fmt;
 use std::marker::Model;

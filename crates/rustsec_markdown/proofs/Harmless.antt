@@ -8,7 +8,7 @@ use Rattle.std.specs.List.{list_all}
 use Rattle.std.specs.Str.{chars}
 use Rattle.std.proofs.lemmas.List.Folds.{list_all-append}
 use Rattle.std.proofs.lemmas.Bool.{and_from, or_left}
-use Rattle.rustsec_shown.specs.Shown.{is_hidden}
+use Rattle.rustsec_values.specs.Shown.{is_hidden}
 use Rattle.rustsec_markdown.specs.Escaped.{escaped, escaped_char, is_harmless, is_linking, is_plain, joiner, parted, reference, referred}
 
 -- ---- truth tables

@@ -12,7 +12,7 @@ use Rattle.std.specs.List.{flat_map}
 use Rattle.std.specs.Str.{chars}
 use Rattle.semver.specs.Identifiers.{parts_text}
 use Rattle.semver.specs.Parse.{Parts}
-use Rattle.rustsec_shown.specs.Shown.{is_hidden}
+use Rattle.rustsec_values.specs.Shown.{is_hidden}
 
 -- ---- characters
 

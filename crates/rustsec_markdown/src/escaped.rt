@@ -5,12 +5,11 @@ ghost use Rattle.std.specs.Char.Escape.{escape_unicode};
 ghost use Rattle.std.specs.List.{flat_map, list_all};
 ghost use Rattle.std.specs.Str.{chars};
 ghost use Rattle.semver.specs.Identifiers.{parts_of};
-ghost use Rattle.rustsec_error.specs.Failure.{IsMemory};
-ghost use Rattle.rustsec_shown.specs.Shown.{is_hidden};
+ghost use Rattle.rustsec_values.specs.Failure.{IsMemory};
+ghost use Rattle.rustsec_values.specs.Shown.{is_hidden};
 ghost use Rattle.rustsec_markdown.specs.Escaped.{escaped, escaped_char, escaped_version, is_harmless, is_linking, is_plain, joiner, parted, reference, referred};
 
-use rustsec_error::Result;
-use rustsec_shown::is_hidden;
+use rustsec_values::{Result, is_hidden};
 use semver::Version;
 use std::alloc::{AllocError, Global};
 use std::fmt::Write as _;

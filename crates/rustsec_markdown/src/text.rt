@@ -2,7 +2,7 @@
 
 ghost use Rattle.std.specs.Prelude.{◌≡◌, ◌++◌, ◌+◌, ◌≤◌, not, IfErr, IfOk, OnOk, length, map, string_bytes};
 ghost use Rattle.std.specs.List.{filter};
-ghost use Rattle.rustsec_error.specs.Failure.{IsMemory};
+ghost use Rattle.rustsec_values.specs.Failure.{IsMemory};
 ghost use Rattle.rustsec_markdown.specs.MarkdownText.{found_words, further_lines, head, list, looked_at_words, markdown_text, row, table};
 
 use crate::fitting::{push_counted, push_list, push_number, push_table};
@@ -10,7 +10,7 @@ use crate::lines::further_lines;
 use crate::row::rows;
 use rustsec_check::Finding;
 use rustsec_check_output::Written;
-use rustsec_error::Result;
+use rustsec_values::Result;
 use std::alloc::{AllocError, Global};
 
 /// Returns how many findings are denied.

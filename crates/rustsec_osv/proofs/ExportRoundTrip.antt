@@ -18,7 +18,7 @@ use Rattle.rustsec_advisory.specs.Metadata.{IsMetadata}
 use Rattle.rustsec_advisory.specs.declared.advisory.Advisory.{Advisory}
 use Rattle.rustsec_advisory.specs.declared.affected.Affected.{Affected}
 use Rattle.rustsec_advisory.specs.declared.metadata.Metadata.{Metadata}
-use Rattle.rustsec_error.specs.Failure.{Failure}
+use Rattle.rustsec_values.specs.Failure.{Failure}
 use Rattle.rustsec_json.specs.Codecs.{IfThere}
 use Rattle.rustsec_json.specs.TextCodecs.{id_codec, path_codec}
 use Rattle.rustsec_json.proofs.TextsRoundTrip.{category-again, cvss-again, id-again, informational-again, named-again}

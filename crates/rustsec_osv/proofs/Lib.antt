@@ -1,5 +1,6 @@
 pub mod Distinct
 pub mod DocumentsRoundTrip
+pub mod EventObjects
 pub mod EventsKept
 pub mod EventsRoundTrip
 pub mod ExportRoundTrip

@@ -3,6 +3,7 @@ pub mod DocumentEvents
 pub mod DocumentKinds
 pub mod Documents
 pub mod EventCodec
+pub mod EventObjects
 pub mod Events
 pub mod Export
 pub mod Imports

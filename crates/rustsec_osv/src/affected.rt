@@ -2,14 +2,13 @@
 
 ghost use Rattle.std.proofs.Common.{rules};
 ghost use Rattle.std.specs.Prelude.{◌≡◌, IfErr, IfOk};
-ghost use Rattle.rustsec_error.specs.Failure.{IsMemory};
+ghost use Rattle.rustsec_values.specs.Failure.{IsMemory};
 
 use crate::ranges::OsvJsonRange;
-use rustsec_error::Result;
 use rustsec_lock::Cvss;
 use rustsec_lock::platforms::{Arch, OS};
 use rustsec_texts::{Category, FunctionPath, Informational};
-use rustsec_values::{ExactClone, Items, Text, exact_copy};
+use rustsec_values::{ExactClone, Items, Result, Text, exact_copy};
 use std::alloc::{AllocError, Global};
 
 /// A package (OSV schema, `affected[].package`).

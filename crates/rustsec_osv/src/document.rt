@@ -2,14 +2,13 @@
 
 ghost use Rattle.std.proofs.Common.{rules};
 ghost use Rattle.std.specs.Prelude.{◌≡◌, IfErr, IfOk, None, is_some};
-ghost use Rattle.rustsec_error.specs.Failure.{IsMemory};
+ghost use Rattle.rustsec_values.specs.Failure.{IsMemory};
 
 use crate::affected::OsvAffected;
 use crate::reference::OsvReference;
 use crate::severity::OsvSeverity;
-use rustsec_error::Result;
 use rustsec_texts::Id;
-use rustsec_values::{ExactClone, Items, Text};
+use rustsec_values::{ExactClone, Items, Result, Text};
 use semver::Version;
 use std::alloc::Global;
 use std::marker::Model;

@@ -1,11 +1,10 @@
 //! Ranges of affected versions (OSV schema, `affected[].ranges[]`).
 
 ghost use Rattle.std.specs.Prelude.{◌≡◌, IfErr, IfOk};
-ghost use Rattle.rustsec_error.specs.Failure.{IsMemory};
+ghost use Rattle.rustsec_values.specs.Failure.{IsMemory};
 
 use crate::timeline::OsvTimelineEvent;
-use rustsec_error::Result;
-use rustsec_values::{ExactClone, Text, exact_copy};
+use rustsec_values::{ExactClone, Result, Text, exact_copy};
 use std::alloc::{AllocError, Global};
 use std::marker::Model;
 

@@ -3,11 +3,10 @@
 ghost use Rattle.std.proofs.Common.{rules};
 ghost use Rattle.std.specs.Prelude.{◌≡◌, IfErr, IfOk, None, Some};
 ghost use Rattle.rustsec_osv.specs.DocumentKinds.{reference_kind_name, reference_kind_of};
-ghost use Rattle.rustsec_error.specs.Failure.{IsMemory, IsRefusal};
+ghost use Rattle.rustsec_values.specs.Failure.{IsMemory, IsRefusal};
 
-use rustsec_error::{ErrorKind, Result, text_error};
 use rustsec_texts::Address;
-use rustsec_values::{ClosedEnum, ExactClone, ExactEq, from_name};
+use rustsec_values::{ClosedEnum, ErrorKind, ExactClone, ExactEq, Result, from_name, text_error};
 use std::alloc::Global;
 
 /// The kind of the page that a reference leads to.

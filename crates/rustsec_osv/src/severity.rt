@@ -3,11 +3,10 @@
 ghost use Rattle.std.proofs.Common.{rules};
 ghost use Rattle.std.specs.Prelude.{◌≡◌, IfErr, IfOk};
 ghost use Rattle.rustsec_osv.specs.DocumentCodec.{type_of};
-ghost use Rattle.rustsec_error.specs.Failure.{IsMemory};
+ghost use Rattle.rustsec_values.specs.Failure.{IsMemory};
 
-use rustsec_error::Result;
 use rustsec_lock::Base;
-use rustsec_values::{ExactClone, Text};
+use rustsec_values::{ExactClone, Result, Text};
 use std::alloc::Global;
 
 /// A CVSS vector, by its version.

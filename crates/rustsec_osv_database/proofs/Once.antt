@@ -3,14 +3,14 @@ use Rattle.std.proofs.Common.{◌≡◌, ◌∙◌, ℕ, All, Bool, false, true,
 use Rattle.std.proofs.lemmas.List.Elements.{All-cons, All-contains, All-nil}
 use Rattle.std.specs.List.{flat_map, list_any}
 use Rattle.semver.specs.Parse.{Parts}
-use Rattle.rustsec_folders.proofs.Once.{pairwise-once}
-use Rattle.rustsec_folders.specs.Listed.{Pairwise}
+use Rattle.rustsec_files.proofs.Once.{pairwise-once}
+use Rattle.rustsec_files.specs.Listed.{Pairwise}
 use Rattle.rustsec_advisory.specs.declared.advisory.Advisory.{Advisory}
 use Rattle.rustsec_osv.specs.Documents.{Document}
 use Rattle.rustsec_osv.specs.Export.{IsDocument, noon}
 use Rattle.rustsec_osv.specs.DocumentCodec.{document_tree}
 use Rattle.rustsec_commands.proofs.lemmas.Once.{document-once, none-or-some}
-use Rattle.rustsec_commands.specs.Output.{tree_line}
+use Rattle.rustsec_json.specs.Lines.{tree_line}
 use Rattle.rustsec_osv_database.specs.Answers.{AreDocuments, HasNoAnswer, IsAnswerOf, IsOwnDocument, affecting, answer_line}
 use Rattle.rustsec_osv_database.specs.Lines.{AreParts, HasNoDocument, IsPart, Part, chosen, exported, is_left_out, left_out, without}
 use Rattle.rustsec_osv_database.specs.declared.exported.Choice.{Choice}

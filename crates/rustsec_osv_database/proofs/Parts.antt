@@ -7,16 +7,16 @@ use Rattle.std.proofs.lemmas.List.{append-nil, flat_map_more}
 use Rattle.std.proofs.lemmas.List.Folds.{list_any-append}
 use Rattle.rustsec_advisory.specs.declared.advisory.Advisory.{Advisory}
 use Rattle.rustsec_versions.specs.ranges.AcceptedRanges.{HasUnboundedInterval}
-use Rattle.rustsec_error.specs.Failure.{Failure, IsRefusal}
-use Rattle.rustsec_error.specs.declared.error.ErrorKind.{ErrorKind}
-use Rattle.rustsec_error.specs.declared.error.ErrorKind.TheVariants as kind
-use Rattle.rustsec_folders.proofs.Lists.{pairwise-step}
+use Rattle.rustsec_values.specs.Failure.{Failure, IsRefusal}
+use Rattle.rustsec_values.specs.declared.error.ErrorKind.{ErrorKind}
+use Rattle.rustsec_values.specs.declared.error.ErrorKind.TheVariants as kind
+use Rattle.rustsec_files.proofs.Lists.{pairwise-step}
 use Rattle.rustsec_osv.specs.Documents.{Document}
 use Rattle.rustsec_osv.specs.Export.{IsDocument}
 use Rattle.rustsec_osv.specs.References.{references_of}
 use Rattle.rustsec_osv.specs.DocumentCodec.{document_tree}
 use Rattle.rustsec_commands.specs.command.Osv.{IsExportRefusal}
-use Rattle.rustsec_commands.specs.Output.{tree_line}
+use Rattle.rustsec_json.specs.Lines.{tree_line}
 use Rattle.rustsec_commands.proofs.lemmas.Once.{no-memory}
 use Rattle.rustsec_osv_database.specs.Lines.{AreParts, HasNoDocument, IsPart, Part, chosen, exported, is_left_out, left_out, without}
 use Rattle.rustsec_osv_database.specs.declared.exported.Choice.{Choice}

@@ -2,17 +2,17 @@
 use Rattle.std.specs.Prelude.{◌≡◌, ℕ, false, Contains, List, [], ◌∷◌, Some, codes}
 use Rattle.std.specs.List.{filter}
 use Rattle.semver.specs.Parse.{Parts}
-use Rattle.rustsec_folders.specs.Listed.{Pairwise}
+use Rattle.rustsec_files.specs.Listed.{Pairwise}
 use Rattle.rustsec_texts.specs.declared.collection.Collection.TheVariants as collection
 use Rattle.rustsec_advisory.specs.declared.advisory.Advisory.{Advisory}
-use Rattle.rustsec_query.specs.Query.{Asked, unset}
-use Rattle.rustsec_query.specs.Selects.{selects}
+use Rattle.rustsec_database.specs.Query.{Asked, unset}
+use Rattle.rustsec_database.specs.Selects.{selects}
 use Rattle.rustsec_osv.specs.Documents.{Document}
 use Rattle.rustsec_osv.specs.Export.{IsDocument, noon}
 use Rattle.rustsec_osv.specs.DocumentCodec.{document_tree}
 use Rattle.rustsec_json.specs.Trees.{list_tree}
 use Rattle.rustsec_report.specs.Trees.{object_of}
-use Rattle.rustsec_commands.specs.Output.{tree_line}
+use Rattle.rustsec_json.specs.Lines.{tree_line}
 use Rattle.rustsec_osv_database.specs.Lines.{HasNoDocument}
 
 -- the query for a version of a package of crates.io: advisories that are not withdrawn, informational ones too

@@ -1,15 +1,15 @@
 -- A database as OSV documents, a line of JSON each.
 use Rattle.std.specs.Prelude.{◌≡◌, ◌⊎◌, ◌&&◌, ℕ, Bool, true, false, List, [], None, if◌then◌else◌, is_some}
 use Rattle.std.specs.List.{flat_map, list_any}
-use Rattle.rustsec_folders.specs.Listed.{Pairwise}
+use Rattle.rustsec_files.specs.Listed.{Pairwise}
 use Rattle.rustsec_versions.specs.ranges.AcceptedRanges.{HasUnboundedInterval}
 use Rattle.rustsec_advisory.specs.declared.advisory.Advisory.{Advisory}
 use Rattle.rustsec_osv.specs.Documents.{Document}
 use Rattle.rustsec_osv.specs.Export.{IsDocument}
 use Rattle.rustsec_osv.specs.References.{references_of}
 use Rattle.rustsec_osv.specs.DocumentCodec.{document_tree}
-use Rattle.rustsec_osv_evaluation.specs.Pairs.{normalized_document}
-use Rattle.rustsec_commands.specs.Output.{tree_line}
+use Rattle.rustsec_osv_rules.specs.evaluation.Pairs.{normalized_document}
+use Rattle.rustsec_json.specs.Lines.{tree_line}
 use Rattle.rustsec_osv_database.specs.declared.exported.Choice.{Choice}
 
 -- whether an advisory is left out: a withdrawn one, if so chosen

@@ -1,11 +1,11 @@
 //! What is exported of a database, with notes on the advisories that have no document.
 
 ghost use Rattle.std.specs.Prelude.{◌≡◌, ◌≢◌, ◌++◌, [], OnOk, false, string_bytes, true};
-ghost use Rattle.rustsec_error.specs.declared.error.ErrorKind.TheVariants as kind;
+ghost use Rattle.rustsec_values.specs.declared.error.ErrorKind.TheVariants as kind;
 ghost use Rattle.rustsec_osv_database.specs.Lines.{is_left_out};
 
 use rustsec_advisory::Advisory;
-use rustsec_error::{Error, ErrorKind};
+use rustsec_values::{Error, ErrorKind};
 use std::alloc::{AllocError, Global};
 
 /// What is exported of a database.

@@ -5,17 +5,17 @@ ghost use Rattle.serde_json.specs.View.{view};
 ghost use Rattle.rustsec_osv.specs.Documents.{Document};
 ghost use Rattle.rustsec_osv.specs.Export.{IsDocument};
 ghost use Rattle.rustsec_osv.specs.DocumentCodec.{document_tree};
-ghost use Rattle.rustsec_commands.specs.Output.{tree_line};
-ghost use Rattle.rustsec_error.specs.Failure.{IsMemory};
-ghost use Rattle.rustsec_error.specs.declared.error.ErrorKind.TheVariants as kind;
+ghost use Rattle.rustsec_json.specs.Lines.{tree_line};
+ghost use Rattle.rustsec_values.specs.Failure.{IsMemory};
+ghost use Rattle.rustsec_values.specs.declared.error.ErrorKind.TheVariants as kind;
 ghost use Rattle.rustsec_osv_database.specs.Lines.{AreParts, HasNoDocument, IsPart, Part, chosen};
 
 use crate::exported::{Choice, Exported};
 use rustsec_advisory::Advisory;
-use rustsec_commands::output::tree_line;
-use rustsec_error::Result;
+use rustsec_json::tree_line;
 use rustsec_osv::OsvAdvisory;
-use rustsec_osv_evaluation::normalized;
+use rustsec_osv_rules::normalized;
+use rustsec_values::Result;
 use serde_json::Value;
 use std::alloc::{AllocError, Global};
 

@@ -4,7 +4,7 @@ use Rattle.std.specs.Prelude.{◌≡◌, ◌==◌, ◌||◌, ◌&&◌, not, ℕ,
 use Rattle.std.specs.Char.Escape.{escape_unicode}
 use Rattle.std.specs.List.{filter, flat_map}
 use Rattle.std.specs.Str.{chars, encode_utf8_all}
-use Rattle.rustsec_shown.specs.Shown.{is_hidden}
+use Rattle.rustsec_values.specs.Shown.{is_hidden}
 
 -- the white space of lines: a tab, a line feed, and a carriage return
 abbrev pub is_of_lines : ℕ → Bool

@@ -3,12 +3,12 @@
 ghost use Rattle.std.specs.Prelude.{◌≡◌, IfErr, IfOk};
 ghost use Rattle.rustsec_versions.specs.ranges.AcceptedRanges.{AreRangesOf};
 ghost use Rattle.rustsec_check_output.specs.CheckText.{rank_of, rank_place};
-ghost use Rattle.rustsec_error.specs.Failure.{IsMemory};
+ghost use Rattle.rustsec_values.specs.Failure.{IsMemory};
 ghost use Rattle.rustsec_page.specs.Findings.{AreDrawn};
 
 use rustsec_check::Finding;
 use rustsec_check_output::rank::rank_of;
-use rustsec_error::Result;
+use rustsec_values::Result;
 use rustsec_versions::{OsvRange, Versions, ranges_for_advisory};
 use std::alloc::{AllocError, Global};
 use std::marker::Model;

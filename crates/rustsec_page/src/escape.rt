@@ -2,10 +2,10 @@
 
 ghost use Rattle.std.specs.Prelude.{◌≡◌, ◌++◌, ◌<◌, OnErr, OnOk, length, string_bytes};
 ghost use Rattle.std.specs.Str.{encode_utf8_all};
-ghost use Rattle.rustsec_shown.specs.Shown.{is_hidden};
+ghost use Rattle.rustsec_values.specs.Shown.{is_hidden};
 ghost use Rattle.rustsec_page.specs.Escaped.{escaped, is_veiled, referred, written_char};
 
-use rustsec_shown::{is_hidden, push_escape};
+use rustsec_values::{is_hidden, push_escape};
 use std::alloc::AllocError;
 
 /// Returns whether a character is hidden, and no white space of lines.

@@ -2,7 +2,7 @@
 
 ghost use Rattle.std.specs.Prelude.{◌≡◌, ◌++◌, List, ℕ, IfErr, IfOk, OnOk, string_bytes};
 ghost use Rattle.std.specs.List.{filter};
-ghost use Rattle.rustsec_error.specs.Failure.{IsMemory};
+ghost use Rattle.rustsec_values.specs.Failure.{IsMemory};
 ghost use Rattle.rustsec_page.specs.Escaped.{HasNoMarks, escaped, is_mark};
 ghost use Rattle.rustsec_page.specs.Page.{HasOwnMarks, IsPage, findings, page};
 ghost use Rattle.rustsec_page.specs.Pieces.{Piece, marks, text_of};
@@ -14,7 +14,7 @@ use crate::lists::push_lists;
 use crate::pieces::push_frame;
 use crate::ranked::{Found, push_by_rank};
 use rustsec_check_output::Written;
-use rustsec_error::Result;
+use rustsec_values::Result;
 use std::alloc::{AllocError, Global};
 
 /// Appends the findings, or that there is none.

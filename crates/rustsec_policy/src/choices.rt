@@ -1,12 +1,13 @@
 //! The words of a policy file.
 
 ghost use Rattle.std.specs.Prelude.{◌≡◌, IfErr, IfOk, Some, None};
-ghost use Rattle.rustsec_error.specs.Failure.{IsRefusal};
+ghost use Rattle.rustsec_values.specs.Failure.{IsRefusal};
 ghost use Rattle.rustsec_policy.specs.Choices.{denied_name, denied_of, denied_words, format_name, format_of, formats, package_source_name, package_source_of, package_sources};
 
 use crate::nearest::with_nearest_name;
-use rustsec_error::{ErrorKind, FromText, Result, text_error};
-use rustsec_values::{ClosedEnum, ExactClone, ExactEq, from_name};
+use rustsec_values::{
+    ClosedEnum, ErrorKind, ExactClone, ExactEq, FromText, Result, from_name, text_error,
+};
 use std::alloc::Global;
 
 /// What fails an audit beside vulnerabilities.

@@ -4,11 +4,11 @@ ghost use Rattle.std.specs.Prelude.{◌≡◌, IfErr, IfOk, None, Some};
 ghost use Rattle.toml.specs.Data.{as_bool};
 ghost use Rattle.toml.specs.View.{table_view};
 ghost use Rattle.rustsec_toml.specs.Fields.{optional};
-ghost use Rattle.rustsec_error.specs.Failure.{IsRefusal};
+ghost use Rattle.rustsec_values.specs.Failure.{IsRefusal};
 
 use crate::refused::{Read, at_key};
-use rustsec_error::{ErrorKind, Result};
 use rustsec_toml::Section;
+use rustsec_values::{ErrorKind, Result};
 use std::alloc::Global;
 
 /// Reads the boolean at a key that may be missing.

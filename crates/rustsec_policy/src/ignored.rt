@@ -6,16 +6,15 @@ ghost use Rattle.toml.specs.Data.{as_str};
 ghost use Rattle.toml.specs.View.{array_view, table_view, view};
 ghost use Rattle.rustsec_toml.specs.Fields.{list_of, optional, required, text};
 ghost use Rattle.rustsec_values.specs.Reading.{read_all};
-ghost use Rattle.rustsec_error.specs.Failure.{IsOfKind, IsRefusal};
+ghost use Rattle.rustsec_values.specs.Failure.{IsOfKind, IsRefusal};
 ghost use Rattle.rustsec_policy.specs.Policies.{counts_until, id_on, ids_on, ignored_in, ignored_of, known_id};
 
 use crate::keys::{IgnoredKeys, expect_keys};
 use crate::nearest::{with_nearest, with_question};
 use crate::refused::{Read, at_key};
-use rustsec_error::{Error, ErrorKind, Result, text_error};
 use rustsec_texts::{Date, Id};
 use rustsec_toml::{Section, TablePlace};
-use rustsec_values::{Items, Text, exact_copy};
+use rustsec_values::{Error, ErrorKind, Items, Result, Text, exact_copy, text_error};
 use std::alloc::Global;
 use toml::value::Array;
 use toml::{Table, Value};

@@ -2,14 +2,13 @@
 
 ghost use Rattle.std.specs.Prelude.{◌≡◌, ℕ, IfErr, List, OnOk, false, map, true};
 ghost use Rattle.toml.specs.View.{table_view};
-ghost use Rattle.rustsec_error.specs.Failure.{IsOfKind, IsRefusal};
+ghost use Rattle.rustsec_values.specs.Failure.{IsOfKind, IsRefusal};
 ghost use Rattle.rustsec_policy.specs.Keys.{has_only, is_one_of};
 
 use crate::nearest::with_nearest;
 use crate::refused::{Read, Refused};
-use rustsec_error::{Error, ErrorKind};
 use rustsec_toml::Section;
-use rustsec_values::beginning_of;
+use rustsec_values::{Error, ErrorKind, beginning_of};
 use std::alloc::{AllocError, Global};
 
 /// The keys that a table may have.

@@ -1,11 +1,10 @@
 //! The known word that is nearest to an unknown one, for messages.
 
 ghost use Rattle.std.specs.Prelude.{◌≡◌, ◌<◌, IfOk, OnErr, length, map, option_map};
-ghost use Rattle.rustsec_error.specs.Failure.{IsMemory, IsOfKind};
+ghost use Rattle.rustsec_values.specs.Failure.{IsMemory, IsOfKind};
 ghost use Rattle.rustsec_policy.specs.Nearest.{first_at, nearest};
 
-use rustsec_error::{Error, ErrorKind};
-use rustsec_values::{ClosedEnum, beginning_of};
+use rustsec_values::{ClosedEnum, Error, ErrorKind, beginning_of};
 use std::alloc::{AllocError, Global};
 use strsim::osa_distance;
 

@@ -2,13 +2,12 @@
 
 ghost use Rattle.std.specs.Prelude.{◌≡◌, ◌++◌, ◌<◌, IfErr, IfOk, OnOk, length, option_map, string_bytes};
 ghost use Rattle.std.specs.List.{list_any};
-ghost use Rattle.rustsec_error.specs.Failure.{IsMemory};
+ghost use Rattle.rustsec_values.specs.Failure.{IsMemory};
 ghost use Rattle.rustsec_policy.specs.Notes.{given, idle_keys, idle_note, is_yanked, name_if, network_note, notes_of, package_note, yanked_note};
 
 use crate::choices::{Denied, PackageSource};
 use crate::policy::Policy;
-use rustsec_error::Result;
-use rustsec_values::{Items, Text};
+use rustsec_values::{Items, Result, Text};
 use std::alloc::{AllocError, Global};
 
 /// Returns the note on the tables that ask for the network.

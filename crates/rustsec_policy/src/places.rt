@@ -1,10 +1,10 @@
 //! The places in a policy file at which it is refused: lines and columns, from 1 on. A column counts characters.
 
-ghost use Rattle.rustsec_error.specs.Failure.{IsMemory, IsOfKind};
+ghost use Rattle.rustsec_values.specs.Failure.{IsMemory, IsOfKind};
 
 use crate::refused::Refused;
-use rustsec_error::{Error, with_place};
 use rustsec_toml::TablePlace;
+use rustsec_values::{Error, with_place};
 use std::alloc::{AllocError, Global};
 
 /// Returns the name of a table without its brackets, or `None` for the table of the whole document.

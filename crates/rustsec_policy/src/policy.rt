@@ -2,7 +2,7 @@
 
 ghost use Rattle.std.specs.Prelude.{◌≡◌, IfErr, IfOk, None, Some, codes};
 ghost use Rattle.toml.specs.View.{table_view};
-ghost use Rattle.rustsec_error.specs.Failure.{IsRefusal};
+ghost use Rattle.rustsec_values.specs.Failure.{IsRefusal};
 ghost use Rattle.rustsec_policy.specs.Policies.{advisories_in, database_in, no_advisories, no_database, no_output, no_packages, no_target, no_yanked, output_in, packages_in, policy_in, policy_of, section_at, target_in, yanked_in};
 
 use crate::keys::{SectionKeys, expect_keys};
@@ -10,8 +10,8 @@ use crate::places::document_error;
 use crate::refused::{Read, at_key};
 use crate::sections::{AdvisoryPolicy, OutputPolicy, TargetPolicy};
 use crate::unused::{DatabasePolicy, PackagePolicy, YankedPolicy};
-use rustsec_error::{ErrorKind, Result};
 use rustsec_toml::{Section, TablePlace, document};
+use rustsec_values::{ErrorKind, Result};
 use std::alloc::Global;
 use toml::Table;
 

@@ -2,8 +2,8 @@
 
 ghost use Rattle.std.specs.Prelude.{◌≡◌, Err, IfErr, IfOk, Ok};
 
-use rustsec_error::{Error, ErrorKind, FromText, Result};
 use rustsec_toml::Section;
+use rustsec_values::{Error, ErrorKind, FromText, Result};
 use std::alloc::{AllocError, Global};
 use toml::Value;
 use toml::value::Array;

@@ -4,7 +4,7 @@ ghost use Rattle.std.specs.Prelude.{◌≡◌, ◌<◌, ◌∷◌, [], IfErr, If
 ghost use Rattle.toml.specs.View.{table_view};
 ghost use Rattle.rustsec_texts.specs.Informational.{informational_of};
 ghost use Rattle.rustsec_toml.specs.Fields.{defaulted, every, optional, text};
-ghost use Rattle.rustsec_error.specs.Failure.{IsMemory, IsOfKind, IsRefusal};
+ghost use Rattle.rustsec_values.specs.Failure.{IsMemory, IsOfKind, IsRefusal};
 ghost use Rattle.rustsec_policy.specs.Policies.{advisories_in, ids_on, ignored_of, no_advisories, no_output, no_target, output_in, target_in, words_of};
 ghost use Rattle.rustsec_policy.specs.Choices.{severity_named};
 
@@ -15,12 +15,11 @@ use crate::keys::{AdvisoryKeys, OutputKeys, TargetKeys, expect_keys};
 use crate::nearest::with_nearest_name;
 use crate::refused::{Read, Refused, at_element, at_key};
 use crate::threshold::Threshold;
-use rustsec_error::{Error, ErrorKind, FromText, Result};
 use rustsec_lock::Severity;
 use rustsec_lock::platforms::{Arch, OS};
 use rustsec_texts::{Date, Id, Informational};
 use rustsec_toml::{Section, TablePlace};
-use rustsec_values::{ClosedEnum, Items, from_name};
+use rustsec_values::{ClosedEnum, Error, ErrorKind, FromText, Items, Result, from_name};
 use std::alloc::Global;
 use toml::{Table, Value};
 

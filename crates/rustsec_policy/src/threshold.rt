@@ -1,12 +1,12 @@
 //! The least severity of the findings, by its name.
 
 ghost use Rattle.std.specs.Prelude.{◌≡◌, IfErr, IfOk, None, Some};
-ghost use Rattle.rustsec_error.specs.Failure.{IsRefusal};
+ghost use Rattle.rustsec_values.specs.Failure.{IsRefusal};
 ghost use Rattle.rustsec_policy.specs.Choices.{severity_named};
 
 use crate::nearest::with_nearest;
-use rustsec_error::{ErrorKind, FromText, Result, text_error};
 use rustsec_lock::Severity;
+use rustsec_values::{ErrorKind, FromText, Result, text_error};
 use std::alloc::Global;
 use std::marker::Model;
 

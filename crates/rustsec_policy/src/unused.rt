@@ -5,7 +5,7 @@ ghost use Rattle.std.specs.Prelude.{◌≡◌, IfErr, IfOk, None, Some, option_m
 ghost use Rattle.toml.specs.Data.{as_str};
 ghost use Rattle.toml.specs.View.{table_view};
 ghost use Rattle.rustsec_toml.specs.Fields.{optional};
-ghost use Rattle.rustsec_error.specs.Failure.{IsRefusal};
+ghost use Rattle.rustsec_values.specs.Failure.{IsRefusal};
 ghost use Rattle.rustsec_policy.specs.Notes.{database_asks, yanked_asks};
 ghost use Rattle.rustsec_policy.specs.Policies.{database_in, index_of, no_database, no_packages, no_yanked, packages_in, yanked_in};
 
@@ -13,9 +13,8 @@ use crate::choices::PackageSource;
 use crate::flags::flag_at;
 use crate::keys::{DatabaseKeys, PackageKeys, YankedKeys, expect_keys};
 use crate::refused::{Read, at_key};
-use rustsec_error::{ErrorKind, Result};
 use rustsec_toml::{Section, TablePlace};
-use rustsec_values::Text;
+use rustsec_values::{ErrorKind, Result, Text};
 use std::alloc::Global;
 use toml::Table;
 

@@ -1,20 +1,20 @@
 -- What holds by the answers that folders allow later holds by those that they allowed before, where these are the same.
 use Rattle.std.proofs.Common.{ℕ, List, Option, None, Some, inl, inr}
-use Rattle.rustsec_error.specs.Failure.{Failure}
-use Rattle.rustsec_error.specs.declared.error.ErrorKind.TheVariants as kind
-use Rattle.rustsec_error.proofs.Refusals.{refused_by}
-use Rattle.rustsec_folders.specs.Allowed.{Allowed, AllowSame}
-use Rattle.rustsec_folders.specs.Listed.{Listed, Paths, crates_of, rust_of}
-use Rattle.rustsec_folders.proofs.Same.{collection-before, fails-at-file-before, fails-below-before, files-before, there-before}
-use Rattle.rustsec_folders.specs.declared.source_file.SourceFile.{SourceFile}
+use Rattle.rustsec_values.specs.Failure.{Failure}
+use Rattle.rustsec_values.specs.declared.error.ErrorKind.TheVariants as kind
+use Rattle.rustsec_values.proofs.Refusals.{refused_by}
+use Rattle.rustsec_files.specs.Allowed.{Allowed, AllowSame}
+use Rattle.rustsec_files.specs.Listed.{Listed, Paths, crates_of, rust_of}
+use Rattle.rustsec_files.proofs.Same.{collection-before, fails-at-file-before, fails-below-before, files-before, there-before}
+use Rattle.rustsec_files.specs.declared.source_file.SourceFile.{SourceFile}
 use Rattle.rustsec_lock.specs.Lockfile.{IsLockfileAt, IsLockfileRefusal}
 use Rattle.rustsec_lock.specs.Package.{PackageValue}
 use Rattle.rustsec_advisory.specs.declared.advisory.Advisory.{Advisory}
 use Rattle.rustsec_database.specs.Opened.{AreOpened, IsOpenRefusal}
 use Rattle.rustsec_commands.specs.Output.{Output}
 use Rattle.rustsec_program.specs.Checked.{Form, Ground, IsAnswer, IsCheckedRefusal, IsLockfileOutput, checked, places_of, refused}
-use Rattle.rustsec_index.specs.declared.yanked.YankedPackages.{YankedPackages}
-use Rattle.rustsec_index.proofs.Before.{yanked-before, yanked-refused-before}
+use Rattle.rustsec_registry.specs.declared.index.yanked.YankedPackages.{YankedPackages}
+use Rattle.rustsec_registry.proofs.index.Before.{yanked-before, yanked-refused-before}
 use Rattle.rustsec_program.specs.Locked.{AreLoadedAt, IsBaselineAt, IsBaselineRefusal, IsIndexRefusal, IsLoadRefusal, IsLockedAt, IsYankedAt, LoadedValue, LockedValue, Places, unbased, unindexed, unlocked}
 
 module _ (a b : Allowed) (same : AllowSame a b) where

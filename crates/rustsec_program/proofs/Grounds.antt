@@ -4,11 +4,11 @@ use Rattle.std.specs.Io.KnownBytes.{Appends, Keeps}
 use Rattle.std.specs.Prelude.{IfOk, IfSome, IsOkAnd}
 use Rattle.std.specs.declared.alloc.AllocError.{AllocError}
 use Rattle.std.specs.Str.{is_utf8}
-use Rattle.rustsec_error.specs.Failure.{Failure, IsRefusal}
-use Rattle.rustsec_error.specs.declared.error.ErrorKind.TheVariants as kind
-use Rattle.rustsec_error.proofs.Refusals.{refused_by}
-use Rattle.rustsec_folders.specs.Allowed.{Allowed, AllowSame}
-use Rattle.rustsec_folders.proofs.Lists.{pairwise-weaker}
+use Rattle.rustsec_values.specs.Failure.{Failure, IsRefusal}
+use Rattle.rustsec_values.specs.declared.error.ErrorKind.TheVariants as kind
+use Rattle.rustsec_values.proofs.Refusals.{refused_by}
+use Rattle.rustsec_files.specs.Allowed.{Allowed, AllowSame}
+use Rattle.rustsec_files.proofs.Lists.{pairwise-weaker}
 use Rattle.rustsec_advisory.specs.declared.advisory.Advisory.{Advisory}
 use Rattle.rustsec_database.specs.Opened.{AreOpened, IsOpenRefusal}
 use Rattle.rustsec_commands.specs.Commands as old

@@ -1,11 +1,11 @@
 -- The check of a lockfile by the advisories that bear on its packages, which alone are kept of the database.
 use Rattle.std.proofs.Common.{◌≡◌, ◌⊎◌, ◌∙◌, ℕ, Bool, Err, List, Ok, Option, None, Result, Some, false, true, inl, inr, length, refl, subst, sym}
 use Rattle.std.specs.Prelude.{IfOk}
-use Rattle.rustsec_error.specs.Failure.{Failure, IsRefusal}
-use Rattle.rustsec_error.specs.declared.error.ErrorKind.TheVariants as kind
-use Rattle.rustsec_error.proofs.Refusals.{refused_by}
-use Rattle.rustsec_folders.specs.Allowed.{Allowed, AllowSame}
-use Rattle.rustsec_folders.proofs.Same.{same-trans}
+use Rattle.rustsec_values.specs.Failure.{Failure, IsRefusal}
+use Rattle.rustsec_values.specs.declared.error.ErrorKind.TheVariants as kind
+use Rattle.rustsec_values.proofs.Refusals.{refused_by}
+use Rattle.rustsec_files.specs.Allowed.{Allowed, AllowSame}
+use Rattle.rustsec_files.proofs.Same.{same-trans}
 use Rattle.rustsec_lock.specs.Lockfile.{IsLockfileRefusal}
 use Rattle.rustsec_lock.specs.Package.{PackageValue}
 use Rattle.rustsec_texts.specs.Ids.{IdValue}
@@ -16,7 +16,7 @@ use Rattle.rustsec_check.specs.Checks.{IsCheckOf}
 use Rattle.rustsec_check.specs.Values.{SubjectValue, YankedValue}
 use Rattle.rustsec_check.proofs.KeptChecks.{kept-yanked}
 use Rattle.rustsec_check_output.specs.CheckTree.{DatedValue, dated_of}
-use Rattle.rustsec_index.specs.declared.yanked.YankedPackages.{YankedPackages}
+use Rattle.rustsec_registry.specs.declared.index.yanked.YankedPackages.{YankedPackages}
 use Rattle.rustsec_commands.specs.Output.{Output}
 use Rattle.rustsec_program.specs.Checked.{AreYankedIf, Form, FoundValue, IsCheckedOutput, IsCheckedRefusal, IsFound, IsLockfileOutput, IsOutputFor, basis_of, is_empty, places_of, subject_of}
 use Rattle.rustsec_program.specs.Locked.{AreLoadedAt, IsBaselineAt, IsBaselineRefusal, IsIndexRefusal, IsLoadRefusal, IsLockedAt, IsYankedAt, LoadedValue, LockedValue, Places, unbased, unindexed, unlocked}

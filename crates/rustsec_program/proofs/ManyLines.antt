@@ -6,9 +6,9 @@ use Rattle.std.specs.Prelude.{flat_map, max}
 use Rattle.std.specs.List.{fold}
 use Rattle.std.proofs.lemmas.Grind.{flat_map-append}
 use Rattle.std.proofs.lemmas.List.{map_more, take-map, take_all}
-use Rattle.rustsec_folders.specs.Allowed.{Allowed, AllowSame}
-use Rattle.rustsec_folders.specs.Listed.{Pairwise}
-use Rattle.rustsec_folders.proofs.Lists.{pairwise-push}
+use Rattle.rustsec_files.specs.Allowed.{Allowed, AllowSame}
+use Rattle.rustsec_files.specs.Listed.{Pairwise}
+use Rattle.rustsec_files.proofs.Lists.{pairwise-push}
 use Rattle.rustsec_commands.specs.Output.{Output}
 use Rattle.rustsec_program.specs.Check.{AreAnswers, worst}
 use Rattle.rustsec_program.specs.Checked.{Ground, IsAnswer, line}

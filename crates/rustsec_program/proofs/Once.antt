@@ -2,18 +2,22 @@
 use Rattle.std.proofs.Common.{◌≡◌, ◌≢◌, ◌∙◌, ℕ, List, [], ◌∷◌, Option, None, Some, true, ap, inl, inr, refl, subst, sym}
 use Rattle.std.specs.Prelude.{flat_map}
 use Rattle.std.specs.Str.{is_utf8}
-use Rattle.rustsec_error.specs.Failure.{Failure}
-use Rattle.rustsec_error.specs.declared.error.ErrorKind.TheVariants as kind
-use Rattle.rustsec_folders.specs.Allowed.{Allowed, AnswersOnce}
-use Rattle.rustsec_folders.specs.Listed.{Pairwise}
+use Rattle.rustsec_values.specs.Failure.{Failure}
+use Rattle.rustsec_values.specs.declared.error.ErrorKind.TheVariants as kind
+use Rattle.rustsec_files.specs.Allowed.{Allowed, AnswersOnce}
+use Rattle.rustsec_files.specs.Listed.{Pairwise}
 use Rattle.rustsec_lock.specs.Lockfile.{AreValid}
 use Rattle.rustsec_check.proofs.OneCheck.{one_check}
 use Rattle.rustsec_check.proofs.MoreYanked.{one_yanked}
 use Rattle.rustsec_check.specs.Values.{SubjectValue, YankedValue}
-use Rattle.rustsec_index.specs.declared.yanked.YankedPackages.{YankedPackages}
+use Rattle.rustsec_registry.specs.declared.index.yanked.YankedPackages.{YankedPackages}
 use Rattle.rustsec_check_output.specs.CheckTree.{WrittenValue}
 use Rattle.rustsec_commands.specs.Output.{Output}
+use Rattle.rustsec_json.specs.Lines.{tree_line}
 use Rattle.rustsec_page.proofs.Once.{page_once}
+use Rattle.rustsec_toml.proofs.Once.{packages-once}
+use Rattle.rustsec_toml.specs.Places.{skip_mark}
+use Rattle.rustsec_sarif.specs.SarifTree.{sarif_tree}
 use Rattle.rustsec_commands.proofs.lemmas.Once.{one-output-of}
 use Rattle.rustsec_program.specs.Check.{AreAnswers, AreAnswersTo, IsCheckOutput, IsCheckRefusal, IsCheckResult, IsManyOutput, IsManyRefusal, answered, checked, misused, misused_many, names_none, paths_of, refused, refused_many, separator, worst}
 use Rattle.rustsec_program.specs.CheckOptions.{CheckOption, options_of}
@@ -43,7 +47,8 @@ module _ (allowed : Allowed) (once : AnswersOnce allowed) where
   text-once-for : (form : Form) (lock : List ℕ) (w : WrittenValue) (t u : List ℕ) → IsWrittenText form lock w t → IsWrittenText form lock w u → t ≡ u
   text-once-for (one.text colored) lock w t u h k = h ∙ sym k
   text-once-for one.json lock w t u h k = h ∙ sym k
-  text-once-for (one.sarif path) lock w t u h k = h ∙ sym k
+  text-once-for (one.sarif path) lock w t u (ps, (are, h)) (qs, (also, k)) =
+      h ∙ (ap (λ places. tree_line (sarif_tree path places w)) (packages-once (skip_mark lock) ps qs are also) ∙ sym k)
   text-once-for one.html lock w t u h k = page_once w t u h k
   text-once-for one.markdown lock w t u h k = h ∙ sym k
   text-once-for (one.line path) lock w t u h k = h ∙ sym k

@@ -7,11 +7,11 @@ use Rattle.toml.specs.Parse.{parse_document}
 use Rattle.std.specs.Prelude.{codes}
 use Rattle.rustsec_values.specs.Reading.{◌>>=◌, read_all, value_or}
 use Rattle.rustsec_toml.specs.Fields.{every, list_of}
-use Rattle.rustsec_error.specs.Failure.{Failure, IsMemory, IsRefusal}
-use Rattle.rustsec_error.specs.declared.error.ErrorKind.{ErrorKind}
-use Rattle.rustsec_error.specs.declared.error.ErrorKind.TheVariants as kind
-use Rattle.rustsec_folders.specs.Allowed.{Allowed, AnswersOnce}
-use Rattle.rustsec_folders.proofs.Once.{read-or-not, text-once}
+use Rattle.rustsec_values.specs.Failure.{Failure, IsMemory, IsRefusal}
+use Rattle.rustsec_values.specs.declared.error.ErrorKind.{ErrorKind}
+use Rattle.rustsec_values.specs.declared.error.ErrorKind.TheVariants as kind
+use Rattle.rustsec_files.specs.Allowed.{Allowed, AnswersOnce}
+use Rattle.rustsec_files.proofs.Once.{read-or-not, text-once}
 use Rattle.rustsec_lock.specs.Lockfile.{AreValid, IsLockfileAt, IsLockfileRefusal, lockfile_of, package_of, packages_of}
 use Rattle.rustsec_lock.specs.Package.{PackageValue}
 use Rattle.rustsec_lock.proofs.ValidVersions.{values_valid}
@@ -19,9 +19,10 @@ use Rattle.rustsec_graph.specs.Graph.{graph_of}
 use Rattle.rustsec_policy.specs.Policies.{policy_of}
 use Rattle.rustsec_policy.specs.declared.policy.Policy.{Policy}
 use Rattle.rustsec_database.proofs.Once.{open-refused-once, opened-once, opened-or-refused}
-use Rattle.rustsec_index.specs.declared.yanked.YankedPackages.{YankedPackages}
-use Rattle.rustsec_index.proofs.Once.{yanked-once, yanked-or-refused, yanked-refused-once}
-use Rattle.rustsec_check_output.specs.CheckTree.{refused_tree, tree_line}
+use Rattle.rustsec_registry.specs.declared.index.yanked.YankedPackages.{YankedPackages}
+use Rattle.rustsec_registry.proofs.index.Once.{yanked-once, yanked-or-refused, yanked-refused-once}
+use Rattle.rustsec_check_output.specs.CheckTree.{refused_tree}
+use Rattle.rustsec_json.specs.Lines.{tree_line}
 use Rattle.rustsec_commands.specs.Output.{Output, refused_as}
 use Rattle.rustsec_program.specs.Check.{IsGround, IsGroundRefusal}
 use Rattle.rustsec_program.specs.CheckOptions.{CheckOption, last_value}

@@ -4,8 +4,8 @@ use Rattle.std.specs.List.{list_any}
 use Rattle.std.proofs.lemmas.List.{append_assoc, drop_all, drop_more, map_more}
 use Rattle.std.proofs.lemmas.List.Elements.{filter_map-append}
 use Rattle.rustsec_values.specs.Reading.{◌>>=◌}
-use Rattle.rustsec_error.specs.Failure.{Failure, IsMemory, IsOfKind, IsRefusal}
-use Rattle.rustsec_error.specs.declared.error.ErrorKind.{ErrorKind}
+use Rattle.rustsec_values.specs.Failure.{Failure, IsMemory, IsOfKind, IsRefusal}
+use Rattle.rustsec_values.specs.declared.error.ErrorKind.{ErrorKind}
 use Rattle.rustsec_program.specs.CheckOptions.{CheckOption, beginning, flag_of, key_of, options_of, set, value_for, valued, values_of}
 use Rattle.rustsec_program.specs.Steps.{by_name, given, item_view, step}
 use Rattle.rustsec_program.specs.declared.keys.Flag.{Flag}

@@ -2,10 +2,10 @@
 use Rattle.std.specs.Prelude.{◌≡◌, ◌≢◌, ◌⊎◌, ◌==◌, ◌&&◌, ℕ, Bool, false, true, List, None, Some, filter, flat_map, if◌then◌else◌, length, max, not}
 use Rattle.std.specs.List.{fold, slice_split}
 use Rattle.std.specs.Str.{is_utf8}
-use Rattle.rustsec_folders.specs.Allowed.{Allowed}
-use Rattle.rustsec_folders.specs.Listed.{Pairwise}
-use Rattle.rustsec_error.specs.Failure.{Failure, IsRefusal}
-use Rattle.rustsec_error.specs.declared.error.ErrorKind.TheVariants as kind
+use Rattle.rustsec_files.specs.Allowed.{Allowed}
+use Rattle.rustsec_files.specs.Listed.{Pairwise}
+use Rattle.rustsec_values.specs.Failure.{Failure, IsRefusal}
+use Rattle.rustsec_values.specs.declared.error.ErrorKind.TheVariants as kind
 use Rattle.rustsec_database.specs.Opened.{AreOpened, IsOpenRefusal}
 use Rattle.rustsec_commands.specs.Output.{Output, refused_as, usage}
 use Rattle.rustsec_program.specs.CheckOptions.{CheckOption, has, options_of}

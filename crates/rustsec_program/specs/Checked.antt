@@ -1,20 +1,22 @@
 -- What is written of the check of a lockfile.
 use Rattle.std.specs.Prelude.{◌≡◌, ◌≢◌, ◌⊎◌, ◌==◌, ◌&&◌, ◌||◌, ◌++◌, not, ℕ, Bool, true, false, List, [], Option, None, Some, if◌then◌else◌, length}
-use Rattle.rustsec_folders.specs.Allowed.{Allowed}
-use Rattle.rustsec_error.specs.Failure.{Failure, IsRefusal}
-use Rattle.rustsec_error.specs.declared.error.ErrorKind.TheVariants as kind
+use Rattle.rustsec_files.specs.Allowed.{Allowed}
+use Rattle.rustsec_values.specs.Failure.{Failure, IsRefusal}
+use Rattle.rustsec_values.specs.declared.error.ErrorKind.TheVariants as kind
 use Rattle.rustsec_advisory.specs.declared.advisory.Advisory.{Advisory}
 use Rattle.rustsec_check.specs.Checks.{IsCheckOf}
 use Rattle.rustsec_check.specs.Findings.{fails}
 use Rattle.rustsec_check.specs.Values.{CheckValue, SubjectValue, YankedValue}
 use Rattle.rustsec_check.specs.Yanked.{AreYanked, yanked_fails}
 use Rattle.rustsec_check_output.specs.CheckText.{check_text}
-use Rattle.rustsec_check_output.specs.CheckTree.{DatedValue, WrittenValue, check_tree, dated_of, many_tree, refused_tree, tree_line}
+use Rattle.rustsec_check_output.specs.CheckTree.{DatedValue, WrittenValue, check_tree, dated_of, many_tree, refused_tree}
+use Rattle.rustsec_json.specs.Lines.{tree_line}
 use Rattle.rustsec_commands.specs.Output.{Output, refused_as}
-use Rattle.rustsec_index.specs.declared.yanked.YankedPackages.{YankedPackages}
+use Rattle.rustsec_registry.specs.declared.index.yanked.YankedPackages.{YankedPackages}
 use Rattle.rustsec_markdown.specs.MarkdownText.{markdown_text}
 use Rattle.rustsec_page.specs.Page.{IsPage}
-use Rattle.rustsec_places.specs.Places.{package_places}
+use Rattle.rustsec_toml.specs.Places.{ArePackages, skip_mark}
+use Rattle.rustsec_toml.specs.declared.place.Place.{Place}
 use Rattle.rustsec_sarif.specs.SarifTree.{sarif_tree}
 use Rattle.rustsec_program.specs.Locked.{AreLoadedAt, IsLoadRefusal, LoadedValue, Places}
 use Rattle.rustsec_program.specs.Notes.{dependency_notes, empty_notes, kind_notes, source_notes}
@@ -49,7 +51,7 @@ form_of p path = shaped p.wanted.shape p.wanted.colored path
 abbrev pub IsWrittenText : Form → List ℕ → WrittenValue → List ℕ → Type 0
 IsWrittenText (text colored) lock w t = t ≡ check_text colored w
 IsWrittenText json lock w t = t ≡ tree_line (check_tree w)
-IsWrittenText (sarif path) lock w t = t ≡ tree_line (sarif_tree path (package_places lock) w)
+IsWrittenText (sarif path) lock w t = (places : List Place) × (ArePackages (skip_mark lock) places × (t ≡ tree_line (sarif_tree path places w)))
 IsWrittenText html lock w t = IsPage w t
 IsWrittenText markdown lock w t = t ≡ markdown_text w
 IsWrittenText (line path) lock w t = t ≡ tree_line (many_tree path (check_tree w))

@@ -1,7 +1,7 @@
 -- What each command writes.
 use Rattle.std.specs.Prelude.{◌≡◌, ◌≢◌, ℕ, Bool, false, true, List, Option, Some, None, IfSome, map}
 use Rattle.std.specs.Io.KnownBytes.{Appends}
-use Rattle.rustsec_folders.specs.Allowed.{Allowed}
+use Rattle.rustsec_files.specs.Allowed.{Allowed}
 use Rattle.rustsec_commands.specs.Commands as old
 use Rattle.rustsec_commands.specs.Output.{Output, usage}
 use Rattle.rustsec_commands.specs.args.Words as old_words

@@ -1,8 +1,8 @@
 -- The output of `explain`.
 use Rattle.std.specs.Prelude.{◌≡◌, ◌≢◌, ◌⊎◌, ℕ, List, Option, None, Some}
-use Rattle.rustsec_folders.specs.Allowed.{Allowed}
-use Rattle.rustsec_error.specs.Failure.{Failure}
-use Rattle.rustsec_error.specs.declared.error.ErrorKind.TheVariants as kind
+use Rattle.rustsec_files.specs.Allowed.{Allowed}
+use Rattle.rustsec_values.specs.Failure.{Failure}
+use Rattle.rustsec_values.specs.declared.error.ErrorKind.TheVariants as kind
 use Rattle.rustsec_lock.specs.Lockfile.{IsLockfileAt, IsLockfileRefusal}
 use Rattle.rustsec_lock.specs.Package.{PackageValue}
 use Rattle.rustsec_texts.specs.Ids.{IdValue}
@@ -14,7 +14,8 @@ use Rattle.rustsec_explain.specs.Pair.{ExplainedPair}
 use Rattle.rustsec_explain_output.specs.ExplainText.{explain_text}
 use Rattle.rustsec_explain_output.specs.ExplainTree.{explain_tree}
 use Rattle.rustsec_explain_output.specs.Rules.{RulesValue}
-use Rattle.rustsec_commands.specs.Output.{Output, refused_as, tree_line, usage}
+use Rattle.rustsec_commands.specs.Output.{Output, refused_as, usage}
+use Rattle.rustsec_json.specs.Lines.{tree_line}
 use Rattle.rustsec_program.specs.Check.{IsGround, IsGroundRefusal}
 use Rattle.rustsec_program.specs.CheckOptions.{CheckOption, options_of}
 use Rattle.rustsec_program.specs.Checked.{Ground}

@@ -2,13 +2,13 @@
 use Rattle.std.specs.Prelude.{◌≡◌, ℕ, List, Option, Some, None}
 use Rattle.toml.specs.Data.{Members}
 use Rattle.toml.specs.Parse.{parse_document}
-use Rattle.rustsec_folders.specs.Allowed.{Allowed}
-use Rattle.rustsec_error.specs.Failure.{Failure}
+use Rattle.rustsec_files.specs.Allowed.{Allowed}
+use Rattle.rustsec_values.specs.Failure.{Failure}
 use Rattle.rustsec_lock.specs.Lockfile.{IsLockfileAt, IsLockfileRefusal, packages_of}
 use Rattle.rustsec_lock.specs.Package.{PackageValue}
 use Rattle.rustsec_graph.specs.Graph.{GraphValue, graph_of}
-use Rattle.rustsec_index.specs.YankedPackages.{IsYankedIn, IsYankedRefusal}
-use Rattle.rustsec_index.specs.declared.yanked.YankedPackages.{YankedPackages}
+use Rattle.rustsec_registry.specs.index.YankedPackages.{IsYankedIn, IsYankedRefusal}
+use Rattle.rustsec_registry.specs.declared.index.yanked.YankedPackages.{YankedPackages}
 
 -- a lockfile: its text, its packages and their graph
 pub record LockedValue : Type 0 where

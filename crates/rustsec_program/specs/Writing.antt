@@ -1,7 +1,7 @@
 -- What a command has written: an output as a whole, or, where `check-many` breaks off, the lines of the first lockfiles.
 use Rattle.std.specs.Prelude.{◌≡◌, ℕ, List, Option, None, Some, IfSome, take}
 use Rattle.std.specs.Io.KnownBytes.{Appends, Keeps}
-use Rattle.rustsec_folders.specs.Allowed.{Allowed}
+use Rattle.rustsec_files.specs.Allowed.{Allowed}
 use Rattle.rustsec_commands.specs.Output.{Output}
 use Rattle.rustsec_program.specs.Check.{AreAnswers, IsGround, IsList, paths_of, separator}
 use Rattle.rustsec_program.specs.CheckOptions.{CheckOption, options_of}

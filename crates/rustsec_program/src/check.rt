@@ -4,7 +4,7 @@ ghost use Rattle.std.specs.Prelude.{◌≡◌, ◌⊎◌, [], IfErr, IfOk, List,
 ghost use Rattle.rustsec_advisory.specs.declared.advisory.Advisory.{Advisory};
 ghost use Rattle.rustsec_database.specs.Kept.{AreOpenedFor, bears_on_any};
 ghost use Rattle.rustsec_database.specs.Opened.{AreOpened, IsOpenRefusal};
-ghost use Rattle.rustsec_folders.specs.Allowed.{AllowSame};
+ghost use Rattle.rustsec_files.specs.Allowed.{AllowSame};
 ghost use Rattle.rustsec_lock.specs.Package.{PackageValue};
 ghost use Rattle.rustsec_program.specs.Check.{IsCheckOutput, IsCheckRefusal, IsCheckResult};
 ghost use Rattle.rustsec_program.specs.Checked.{IsCheckedRefusal, IsLockfileOutput, form_of};
@@ -19,9 +19,9 @@ use rustsec_commands::Paths;
 use rustsec_commands::error_output::refusal_output;
 use rustsec_commands::output::{Output, usage_output};
 use rustsec_database::{Bearing, KeptDatabase};
-use rustsec_error::Result;
-use rustsec_folders::Folders;
+use rustsec_files::Folders;
 use rustsec_lock::package::Package;
+use rustsec_values::Result;
 use std::alloc::{AllocError, Global};
 
 /// Returns the packages of a lockfile that was read, or none if it was refused.

@@ -2,8 +2,8 @@
 
 ghost use Rattle.std.specs.Prelude.{◌≡◌, Bool, IfErr, IfOk, List, option_map, string_bytes, true};
 ghost use Rattle.std.specs.Option.{option_copied};
-ghost use Rattle.rustsec_folders.specs.Allowed.{AllowSame};
-ghost use Rattle.rustsec_error.specs.Failure.{IsMemory, IsOfKind, IsRefusal};
+ghost use Rattle.rustsec_files.specs.Allowed.{AllowSame};
+ghost use Rattle.rustsec_values.specs.Failure.{IsMemory, IsOfKind, IsRefusal};
 ghost use Rattle.rustsec_advisory.specs.declared.advisory.Advisory as given;
 ghost use Rattle.rustsec_check.specs.Checks.{IsCheckOf};
 ghost use Rattle.rustsec_check.specs.Subjects.{subject_view};
@@ -23,14 +23,14 @@ use rustsec_check::{Check, Subject, Yanked, check, yanked_fail, yanked_packages}
 use rustsec_check_output::{Dated, Written, check_line, check_text, many_line};
 use rustsec_commands::output::Output;
 use rustsec_database::{Database, KeptDatabase};
-use rustsec_error::{Error, ErrorKind, Result};
-use rustsec_folders::Folders;
-use rustsec_index::YankedPackages;
+use rustsec_files::Folders;
 use rustsec_markdown::markdown_text;
 use rustsec_page::page_text;
-use rustsec_places::package_places;
+use rustsec_registry::YankedPackages;
 use rustsec_sarif::sarif_text;
 use rustsec_texts::Id;
+use rustsec_toml::package_places;
+use rustsec_values::{Error, ErrorKind, Result};
 use std::alloc::Global;
 use std::marker::Model;
 

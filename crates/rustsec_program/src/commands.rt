@@ -1,9 +1,9 @@
 //! Carries out the command that the words name.
 
 ghost use Rattle.rustsec_commands.specs.declared.fault.Fault.TheVariants as fault;
-ghost use Rattle.std.specs.Prelude.{◌≡◌, ◌≢◌, IfErr, IfOk, IsOkAnd, None, false, map};
+ghost use Rattle.std.specs.Prelude.{◌≡◌, ◌≢◌, Err, IfErr, IfOk, IsOkAnd, None, false, map};
 ghost use Rattle.std.specs.Io.KnownBytes.{Appends, Keeps};
-ghost use Rattle.rustsec_folders.specs.Allowed.{AllowSame, AnswersOnce, real_folders};
+ghost use Rattle.rustsec_files.specs.Allowed.{AllowSame, AnswersOnce, real_folders};
 ghost use Rattle.rustsec_program.specs.Commands.{Carries, HaveOneOutput, IsOwnOutput, command_view, reads_input, words_read_input};
 ghost use Rattle.rustsec_program.specs.Words.{command_of};
 ghost use Rattle.rustsec_program.specs.Writing.{IsBrokenOff};
@@ -15,7 +15,7 @@ use crate::many::{ManyInput, check_many};
 use crate::misuse;
 use rustsec_commands::output::{Output, usage_output};
 use rustsec_commands::{Fault, read_all};
-use rustsec_folders::{Folders, RealFolders};
+use rustsec_files::{Folders, RealFolders};
 use std::alloc::{AllocError, Global};
 use std::io::{Read, Write};
 use std::rt::Files;
@@ -53,13 +53,16 @@ fn noted<N: Write>(done: Result<u8, Fault>, notes: &mut N) -> Result<u8, Fault>
 ///
 /// # Errors
 ///
-/// `Memory`, with nothing written; or `Write`, after which it is unspecified how much was written.
+/// `Memory` if memory for the output was refused, with nothing written. `Write` if a write fails, after which it is
+/// unspecified how much was written.
 pub fn finish<W: Write, N: Write>(
     made: Result<Output, AllocError>,
     output: &mut W,
     notes: &mut N,
 ) -> Result<u8, Fault>
     ensures ok { IfOk result (λ s. IsOkAnd made (λ o. (s ≡ o.status) × Appends (W.contents output.old) (W.contents output.new) o.text)) }
+    ensures memory { IfErr made (λ _. result ≡ Err fault.Memory) }
+    ensures write { IfOk made (λ _. IfErr result (λ e. e ≡ fault.Write)) }
     ensures err { IfErr result (λ e. e ≢ fault.Write → Keeps (W.contents output.old) (W.contents output.new)) }
 {
     match made {

@@ -2,14 +2,14 @@
 
 ghost use Rattle.std.specs.Prelude.{◌≡◌, ◌⊎◌, IfErr, IfOk, List, map, string_bytes};
 ghost use Rattle.rustsec_advisory.specs.declared.advisory.Advisory.{Advisory};
-ghost use Rattle.rustsec_commands.specs.Output.{tree_line};
+ghost use Rattle.rustsec_json.specs.Lines.{tree_line};
 ghost use Rattle.rustsec_database.specs.Opened.{AreOpened, IsOpenRefusal};
 ghost use Rattle.rustsec_explain_output.specs.ExplainTree.{explain_tree};
-ghost use Rattle.rustsec_folders.specs.Allowed.{AllowSame};
+ghost use Rattle.rustsec_files.specs.Allowed.{AllowSame};
 ghost use Rattle.rustsec_lock.specs.Lockfile.{IsLockfileAt, IsLockfileRefusal};
 ghost use Rattle.rustsec_lock.specs.Package.{PackageValue};
 ghost use Rattle.rustsec_policy.specs.Policies.{known_id};
-ghost use Rattle.rustsec_error.specs.Failure.{IsMemory};
+ghost use Rattle.rustsec_values.specs.Failure.{IsMemory};
 ghost use Rattle.rustsec_program.specs.Explain.{IsExplainOutput, IsExplainRefusal, IsExplained, pairs_of, pairs_output, pairs_text, rules_of};
 
 use crate::checked::Ground;
@@ -19,14 +19,15 @@ use crate::plan::Plan;
 use crate::shapes::Shape;
 use rustsec_commands::Paths;
 use rustsec_commands::error_output::refusal_output;
-use rustsec_commands::output::{Output, tree_line, usage_output};
+use rustsec_commands::output::{Output, usage_output};
 use rustsec_database::Database;
-use rustsec_error::{ErrorKind, Result};
 use rustsec_explain::{Explained, explain_id};
 use rustsec_explain_output::{Rules, explain_text, explain_tree};
-use rustsec_folders::Folders;
+use rustsec_files::Folders;
+use rustsec_json::tree_line;
 use rustsec_lock::Lockfile;
 use rustsec_texts::Id;
+use rustsec_values::{ErrorKind, Result};
 use std::alloc::{AllocError, Global};
 
 /// Returns the JSON list of some pairs on one line.

@@ -4,26 +4,23 @@
 ghost use Rattle.std.specs.Prelude.{◌≡◌, ◌⊎◌, IfErr, IfOk, List, None, Option, Some, option_map};
 ghost use Rattle.toml.specs.Data.{Members};
 ghost use Rattle.toml.specs.Parse.{parse_document};
-ghost use Rattle.toml.specs.View.{table_view};
-ghost use Rattle.rustsec_folders.specs.Allowed.{AllowSame};
+ghost use Rattle.rustsec_files.specs.Allowed.{AllowSame};
 ghost use Rattle.rustsec_graph.specs.Graph.{graph_of};
 ghost use Rattle.rustsec_lock.specs.Lockfile.{IsLockfileRefusal, lockfile_of, packages_of};
 ghost use Rattle.rustsec_lock.specs.Package.{PackageValue};
-ghost use Rattle.rustsec_error.specs.Failure.{IsOfKind, IsRefusal};
+ghost use Rattle.rustsec_values.specs.Failure.{IsRefusal};
 ghost use Rattle.rustsec_program.specs.Locked.{AreLoadedAt, IsBaselineAt, IsBaselineRefusal, IsIndexRefusal, IsLoadRefusal, IsLockedAt, IsLockedText, IsYankedAt};
 ghost use Rattle.rustsec_program.specs.Places.{places_view};
 
-use rustsec_error::{Error, ErrorKind, Result, file_error};
-use rustsec_folders::Folders;
+use rustsec_files::Folders;
 use rustsec_graph::Graph;
-use rustsec_index::{YankedPackages, yanked_in};
 use rustsec_lock::Lockfile;
 use rustsec_lock::package::Package;
-use rustsec_plain::plain_document;
-use rustsec_values::Text;
-use std::alloc::{AllocError, Global};
+use rustsec_registry::{YankedPackages, yanked_in};
+use rustsec_toml::{TablePlace, document};
+use rustsec_values::{ErrorKind, Result, Text, file_error};
+use std::alloc::Global;
 use std::marker::Model;
-use toml::Table;
 
 /// A lockfile with its text and the graph of its packages.
 pub struct Locked {
@@ -63,57 +60,16 @@ impl Locked {
     }
 }
 
-/// Reads the lockfile of a TOML table, and makes the graph of its packages.
-fn packages_of_table(alloc: Global, table: &Table) -> Result<(Lockfile, Graph)>
-    ensures ok { IfOk result (λ r. (packages_of (table_view table.now) ≡ Some r.0.packages)
-        × (r.1 ≡ graph_of (table_view table.now) r.0.packages)) }
-    ensures err { IfErr result (IsRefusal ErrorKind.Parse (packages_of (table_view table.now) ≡ None)) }
-{
-    let lockfile = Lockfile::from_table(alloc, table)?;
-    let graph = Graph::from_table(alloc, table, &lockfile)?;
-    Ok((lockfile, graph))
-}
-
-/// Returns the error for a text that is not a TOML document.
-fn document_error(alloc: Global) -> Error
-    ensures { IsOfKind ErrorKind.Parse result }
-{
-    Error::new(
-        alloc,
-        ErrorKind::Parse,
-        "the lockfile is not a TOML document",
-    )
-}
-
 /// Reads the lockfile of a text, and makes the graph of its packages.
 fn packages_of_text(alloc: Global, text: &str) -> Result<(Lockfile, Graph)>
     ensures ok { IfOk result (λ r. (table : Members) × ((parse_document text.now ≡ Some table)
         × ((packages_of table ≡ Some r.0.packages) × (r.1 ≡ graph_of table r.0.packages)))) }
     ensures err { IfErr result (IsRefusal ErrorKind.Parse (lockfile_of text.now ≡ None)) }
 {
-    if let Some(table) = plain_document(alloc, text)? {
-        return packages_of_table(alloc, &table);
-    }
-    match toml::table_from_str(alloc, text) {
-        Ok(table) => packages_of_table(alloc, &table),
-        Err(e) => {
-            if e.is_memory() {
-                return Err(Error::from(AllocError));
-            }
-            Err(document_error(alloc))
-        }
-    }
-}
-
-/// Returns the error for a text that is not a lockfile with the place of the fault, by the error without it.
-fn with_place_in_text(alloc: Global, text: &str, error: Error) -> Error
-    requires { IsRefusal ErrorKind.Parse (lockfile_of text.now ≡ None) error }
-    ensures { IsRefusal ErrorKind.Parse (lockfile_of text.now ≡ None) result }
-{
-    match Lockfile::from_str(alloc, text) {
-        Ok(_) => error,
-        Err(placed) => placed,
-    }
+    let table = document(alloc, text, TablePlace::whole(text), "the lockfile")?;
+    let lockfile = Lockfile::from_document(alloc, &table, text)?;
+    let graph = Graph::from_table(alloc, &table, &lockfile)?;
+    Ok((lockfile, graph))
 }
 
 /// Reads the lockfile of a file's text. `path` is for the message alone.
@@ -127,10 +83,7 @@ fn locked_of_file(alloc: Global, path: &str, text: Text) -> Result<Locked>
             lockfile,
             graph,
         }),
-        Err(e) => {
-            let placed = with_place_in_text(alloc, text.as_str(), e);
-            Err(file_error(alloc, path, &placed))
-        }
+        Err(e) => Err(file_error(alloc, path, &e)),
     }
 }
 

@@ -5,12 +5,12 @@ ghost use Rattle.std.specs.Prelude.{◌≡◌, ◌≢◌, ◌++◌, ◌<◌, ◌
 ghost use Rattle.std.specs.Io.KnownBytes.{Appends, Keeps};
 ghost use Rattle.std.specs.Str.{is_utf8};
 ghost use Rattle.rustsec_commands.specs.Output.{refused_as, usage};
-ghost use Rattle.rustsec_folders.specs.Allowed.{AllowSame};
-ghost use Rattle.rustsec_error.specs.Failure.{IsOfKind, IsRefusal};
+ghost use Rattle.rustsec_files.specs.Allowed.{AllowSame};
+ghost use Rattle.rustsec_values.specs.Failure.{IsOfKind, IsRefusal};
 ghost use Rattle.rustsec_program.specs.Check.{AreAnswers, IsManyOutput, IsManyRefusal, is_path, names_none, paths_of, separator};
 ghost use Rattle.rustsec_program.specs.Checked.{IsAnswer, line, refusal_output};
 ghost use Rattle.rustsec_program.specs.Writing.{BreaksOff, IsPrepared, Writes, WritesFirst};
-ghost use Rattle.rustsec_error.specs.declared.error.ErrorKind.TheVariants as failure;
+ghost use Rattle.rustsec_values.specs.declared.error.ErrorKind.TheVariants as failure;
 
 use crate::checked::{Ground, lockfile_output};
 use crate::forms::Form;
@@ -23,9 +23,8 @@ use rustsec_commands::Fault;
 use rustsec_commands::error_output::{refusal_output, why};
 use rustsec_commands::output::{Output, usage_output};
 use rustsec_database::Database;
-use rustsec_error::{Error, ErrorKind, Result};
-use rustsec_folders::Folders;
-use rustsec_shown::push_shown;
+use rustsec_files::Folders;
+use rustsec_values::{Error, ErrorKind, Result, push_shown};
 use std::alloc::{AllocError, Global};
 use std::io::Write;
 use std::marker::Model;
@@ -40,7 +39,7 @@ fn separator(options: &Options<'_>) -> char
 }
 
 /// Appends a path, unless it is empty.
-#[tactic(auto, using(rustsec_folders::proofs::ListFailures::filter_kept, rustsec_folders::proofs::ListFailures::filter_left))]
+#[tactic(auto, using(rustsec_files::proofs::ListFailures::filter_kept, rustsec_files::proofs::ListFailures::filter_left))]
 fn push_path<'a>(paths: &mut Vec<&'a str>, path: &'a str) -> std::result::Result<(), AllocError>
     ensures { OnOk result (map (λ p. p.now) paths.new.items ≡ map (λ p. p.now) paths.old.items ++ filter is_path (path.now ∷ [])) }
 {

@@ -2,8 +2,7 @@
 
 use crate::keys::{Flag, Key};
 use crate::usage::PAGE;
-use rustsec_shown::push_shown;
-use rustsec_values::{ClosedEnum, from_name};
+use rustsec_values::{ClosedEnum, from_name, push_shown};
 use std::alloc::{AllocError, Global};
 use strsim::osa_distance;
 

@@ -8,9 +8,9 @@ ghost use Rattle.rustsec_program.specs.Notes.{dependency_note, dependency_notes,
 
 use crate::locked::Loaded;
 use crate::wanted::{Wanted, joined, push_if};
-use rustsec_index::YankedPackages;
 use rustsec_lock::SourceKind;
 use rustsec_lock::package::Package;
+use rustsec_registry::YankedPackages;
 use rustsec_texts::Informational;
 use rustsec_values::{Items, Text};
 use std::alloc::{AllocError, Global};

@@ -2,9 +2,9 @@
 
 ghost use Rattle.std.specs.Prelude.{◌≡◌, IfErr, IfOk, None, Some, option_map};
 ghost use Rattle.std.specs.List.{filter};
-ghost use Rattle.rustsec_folders.specs.Allowed.{AllowSame};
+ghost use Rattle.rustsec_files.specs.Allowed.{AllowSame};
 ghost use Rattle.rustsec_policy.specs.Policies.{policy_of};
-ghost use Rattle.rustsec_error.specs.Failure.{IsRefusal};
+ghost use Rattle.rustsec_values.specs.Failure.{IsRefusal};
 ghost use Rattle.rustsec_program.specs.CheckOptions.{has, last_value};
 ghost use Rattle.rustsec_program.specs.Plan.{IsPlan, IsPlanRefusal, counts_on};
 ghost use Rattle.rustsec_program.specs.Wanted.{FailsAtPolicy, IsPolicyAt, IsPolicyRefusal, IsPolicyText, wanted};
@@ -15,11 +15,10 @@ use crate::keys::{Flag, Key};
 use crate::options::Options;
 use crate::request::{Request, request_of};
 use crate::wanted::Wanted;
-use rustsec_error::{ErrorKind, Result, file_error};
-use rustsec_folders::Folders;
+use rustsec_files::Folders;
 use rustsec_policy::{Ignored, Policy};
 use rustsec_texts::Date;
-use rustsec_values::{Items, Predicate, Text};
+use rustsec_values::{ErrorKind, Items, Predicate, Result, Text, file_error};
 use std::alloc::Global;
 use std::marker::Model;
 

@@ -3,7 +3,7 @@
 use rustsec_advisory::Advisory;
 use rustsec_check::Finding;
 use rustsec_lint_database::readings_of;
-use rustsec_shown::push_shown;
+use rustsec_values::push_shown;
 use std::alloc::{AllocError, Global};
 
 /// The number of bytes from which on a note takes no further advisory.

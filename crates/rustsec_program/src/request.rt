@@ -3,7 +3,7 @@
 ghost use Rattle.std.specs.Prelude.{◌≡◌, [], IfErr, IfOk, None, Some, map, option_map};
 ghost use Rattle.rustsec_policy.specs.Choices.{severity_named};
 ghost use Rattle.rustsec_values.specs.Reading.{read_all, read_optional};
-ghost use Rattle.rustsec_error.specs.Failure.{IsRefusal};
+ghost use Rattle.rustsec_values.specs.Failure.{IsRefusal};
 ghost use Rattle.rustsec_program.specs.CheckOptions.{last_value, values_of};
 ghost use Rattle.rustsec_program.specs.Wanted.{request_of};
 ghost use Rattle.rustsec_program.specs.declared.keys.Key.TheVariants as key;
@@ -11,12 +11,11 @@ ghost use Rattle.rustsec_program.specs.declared.keys.Key.TheVariants as key;
 use crate::keys::Key;
 use crate::options::Options;
 use crate::shapes::{Coloring, LeastSeverity, Shape};
-use rustsec_error::{ErrorKind, FromText, Result, with_place};
 use rustsec_lock::Severity;
 use rustsec_lock::platforms::{Arch, OS};
 use rustsec_policy::Denied;
 use rustsec_texts::{Date, Id};
-use rustsec_values::{ClosedEnum, Items, Text};
+use rustsec_values::{ClosedEnum, ErrorKind, FromText, Items, Result, Text, with_place};
 use std::alloc::{AllocError, Global};
 
 /// What the options say.

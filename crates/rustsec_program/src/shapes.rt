@@ -1,9 +1,8 @@
 //! The values of `--format`, `--color` and `--severity`.
 
-use rustsec_error::{FromText, Result, text_error};
 use rustsec_lock::Severity;
 use rustsec_policy::read_severity;
-use rustsec_values::{ClosedEnum, from_name};
+use rustsec_values::{ClosedEnum, FromText, Result, from_name, text_error};
 use std::alloc::Global;
 use std::marker::Model;
 

@@ -4,17 +4,16 @@ ghost use Rattle.std.specs.Prelude.{◌≡◌, ◌++◌, ◌&&◌, not, IfErr, I
 ghost use Rattle.std.specs.List.{list_any};
 ghost use Rattle.rustsec_policy.specs.Notes.{is_yanked, notes_of};
 ghost use Rattle.rustsec_policy.specs.Policies.{ids_on};
-ghost use Rattle.rustsec_error.specs.Failure.{IsMemory, IsRefusal};
+ghost use Rattle.rustsec_values.specs.Failure.{IsMemory, IsRefusal};
 ghost use Rattle.rustsec_program.specs.Notes.{note_if};
 ghost use Rattle.rustsec_program.specs.Wanted.{has_colors, index_by, or_else, policy_shape, settings_of, usual_kinds, wanted, word_notes};
 
 use crate::request::Request;
 use crate::shapes::{Coloring, Shape};
-use rustsec_error::{ErrorKind, Result};
 use rustsec_policy::{Denied, OutputFormat, Policy};
 use rustsec_report::Settings;
 use rustsec_texts::{Id, Informational};
-use rustsec_values::{ExactClone, Items, Text};
+use rustsec_values::{ErrorKind, ExactClone, Items, Result, Text};
 use std::alloc::{AllocError, Global};
 
 /// What is wanted of a check, by the policy and the words.

@@ -5,9 +5,9 @@ use crate::files::{advisory, requirements, text_of};
 use crate::window::{closes, opens, refusal};
 use rustsec_advisory::Advisory;
 use rustsec_commands::{Fault, answer};
-use rustsec_error::Result;
 use rustsec_osv::OsvAdvisory;
 use rustsec_texts::Parts;
+use rustsec_values::Result;
 use rustsec_versions::Versions;
 use std::alloc::Global;
 

@@ -3,12 +3,11 @@
 use crate::files::{source_files, text_of};
 use crate::window::{closes, opens, refusal};
 use rustsec_database::Database;
-use rustsec_error::Result;
-use rustsec_folders::SourceFile;
+use rustsec_files::SourceFile;
 use rustsec_lock::Lockfile;
 use rustsec_report::{Report, Settings};
 use rustsec_texts::Informational;
-use rustsec_values::Items;
+use rustsec_values::{Items, Result};
 use std::alloc::{AllocError, Global};
 
 /// Returns how many advisories of a database are equal to those of another at the same place.

@@ -1,9 +1,8 @@
 //! Reads the files for the calls.
 
 use rustsec_advisory::Advisory;
-use rustsec_error::{Error, ErrorKind, Result};
-use rustsec_folders::SourceFile;
-use rustsec_values::Text;
+use rustsec_files::SourceFile;
+use rustsec_values::{Error, ErrorKind, Result, Text};
 use semver::VersionReq;
 use std::alloc::{AllocError, Global};
 use std::fs;

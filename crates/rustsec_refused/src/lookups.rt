@@ -2,11 +2,10 @@
 
 use crate::files::text_of;
 use crate::window::{closes, opens, refusal};
-use rustsec_error::{Error, Result};
 use rustsec_lock::Lockfile;
 use rustsec_lock::package::{Name, Package};
 use rustsec_registry::{CachedIndex, IndexVersion, Lookup};
-use rustsec_values::{Items, Text};
+use rustsec_values::{Error, Items, Result, Text};
 use std::alloc::Global;
 use std::cell::Cell;
 

@@ -21,7 +21,7 @@ mod lookups;
 mod stored;
 mod window;
 
-use rustsec_error::Result;
+use rustsec_values::Result;
 use std::alloc::Global;
 use std::env;
 use std::process::ExitCode;

@@ -3,8 +3,8 @@
 use crate::files::{advisory, text_of};
 use crate::window::{closes, opens, refusal};
 use rustsec_database::{Entries, Slot};
-use rustsec_error::Result;
 use rustsec_texts::Id;
+use rustsec_values::Result;
 use std::alloc::Global;
 
 /// Returns the IDs of the stored advisories, in order, and the result of the look-up of an ID.

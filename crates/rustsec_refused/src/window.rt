@@ -1,6 +1,6 @@
 //! Writes the two lines between which a call is made, and the text of an error.
 
-use rustsec_error::{Error, ErrorKind, Result};
+use rustsec_values::{Error, ErrorKind, Result};
 use std::alloc::Global;
 
 /// Writes the line before the call. It is a literal, so that it takes no memory.

@@ -5,7 +5,7 @@ use Rattle.std.specs.Borrow.{Bor}
 use Rattle.std.specs.List.{cons_option}
 use Rattle.std.proofs.lemmas.List.{append-nil, map-append, map_more}
 use Rattle.std.proofs.lemmas.List.Elements.{filter_map-append}
-use Rattle.rustsec_error.specs.Failure.{Failure}
+use Rattle.rustsec_values.specs.Failure.{Failure}
 use Rattle.rustsec_lock.specs.Package.{PackageValue}
 use Rattle.rustsec_registry.specs.Lookups.{Kept, at}
 use Rattle.rustsec_registry.specs.Yanked.{by_name, seen, yanked_answers}

@@ -1,3 +1,4 @@
 pub mod Lookups
 pub mod Packages
 pub mod Yanked
+pub mod index

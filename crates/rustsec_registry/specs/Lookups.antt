@@ -2,8 +2,8 @@
 use Rattle.std.specs.Prelude.{◌≡◌, ◌≢◌, ℕ, Bool, List, Option, Some, None, Result, Ok, Err, find, nat_eq, option_map, reverse}
 use Rattle.std.specs.Cmp.Lexicographic.{pointwise}
 use Rattle.std.specs.Map.{lookup}
-use Rattle.rustsec_error.specs.Failure.{Failure}
-use Rattle.rustsec_error.specs.declared.error.ErrorKind.TheVariants as kind
+use Rattle.rustsec_values.specs.Failure.{Failure}
+use Rattle.rustsec_values.specs.declared.error.ErrorKind.TheVariants as kind
 use Rattle.rustsec_registry.specs.declared.lookup.IndexVersion.{IndexVersion}
 
 -- a registry's answer for a name: the versions that it lists, none if the name is missing, or an error

@@ -2,8 +2,8 @@
 use Rattle.std.specs.Prelude.{◌≡◌, ◌++◌, ℕ, Bool, false, true, List, Option, IsSome, Some, None, Result, Ok, Err, codes, filter_map}
 use Rattle.std.specs.Borrow.{Bor}
 use Rattle.semver.specs.Identifiers.{parts_text}
-use Rattle.rustsec_error.specs.Failure.{Failure}
-use Rattle.rustsec_error.specs.declared.error.ErrorKind.TheVariants as kind
+use Rattle.rustsec_values.specs.Failure.{Failure}
+use Rattle.rustsec_values.specs.declared.error.ErrorKind.TheVariants as kind
 use Rattle.rustsec_lock.specs.Package.{PackageValue}
 use Rattle.rustsec_registry.specs.Lookups.{Kept, at}
 use Rattle.rustsec_registry.specs.Packages.{has_name}

@@ -3,14 +3,13 @@
 ghost use Rattle.std.specs.Prelude.{◌≡◌, ◌∷◌, [], if◌then◌else◌, ℕ, List, IfErr, IfOk, IsSome, OnErr, OnOk, Some, is_some, map, nat_eq};
 ghost use Rattle.std.specs.Cmp.Lexicographic.{pointwise};
 ghost use Rattle.std.specs.Option.{option_copied};
-ghost use Rattle.rustsec_error.specs.Failure.{IsMemory};
+ghost use Rattle.rustsec_values.specs.Failure.{IsMemory};
 ghost use Rattle.rustsec_registry.specs.Lookups.{AreAnswers, IsKeptOf, at, listed};
 ghost use Rattle.rustsec_registry.specs.Yanked.{AreKept, Grows};
 
 use crate::lookup::{IndexVersion, Lookup};
-use rustsec_error::{Error, ErrorKind, Result};
 use rustsec_lock::package::{Name, Package};
-use rustsec_values::{Items, SortedMap, Text};
+use rustsec_values::{Error, ErrorKind, Items, Result, SortedMap, Text};
 use std::alloc::{AllocError, Global};
 
 /// The cached form of an answer: for each listed version, whether it is yanked.

@@ -1,7 +1,7 @@
 //! A look-up that keeps its answers.
 
 ghost use Rattle.std.specs.Prelude.{◌≡◌, [], IfErr, IfOk, List, OnOk, map};
-ghost use Rattle.rustsec_error.specs.Failure.{IsMemory};
+ghost use Rattle.rustsec_values.specs.Failure.{IsMemory};
 ghost use Rattle.rustsec_lock.specs.Package.{PackageValue};
 ghost use Rattle.rustsec_registry.specs.Lookups.{AreAnswers};
 ghost use Rattle.rustsec_registry.specs.Packages.{AreDistinctPackages};
@@ -11,9 +11,8 @@ use crate::cache_entry::{CacheEntry, ask_all};
 use crate::distinct::distinct;
 use crate::lookup::Lookup;
 use crate::yanked_status::verdicts;
-use rustsec_error::{Error, Result};
 use rustsec_lock::package::{Name, Package};
-use rustsec_values::SortedMap;
+use rustsec_values::{Error, Result, SortedMap};
 use std::alloc::Global;
 use std::marker::Model;
 

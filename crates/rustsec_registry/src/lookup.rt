@@ -3,9 +3,8 @@
 ghost use Rattle.std.specs.Prelude.{◌≢◌, Err, IfErr, IfOk, List, Ok, ℕ};
 ghost use Rattle.rustsec_registry.specs.Lookups.{Answer};
 
-use rustsec_error::{ErrorKind, Result};
 use rustsec_lock::package::Name;
-use rustsec_values::{Items, Text};
+use rustsec_values::{ErrorKind, Items, Result, Text};
 use std::alloc::Global;
 
 /// A version that a registry lists.

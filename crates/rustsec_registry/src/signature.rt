@@ -3,10 +3,9 @@
 ghost use Rattle.std.specs.Prelude.{◌≡◌, IfErr, IfOk, nat_eq};
 ghost use Rattle.std.specs.Cmp.{partial_equiv_from_equiv};
 ghost use Rattle.std.specs.Cmp.Lexicographic.{bytes_decides, nat_list_eq_equiv, pointwise};
-ghost use Rattle.rustsec_error.specs.Failure.{IsMemory};
+ghost use Rattle.rustsec_values.specs.Failure.{IsMemory};
 
-use rustsec_error::Result;
-use rustsec_values::{ExactClone, ExactEq};
+use rustsec_values::{ExactClone, ExactEq, Result};
 use std::alloc::{AllocError, Global};
 use std::marker::Model;
 

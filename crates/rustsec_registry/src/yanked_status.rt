@@ -1,15 +1,14 @@
 //! Which packages are yanked, by the cached answers.
 
 ghost use Rattle.std.specs.Prelude.{◌≡◌, IfErr, IfOk, Some, map, option_map};
-ghost use Rattle.rustsec_error.specs.Failure.{IsMemory};
+ghost use Rattle.rustsec_values.specs.Failure.{IsMemory};
 ghost use Rattle.rustsec_registry.specs.Lookups.{at};
 ghost use Rattle.rustsec_registry.specs.Yanked.{by_name, by_version, missing_name, missing_version, not_found, seen, yanked_answers};
 ghost use Rattle.semver.specs.Identifiers.{parts_text};
 
 use crate::cache_entry::{CacheEntry, at_name};
-use rustsec_error::{Error, ErrorKind, Result};
 use rustsec_lock::package::{Name, Package};
-use rustsec_values::{Items, SortedMap, Text};
+use rustsec_values::{Error, ErrorKind, Items, Result, SortedMap, Text};
 use std::alloc::Global;
 
 /// The answer for one package, unless it is skipped: the package, or the error of its look-up.

@@ -5,7 +5,7 @@ use Rattle.std.proofs.lemmas.Bool.{not-true, not_from_false}
 use Rattle.toml.specs.Data.{Members}
 use Rattle.toml.specs.Parse.{parse_document}
 use Rattle.rustsec_values.specs.Reading.{◌>>=◌}
-use Rattle.rustsec_folders.specs.declared.source_file.SourceFile.{SourceFile}
+use Rattle.rustsec_files.specs.declared.source_file.SourceFile.{SourceFile}
 use Rattle.rustsec_lock.specs.Lockfile.{lockfile_of, packages_of}
 use Rattle.rustsec_lock.specs.Package.{PackageValue}
 use Rattle.rustsec_texts.specs.WarningKinds.{warning_kinds}
@@ -15,9 +15,9 @@ use Rattle.rustsec_advisory.specs.declared.advisory.Advisory.{Advisory}
 use Rattle.rustsec_database.proofs.Once.{filed-unique}
 use Rattle.rustsec_database.specs.Placement.{IsFiled}
 use Rattle.rustsec_database.specs.Loaded.{AreLoaded, is_stored}
-use Rattle.rustsec_query.specs.Pairs.{Pair, as_vulnerability, finds, pairs, pairs_of, vulnerability_of}
-use Rattle.rustsec_query.specs.Query.{Asked}
-use Rattle.rustsec_query.specs.declared.vulnerability.Vulnerability.{Vulnerability}
+use Rattle.rustsec_database.specs.Pairs.{Pair, as_vulnerability, finds, pairs, pairs_of, vulnerability_of}
+use Rattle.rustsec_database.specs.Query.{Asked}
+use Rattle.rustsec_database.specs.declared.vulnerability.Vulnerability.{Vulnerability}
 use Rattle.rustsec_report.specs.EndToEnd.{Holds, IsHeld, IsReportOf, IsReportOfText, IsSelected, IsWarned}
 use Rattle.rustsec_report.specs.Report.{as_warning, found, gives, has_some, informational_query, is_among, query_of, report_of, vulnerabilities, warnings, warnings_by_kind, warnings_of_kind, without}
 use Rattle.rustsec_report.specs.declared.report.Report.{Report}

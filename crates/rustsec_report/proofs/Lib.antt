@@ -6,6 +6,7 @@ pub mod KindTexts
 pub mod Members
 pub mod NoFloats
 pub mod PlainTrees
+pub mod Pushes
 pub mod ReportLaws
 pub mod ReportText
 pub mod ReportedAdvisories

@@ -5,7 +5,7 @@ use Rattle.rustsec_advisory.specs.declared.affected.Affected.{Affected}
 use Rattle.rustsec_advisory.specs.declared.metadata.Metadata.{Metadata}
 use Rattle.rustsec_versions.specs.acceptance.Lists.{Lists}
 use Rattle.rustsec_lock.specs.Package.{PackageValue}
-use Rattle.rustsec_query.specs.declared.vulnerability.Vulnerability.{Vulnerability}
+use Rattle.rustsec_database.specs.declared.vulnerability.Vulnerability.{Vulnerability}
 use Rattle.rustsec_report.specs.Trees.{affected_entries, affected_tree, functions, kinds, lockfile_tree, metadata_entries, metadata_tree, origin, package_entries, package_tree, requirements_tree, settings_entries, settings_tree, subject, terms, versions_entries, versions_tree, vulnerability_entries, vulnerability_tree, warning_entries, warning_tree}
 use Rattle.rustsec_report.specs.declared.info.LockfileInfo.{LockfileInfo}
 use Rattle.rustsec_report.specs.declared.settings.Settings.{Settings}

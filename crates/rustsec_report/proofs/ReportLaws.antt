@@ -11,9 +11,9 @@ use Rattle.rustsec_texts.specs.Ids.{IdValue}
 use Rattle.rustsec_texts.specs.WarningKinds.{warning_kinds}
 use Rattle.rustsec_texts.specs.declared.warning_kind.WarningKind.{WarningKind}
 use Rattle.rustsec_advisory.specs.declared.advisory.Advisory.{Advisory}
-use Rattle.rustsec_query.specs.Pairs.{as_vulnerability, finds, is_audited, pairs, pairs_of}
-use Rattle.rustsec_query.specs.Query.{Asked}
-use Rattle.rustsec_query.specs.declared.vulnerability.Vulnerability.{Vulnerability}
+use Rattle.rustsec_database.specs.Pairs.{as_vulnerability, finds, is_audited, pairs, pairs_of}
+use Rattle.rustsec_database.specs.Query.{Asked}
+use Rattle.rustsec_database.specs.declared.vulnerability.Vulnerability.{Vulnerability}
 use Rattle.rustsec_report.specs.Report.{as_warning, found, gives, has_some, info_of, informational_query, is_among, present, query_of, report_of, warnings_by_kind, warnings_of_kind, without}
 use Rattle.rustsec_report.specs.ReportLaws.{AddTheirOwn, FindTheSame, LacksOnly, counted, ignoring, is_of_another, warns_of_another, with_others}
 use Rattle.rustsec_report.specs.declared.report.Report.{Report}

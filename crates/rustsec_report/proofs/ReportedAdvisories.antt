@@ -15,10 +15,10 @@ use Rattle.rustsec_texts.specs.contracts.warning_kind.WarningKind.{the_type as k
 use Rattle.rustsec_texts.specs.declared.informational.Informational.{Informational}
 use Rattle.rustsec_texts.specs.declared.warning_kind.WarningKind.{WarningKind}
 use Rattle.rustsec_advisory.specs.declared.advisory.Advisory.{Advisory}
-use Rattle.rustsec_query.specs.Pairs.{Pair, as_vulnerability, finds, is_audited, pairs, pairs_of}
-use Rattle.rustsec_query.specs.Query.{Asked, of_package}
-use Rattle.rustsec_query.specs.Selects.{as_informational, as_withdrawn, selects}
-use Rattle.rustsec_query.specs.declared.vulnerability.Vulnerability.{Vulnerability}
+use Rattle.rustsec_database.specs.Pairs.{Pair, as_vulnerability, finds, is_audited, pairs, pairs_of}
+use Rattle.rustsec_database.specs.Query.{Asked, of_package}
+use Rattle.rustsec_database.specs.Selects.{as_informational, as_withdrawn, selects}
+use Rattle.rustsec_database.specs.declared.vulnerability.Vulnerability.{Vulnerability}
 use Rattle.rustsec_report.specs.ReportedAdvisories.{ListsWhatIsInForce, IsVulnerability, IsWarning}
 use Rattle.rustsec_report.specs.Report.{as_warning, found, gives, has_some, informational_query, is_among, is_wanted, query_of, report_of, vulnerabilities, wanted_kind, warnings, warnings_by_kind, warnings_of_kind, without}
 use Rattle.rustsec_report.specs.declared.report.Report.{Report}

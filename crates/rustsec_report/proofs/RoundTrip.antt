@@ -2,7 +2,7 @@
 use Rattle.std.proofs.Common.{◌≡◌, Bool, true, false, cond, List, [], ◌∷◌, map, refl, ap}
 use Rattle.std.specs.List.{filter}
 use Rattle.rustsec_texts.specs.declared.warning_kind.WarningKind.{WarningKind}
-use Rattle.rustsec_query.specs.declared.vulnerability.Vulnerability.{Vulnerability}
+use Rattle.rustsec_database.specs.declared.vulnerability.Vulnerability.{Vulnerability}
 use Rattle.rustsec_report.specs.Filter.{applicable, filtered}
 use Rattle.rustsec_report.specs.Report.{info_of}
 use Rattle.rustsec_report.specs.declared.binary_format.BinaryFormat.{BinaryFormat}

@@ -6,7 +6,7 @@ use Rattle.rustsec_lock.specs.contracts.platforms.OS.{the_type as system}
 use Rattle.rustsec_lock.specs.declared.platforms.OS.{OS}
 use Rattle.rustsec_lock.specs.declared.platforms.OS.TheVariants as os
 use Rattle.rustsec_advisory.specs.declared.affected.Affected.{Affected}
-use Rattle.rustsec_query.specs.declared.vulnerability.Vulnerability.{Vulnerability}
+use Rattle.rustsec_database.specs.declared.vulnerability.Vulnerability.{Vulnerability}
 use Rattle.rustsec_report.specs.declared.binary_format.BinaryFormat.{BinaryFormat}
 use Rattle.rustsec_report.specs.declared.binary_format.BinaryFormat.TheVariants as format
 use Rattle.rustsec_report.specs.declared.report.Report.{Report}

@@ -6,3 +6,4 @@ pub mod ReportLaws
 pub mod ReportText
 pub mod ReportedAdvisories
 pub mod Trees
+pub mod Words

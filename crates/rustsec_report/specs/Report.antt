@@ -14,9 +14,9 @@ use Rattle.rustsec_texts.specs.declared.informational.Informational.{Information
 use Rattle.rustsec_texts.specs.declared.informational.Informational.TheVariants as informational
 use Rattle.rustsec_texts.specs.declared.warning_kind.WarningKind.{WarningKind}
 use Rattle.rustsec_advisory.specs.declared.advisory.Advisory.{Advisory}
-use Rattle.rustsec_query.specs.Pairs.{as_vulnerability, pairs}
-use Rattle.rustsec_query.specs.Query.{Asked, crate_scope}
-use Rattle.rustsec_query.specs.declared.vulnerability.Vulnerability.{Vulnerability}
+use Rattle.rustsec_database.specs.Pairs.{as_vulnerability, pairs}
+use Rattle.rustsec_database.specs.Query.{Asked, crate_scope}
+use Rattle.rustsec_database.specs.declared.vulnerability.Vulnerability.{Vulnerability}
 use Rattle.rustsec_report.specs.declared.report.Report.{Report}
 use Rattle.rustsec_report.specs.declared.info.VulnerabilityInfo.{VulnerabilityInfo}
 use Rattle.rustsec_report.specs.declared.settings.Settings.{Settings}

@@ -5,7 +5,7 @@ use Rattle.rustsec_texts.specs.Informational.{kind_of_warnings}
 use Rattle.rustsec_texts.specs.declared.informational.Informational.{Informational}
 use Rattle.rustsec_texts.specs.declared.warning_kind.WarningKind.{WarningKind}
 use Rattle.rustsec_advisory.specs.declared.metadata.Metadata.{Metadata}
-use Rattle.rustsec_query.specs.declared.vulnerability.Vulnerability.{Vulnerability}
+use Rattle.rustsec_database.specs.declared.vulnerability.Vulnerability.{Vulnerability}
 use Rattle.rustsec_report.specs.Report.{is_among}
 use Rattle.rustsec_report.specs.declared.report.Report.{Report}
 use Rattle.rustsec_report.specs.declared.settings.Settings.{Settings}

@@ -24,7 +24,7 @@ use Rattle.rustsec_advisory.specs.declared.affected.Affected.{Affected}
 use Rattle.rustsec_advisory.specs.declared.metadata.Metadata.{Metadata}
 use Rattle.rustsec_json.specs.Codecs.{Row, with_rows}
 use Rattle.rustsec_json.specs.Trees.{list_tree, optional_tree}
-use Rattle.rustsec_query.specs.declared.vulnerability.Vulnerability.{Vulnerability}
+use Rattle.rustsec_database.specs.declared.vulnerability.Vulnerability.{Vulnerability}
 use Rattle.rustsec_report.specs.declared.info.LockfileInfo.{LockfileInfo}
 use Rattle.rustsec_report.specs.declared.info.VulnerabilityInfo.{VulnerabilityInfo}
 use Rattle.rustsec_report.specs.declared.report.Report.{Report}

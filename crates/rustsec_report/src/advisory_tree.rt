@@ -6,18 +6,24 @@ ghost use Rattle.rustsec_json.specs.Trees.{optional_tree};
 ghost use Rattle.rustsec_report.specs.Trees.{affected_entries, affected_tree, functions, kinds, metadata_entries, metadata_tree, object_of, origin, package_entries, package_tree, subject, terms, versions_entries, versions_tree, with_members};
 
 use crate::object::{Members, put_tree, put_value, requirements_tree};
-use rustsec_advisory::{Affected, Functions, Metadata};
+use rustsec_advisory::{Affected, Metadata};
 use rustsec_lock::package::Package;
-use rustsec_versions::Versions;
+use rustsec_texts::FunctionPath;
+use rustsec_values::SortedMap;
+use rustsec_versions::{Requirements, Versions};
 use serde_json::Value;
 use std::alloc::{AllocError, Global};
 
 /// Sets the key of each function, its path, to its requirements.
 #[tactic(auto, unfolding(crate::specs::Trees::with_members))]
-fn put_functions(alloc: Global, members: &mut Members, list: &Functions) -> Result<(), AllocError>
-    ensures { OnOk result (members_view members.new.entries ≡ with_members (members_view members.old.entries) (functions list.now)) }
+fn put_functions(
+    alloc: Global,
+    members: &mut Members,
+    map: &SortedMap<FunctionPath, Requirements>,
+) -> Result<(), AllocError>
+    ensures { OnOk result (members_view members.new.entries ≡ with_members (members_view members.old.entries) (functions map.now)) }
 {
-    for (path, reqs) in list.as_slice() {
+    for (path, reqs) in map {
         let key = path.to_string(alloc)?;
         let tree = requirements_tree(alloc, reqs.as_slice())?;
         put_tree(alloc, members, &key, tree)?;
@@ -26,11 +32,14 @@ fn put_functions(alloc: Global, members: &mut Members, list: &Functions) -> Resu
 }
 
 /// Builds the tree of functions.
-fn functions_tree(alloc: Global, list: &Functions) -> Result<Value, AllocError>
-    ensures { IfOk result (λ v. view v ≡ object_of (functions list.now)) }
+fn functions_tree(
+    alloc: Global,
+    map: &SortedMap<FunctionPath, Requirements>,
+) -> Result<Value, AllocError>
+    ensures { IfOk result (λ v. view v ≡ object_of (functions map.now)) }
 {
     let mut members = Members::new(alloc);
-    put_functions(alloc, &mut members, list)?;
+    put_functions(alloc, &mut members, map)?;
     Ok(Value::from(members))
 }
 

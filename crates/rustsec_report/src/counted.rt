@@ -1,16 +1,14 @@
 //! The pairs of a package and an advisory that count: those that a query finds, without ignored advisories.
 
 ghost use Rattle.std.specs.Prelude.{◌≡◌, IfErr, IfOk, map};
-ghost use Rattle.rustsec_error.specs.Failure.{IsMemory};
-ghost use Rattle.rustsec_query.specs.Pairs.{as_vulnerability};
+ghost use Rattle.rustsec_values.specs.Failure.{IsMemory};
+ghost use Rattle.rustsec_database.specs.Pairs.{as_vulnerability};
 ghost use Rattle.rustsec_report.specs.Report.{found, without};
 
-use rustsec_database::{Database, Pair};
-use rustsec_error::Result;
+use rustsec_database::{Database, Pair, Query};
 use rustsec_lock::Lockfile;
-use rustsec_query::Query;
 use rustsec_texts::Id;
-use rustsec_values::{Items, Predicate};
+use rustsec_values::{Items, Predicate, Result};
 use std::alloc::Global;
 
 /// The predicate that the advisory of a pair is not among these.

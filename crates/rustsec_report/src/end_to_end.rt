@@ -3,7 +3,7 @@
 ghost use Rattle.std.specs.Prelude.{◌++◌, ◌∷◌, [], IfErr, IfOk};
 ghost use Rattle.toml.specs.View.{table_view};
 ghost use Rattle.rustsec_lock.specs.Lockfile.{lockfile_of, packages_of};
-ghost use Rattle.rustsec_folders.specs.declared.source_file.SourceFile.{SourceFile};
+ghost use Rattle.rustsec_files.specs.declared.source_file.SourceFile.{SourceFile};
 ghost use Rattle.rustsec_report.specs.EndToEnd.{IsReportOf, IsReportOfText, IsReportRefusal};
 ghost use Rattle.rustsec_report.specs.ReportLaws.{AddsItsOwn};
 ghost use Rattle.rustsec_report.specs.declared.report.Report as given;
@@ -11,9 +11,9 @@ ghost use Rattle.rustsec_report.specs.declared.report.Report as given;
 use crate::report::Report;
 use crate::settings::Settings;
 use rustsec_database::Database;
-use rustsec_error::Result;
-use rustsec_folders::SourceFile;
+use rustsec_files::SourceFile;
 use rustsec_lock::Lockfile;
+use rustsec_values::Result;
 use std::alloc::Global;
 use toml::Table;
 

@@ -10,8 +10,8 @@ use crate::info::VulnerabilityInfo;
 use crate::report::Report;
 use crate::warning::Warning;
 use rustsec_advisory::Affected;
+use rustsec_database::Vulnerability;
 use rustsec_lock::platforms::OS;
-use rustsec_query::Vulnerability;
 use rustsec_values::Predicate;
 
 /// Returns whether a system is Windows.

@@ -1,29 +1,79 @@
 //! Generates a report from a database and a lockfile.
 
-ghost use Rattle.std.specs.Prelude.{◌≡◌, ◌++◌, IfErr, IfOk, List, Some};
+ghost use Rattle.std.specs.Prelude.{◌≡◌, ◌++◌, IfErr, IfOk, List, Some, map};
 ghost use Rattle.std.specs.List.{filter};
 ghost use Rattle.toml.specs.Data.{Members};
-ghost use Rattle.rustsec_folders.specs.declared.source_file.SourceFile.{SourceFile};
+ghost use Rattle.rustsec_files.specs.declared.source_file.SourceFile.{SourceFile};
 ghost use Rattle.rustsec_lock.specs.Lockfile.{packages_of};
 ghost use Rattle.rustsec_texts.specs.Ids.{IdValue};
 ghost use Rattle.rustsec_advisory.specs.declared.advisory.Advisory as given;
 ghost use Rattle.rustsec_database.specs.Loaded.{AreLoaded};
-ghost use Rattle.rustsec_query.specs.Pairs.{is_audited};
-ghost use Rattle.rustsec_error.specs.Failure.{IsMemory};
+ghost use Rattle.rustsec_database.specs.Pairs.{as_vulnerability, is_audited};
+ghost use Rattle.rustsec_values.specs.Failure.{IsMemory};
 ghost use Rattle.rustsec_report.specs.EndToEnd.{IsReportOf};
 ghost use Rattle.rustsec_report.specs.ReportedAdvisories.{ListsWhatIsInForce};
 ghost use Rattle.rustsec_report.specs.Report.{info_of, report_of, vulnerabilities, warnings};
 ghost use Rattle.rustsec_report.specs.ReportLaws.{AddTheirOwn, FindTheSame, LacksOnly, ignoring};
 
 use crate::counted::counted_pairs;
-use crate::info::{LockfileInfo, VulnerabilityInfo};
+use crate::info::VulnerabilityInfo;
 use crate::report::Report;
+use crate::report_ref::{ReportRef, copies_of};
 use crate::settings::Settings;
-use crate::warnings::{WarningInfo, warnings_by_kind};
-use rustsec_database::{Database, vulnerabilities_of};
-use rustsec_error::Result;
+use crate::warning_ref::WarningsOfKind;
+use crate::warnings::{WarningInfo, copies_by_kind, warnings_by_kind};
+use rustsec_database::{Database, Pair, VulnerabilityRef};
 use rustsec_lock::Lockfile;
-use std::alloc::Global;
+use rustsec_values::{Items, Result};
+use std::alloc::{AllocError, Global};
+
+/// Returns pairs as vulnerabilities, in order.
+fn vulnerabilities_of<'a>(
+    alloc: Global,
+    pairs: &[Pair<'a>],
+) -> std::result::Result<Items<VulnerabilityRef<'a>>, AllocError>
+    ensures { IfOk result (λ vs. vs ≡ map as_vulnerability pairs.now) }
+{
+    let mut refs = Items::new(alloc);
+    for pair in pairs {
+        refs.push(VulnerabilityRef::of(pair.advisory, pair.package))?;
+    }
+    Ok(refs)
+}
+
+/// Returns the vulnerabilities of a lockfile's packages that settings select, without those of ignored advisories, as
+/// references: by package in the lockfile's order, then by advisory in the database's order.
+pub(crate) fn select_vulnerabilities<'a>(
+    alloc: Global,
+    database: &'a Database,
+    lockfile: &'a Lockfile,
+    settings: &Settings,
+) -> Result<Items<VulnerabilityRef<'a>>>
+    ensures ok { IfOk result (λ vs. vs ≡ vulnerabilities database.now lockfile.now.packages settings.now) }
+    ensures err { IfErr result IsMemory }
+{
+    let query = settings.query(alloc)?;
+    let counted = counted_pairs(alloc, database, lockfile, &query, &settings.ignore)?;
+    let vulnerabilities = vulnerabilities_of(alloc, counted.as_slice())?;
+    Ok(vulnerabilities)
+}
+
+/// Returns the warnings about a lockfile's packages that settings ask for, as references: kind by kind, each list by package
+/// in the lockfile's order, then by advisory in the database's order.
+pub(crate) fn select_warnings<'a>(
+    alloc: Global,
+    database: &'a Database,
+    lockfile: &'a Lockfile,
+    settings: &Settings,
+) -> Result<Items<WarningsOfKind<'a>>>
+    ensures ok { IfOk result (λ ws. ws ≡ warnings database.now lockfile.now.packages settings.now) }
+    ensures err { IfErr result IsMemory }
+{
+    let query = settings.query(alloc)?.informational(true);
+    let counted = counted_pairs(alloc, database, lockfile, &query, &settings.ignore)?;
+    let warnings = warnings_by_kind(alloc, counted.as_slice(), settings)?;
+    Ok(warnings)
+}
 
 /// Returns the warnings about a lockfile's packages that settings ask for: kind by kind, each list by package in the
 /// lockfile's order, then by advisory in the database's order.
@@ -40,9 +90,8 @@ pub fn find_warnings(
     ensures ok { IfOk result (λ ws. ws ≡ warnings database.now lockfile.now.packages settings.now) }
     ensures err { IfErr result IsMemory }
 {
-    let query = settings.query(alloc)?.informational(true);
-    let counted = counted_pairs(alloc, database, lockfile, &query, &settings.ignore)?;
-    warnings_by_kind(alloc, counted.as_slice(), settings)
+    let warnings = select_warnings(alloc, database, lockfile, settings)?;
+    copies_by_kind(alloc, warnings.as_slice())
 }
 
 /// Returns the vulnerabilities of a lockfile's packages that settings ask for, without those of ignored advisories: by
@@ -60,9 +109,8 @@ pub fn find_vulnerabilities(
     ensures ok { IfOk result (λ i. i ≡ info_of (vulnerabilities database.now lockfile.now.packages settings.now)) }
     ensures err { IfErr result IsMemory }
 {
-    let query = settings.query(alloc)?;
-    let counted = counted_pairs(alloc, database, lockfile, &query, &settings.ignore)?;
-    let list = vulnerabilities_of(alloc, counted.as_slice())?;
+    let vulnerabilities = select_vulnerabilities(alloc, database, lockfile, settings)?;
+    let list = copies_of(alloc, vulnerabilities.as_slice())?;
     Ok(VulnerabilityInfo::of_items(list))
 }
 
@@ -103,14 +151,7 @@ impl Report {
         ensures elsewhere { IfOk result (λ r. FindTheSame r (report_of database.now (filter is_audited lockfile.now.packages) settings.now)) }
         ensures err { IfErr result IsMemory }
     {
-        let vulnerabilities = find_vulnerabilities(alloc, database, lockfile, settings)?;
-        let warnings = find_warnings(alloc, database, lockfile, settings)?;
-        let settings = settings.clone(alloc)?;
-        Ok(Report {
-            lockfile: LockfileInfo::new(lockfile),
-            settings,
-            vulnerabilities,
-            warnings,
-        })
+        let report = ReportRef::generate(alloc, database, lockfile, settings)?;
+        report.to_report(alloc)
     }
 }

@@ -1,13 +1,12 @@
 //! What a report contains about its lockfile and its vulnerabilities.
 
 ghost use Rattle.std.specs.Prelude.{◌≡◌, [], IfErr, IfOk, length};
-ghost use Rattle.rustsec_error.specs.Failure.{IsMemory};
+ghost use Rattle.rustsec_values.specs.Failure.{IsMemory};
 ghost use Rattle.rustsec_report.specs.Report.{info_of};
 
-use rustsec_error::Result;
+use rustsec_database::Vulnerability;
 use rustsec_lock::Lockfile;
-use rustsec_query::Vulnerability;
-use rustsec_values::{ExactClone, Items};
+use rustsec_values::{ExactClone, Items, Result};
 use std::alloc::Global;
 
 /// What a report contains about its lockfile.

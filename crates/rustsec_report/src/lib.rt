@@ -3,10 +3,13 @@
 #![tactic(auto)]
 
 mod advisory_tree;
+mod arguments;
 mod binary_format;
+mod command;
 mod counted;
 mod end_to_end;
 mod filter;
+mod fixer;
 mod generate;
 mod info;
 mod object;
@@ -21,7 +24,9 @@ mod warning_ref;
 mod warnings;
 
 pub use crate::binary_format::BinaryFormat;
+pub use crate::command::FixCommand;
 pub use crate::filter::filter_report_by_binary_type;
+pub use crate::fixer::Fixer;
 pub use crate::generate::{find_vulnerabilities, find_warnings};
 pub use crate::info::{LockfileInfo, VulnerabilityInfo};
 pub use crate::object::{Members, put_tree};

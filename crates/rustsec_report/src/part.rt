@@ -9,8 +9,8 @@ use crate::info::LockfileInfo;
 use crate::report_tree::{lockfile_tree, settings_tree, vulnerability_tree};
 use crate::settings::Settings;
 use crate::warning_ref::WarningRef;
+use rustsec_database::VulnerabilityRef;
 use rustsec_json::ToTree;
-use rustsec_query::VulnerabilityRef;
 use serde_json::Value;
 use std::alloc::{AllocError, Global};
 

@@ -1,13 +1,12 @@
 //! Reports.
 
 ghost use Rattle.std.specs.Prelude.{◌≡◌, IfErr, IfOk};
-ghost use Rattle.rustsec_error.specs.Failure.{IsMemory};
+ghost use Rattle.rustsec_values.specs.Failure.{IsMemory};
 
 use crate::info::{LockfileInfo, VulnerabilityInfo};
 use crate::settings::Settings;
 use crate::warnings::WarningInfo;
-use rustsec_error::Result;
-use rustsec_values::ExactClone;
+use rustsec_values::{ExactClone, Result};
 use std::alloc::Global;
 
 /// The report of a lockfile.

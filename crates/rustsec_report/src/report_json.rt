@@ -3,7 +3,7 @@
 ghost use Rattle.std.specs.Prelude.{◌≡◌, ◌++◌, ◌∷◌, IfErr, IfOk, List, None, OnOk, codes, false, option_map, string_bytes};
 ghost use Rattle.serde_json.specs.View.{view};
 ghost use Rattle.serde_json.specs.Written.{comma_if, compact_text, has_float};
-ghost use Rattle.rustsec_error.specs.Failure.{IsMemory};
+ghost use Rattle.rustsec_values.specs.Failure.{IsMemory};
 ghost use Rattle.rustsec_texts.specs.declared.warning_kind.WarningKind.{WarningKind};
 ghost use Rattle.rustsec_report.specs.ReportText.{beginning_text, ending_text, key_text, kind_key, kinds_text, last_list, later_texts, list_text, vulnerabilities_text};
 ghost use Rattle.rustsec_report.specs.Trees.{kinds_of_warnings, object_of, report_tree};
@@ -11,9 +11,8 @@ ghost use Rattle.rustsec_report.specs.Trees.{kinds_of_warnings, object_of, repor
 use crate::part::Part;
 use crate::report_ref::ReportRef;
 use crate::warning_ref::{WarningRef, WarningsOfKind};
-use rustsec_error::Result;
 use rustsec_texts::WarningKind;
-use rustsec_values::ClosedEnum;
+use rustsec_values::{ClosedEnum, Result};
 use serde_json::Value;
 use std::alloc::{AllocError, Global};
 

@@ -1,22 +1,20 @@
 //! Reports as references: what they list is not copied.
 
-ghost use Rattle.std.specs.Prelude.{◌≡◌, IfErr, IfOk, map};
-ghost use Rattle.rustsec_error.specs.Failure.{IsMemory};
-ghost use Rattle.rustsec_query.specs.Pairs.{as_vulnerability};
-ghost use Rattle.rustsec_report.specs.Report.{report_of, vulnerabilities, warnings};
+ghost use Rattle.std.specs.Prelude.{◌≡◌, IfErr, IfOk};
+ghost use Rattle.rustsec_values.specs.Failure.{IsMemory};
+ghost use Rattle.rustsec_report.specs.Kinds.{with_map_of_kinds};
+ghost use Rattle.rustsec_report.specs.Report.{report_of};
 
-use crate::counted::counted_pairs;
-use crate::info::LockfileInfo;
+use crate::generate::{select_vulnerabilities, select_warnings};
+use crate::info::{LockfileInfo, VulnerabilityInfo};
 use crate::report::Report;
 use crate::settings::Settings;
 use crate::warning::Warning;
 use crate::warning_ref::{WarningRef, WarningsOfKind};
-use crate::warnings::{WarningInfo, warnings_of_pairs};
-use rustsec_database::{Database, Pair};
-use rustsec_error::Result;
+use crate::warnings::{WarningInfo, copies_by_kind};
+use rustsec_database::{Database, Vulnerability, VulnerabilityRef};
 use rustsec_lock::Lockfile;
-use rustsec_query::{Vulnerability, VulnerabilityRef};
-use rustsec_values::Items;
+use rustsec_values::{Items, Result};
 use std::alloc::{AllocError, Global};
 use std::marker::Model;
 
@@ -93,50 +91,19 @@ fn refs_by_kind<'a>(
     Ok(refs)
 }
 
-/// Returns pairs as vulnerabilities.
-fn vulnerabilities_of_pairs<'a>(
+/// Returns copies of vulnerabilities, in order.
+pub(crate) fn copies_of(
     alloc: Global,
-    pairs: &[Pair<'a>],
-) -> std::result::Result<Items<VulnerabilityRef<'a>>, AllocError>
-    ensures { IfOk result (λ vs. vs ≡ map as_vulnerability pairs.now) }
+    vulnerabilities: &[VulnerabilityRef<'_>],
+) -> Result<Items<Vulnerability>>
+    ensures ok { IfOk result (λ vs. vs ≡ vulnerabilities.now) }
+    ensures err { IfErr result IsMemory }
 {
-    let mut refs = Items::new(alloc);
-    for pair in pairs {
-        refs.push(VulnerabilityRef::of(pair.advisory, pair.package))?;
+    let mut copies = Items::new(alloc);
+    for vulnerability in vulnerabilities {
+        copies.push(vulnerability.to_vulnerability(alloc)?)?;
     }
-    Ok(refs)
-}
-
-/// Returns the vulnerabilities of a report, as references.
-fn vulnerabilities_of<'a>(
-    alloc: Global,
-    database: &'a Database,
-    lockfile: &'a Lockfile,
-    settings: &Settings,
-) -> Result<Items<VulnerabilityRef<'a>>>
-    ensures ok { IfOk result (λ vs. vs ≡ vulnerabilities database.now lockfile.now.packages settings.now) }
-    ensures err { IfErr result IsMemory }
-{
-    let query = settings.query(alloc)?;
-    let counted = counted_pairs(alloc, database, lockfile, &query, &settings.ignore)?;
-    let vulnerabilities = vulnerabilities_of_pairs(alloc, counted.as_slice())?;
-    Ok(vulnerabilities)
-}
-
-/// Returns the warnings of a report, as references.
-fn warnings_of<'a>(
-    alloc: Global,
-    database: &'a Database,
-    lockfile: &'a Lockfile,
-    settings: &Settings,
-) -> Result<Items<WarningsOfKind<'a>>>
-    ensures ok { IfOk result (λ ws. ws ≡ warnings database.now lockfile.now.packages settings.now) }
-    ensures err { IfErr result IsMemory }
-{
-    let query = settings.query(alloc)?.informational(true);
-    let counted = counted_pairs(alloc, database, lockfile, &query, &settings.ignore)?;
-    let warnings = warnings_of_pairs(alloc, counted.as_slice(), settings)?;
-    Ok(warnings)
+    Ok(copies)
 }
 
 impl<'a> ReportRef<'a> {
@@ -170,14 +137,38 @@ impl<'a> ReportRef<'a> {
         ensures ok { IfOk result (λ r. r ≡ report_of database.now lockfile.now.packages settings.now) }
         ensures err { IfErr result IsMemory }
     {
-        let vulnerabilities = vulnerabilities_of(alloc, database, lockfile, settings)?;
-        let warnings = warnings_of(alloc, database, lockfile, settings)?;
+        let vulnerabilities = select_vulnerabilities(alloc, database, lockfile, settings)?;
+        let warnings = select_warnings(alloc, database, lockfile, settings)?;
         Ok(ReportRef {
             lockfile: LockfileInfo::new(lockfile),
             settings,
             found: !vulnerabilities.is_empty(),
             count: vulnerabilities.len(),
             vulnerabilities,
+            warnings,
+        })
+    }
+
+    /// Returns the report, with copies of what it lists. Of two lists of warnings of one kind the later one is kept.
+    ///
+    /// # Errors
+    ///
+    /// `OutOfMemory` alone.
+    pub fn to_report(&self, alloc: Global) -> Result<Report>
+        ensures ok { IfOk result (λ r. r ≡ with_map_of_kinds self.now) }
+        ensures err { IfErr result IsMemory }
+    {
+        let list = copies_of(alloc, self.vulnerabilities.as_slice())?;
+        let warnings = copies_by_kind(alloc, self.warnings.as_slice())?;
+        let settings = self.settings.clone(alloc)?;
+        Ok(Report {
+            lockfile: self.lockfile,
+            settings,
+            vulnerabilities: VulnerabilityInfo {
+                found: self.found,
+                count: self.count,
+                list,
+            },
             warnings,
         })
     }

@@ -3,7 +3,7 @@
 ghost use Rattle.std.specs.Prelude.{◌≡◌, [], ◌∷◌, IfErr, IfOk, OnOk, option_map};
 ghost use Rattle.serde_json.specs.View.{members_view, view};
 ghost use Rattle.rustsec_json.specs.Trees.{list_tree, optional_tree};
-ghost use Rattle.rustsec_error.specs.Failure.{IsMemory};
+ghost use Rattle.rustsec_values.specs.Failure.{IsMemory};
 ghost use Rattle.rustsec_report.specs.Trees.{info_entries, kinds_of_warnings, lockfile_tree, metadata_tree, object_of, report_entries, report_tree, settings_entries, settings_tree, severity_tree, versions_tree, vulnerabilities_tree, vulnerability_entries, vulnerability_tree, warning_entries, warning_tree, with_members};
 
 use crate::advisory_tree::{affected_tree, metadata_tree, package_tree, versions_tree};
@@ -15,10 +15,10 @@ use crate::settings::Settings;
 use crate::warning::Warning;
 use crate::warning_ref::{WarningRef, WarningsOfKind};
 use rustsec_advisory::Metadata;
-use rustsec_error::Result;
+use rustsec_database::VulnerabilityRef;
 use rustsec_json::ToTree;
 use rustsec_lock::Severity;
-use rustsec_query::VulnerabilityRef;
+use rustsec_values::Result;
 use rustsec_versions::Versions;
 use serde_json::Value;
 use std::alloc::{AllocError, Global};

@@ -1,15 +1,14 @@
 //! The settings of a report.
 
 ghost use Rattle.std.specs.Prelude.{◌≡◌, [], IfErr, IfOk, None, option_and_then};
-ghost use Rattle.rustsec_error.specs.Failure.{IsMemory};
+ghost use Rattle.rustsec_values.specs.Failure.{IsMemory};
 ghost use Rattle.rustsec_report.specs.Report.{is_wanted, query_of, wanted_kind};
 
-use rustsec_error::Result;
+use rustsec_database::Query;
 use rustsec_lock::Severity;
 use rustsec_lock::platforms::{Arch, OS};
-use rustsec_query::Query;
 use rustsec_texts::{Id, Informational, WarningKind};
-use rustsec_values::{ExactClone, Items};
+use rustsec_values::{ExactClone, Items, Result};
 use std::alloc::Global;
 
 /// The settings of a report.

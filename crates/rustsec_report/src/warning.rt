@@ -1,13 +1,12 @@
 //! Warnings about packages.
 
 ghost use Rattle.std.specs.Prelude.{◌≡◌, ◌↔◌, IfErr, IfOk, IsTrue};
-ghost use Rattle.rustsec_error.specs.Failure.{IsMemory};
+ghost use Rattle.rustsec_values.specs.Failure.{IsMemory};
 
 use rustsec_advisory::{Affected, Metadata};
-use rustsec_error::Result;
 use rustsec_lock::package::Package;
 use rustsec_texts::WarningKind;
-use rustsec_values::{ExactClone, exact_copy};
+use rustsec_values::{ExactClone, Result, exact_copy};
 use rustsec_versions::Versions;
 use std::alloc::{AllocError, Global};
 
@@ -46,6 +45,7 @@ impl Warning {
     ///
     /// `OutOfMemory` alone.
     pub fn new(
+        alloc: Global,
         kind: WarningKind,
         package: &Package,
         advisory: Option<Metadata>,
@@ -61,7 +61,7 @@ impl Warning {
         }) }
         ensures err { IfErr result IsMemory }
     {
-        let package = exact_copy(package)?;
+        let package = package.clone(alloc)?;
         Ok(Warning {
             kind,
             package,

@@ -1,17 +1,16 @@
 //! Warnings as references: nothing is copied.
 
 ghost use Rattle.std.specs.Prelude.{◌≡◌, IfErr, IfOk, option_map};
-ghost use Rattle.rustsec_error.specs.Failure.{IsMemory};
-ghost use Rattle.rustsec_query.specs.Pairs.{as_vulnerability};
+ghost use Rattle.rustsec_values.specs.Failure.{IsMemory};
+ghost use Rattle.rustsec_database.specs.Pairs.{as_vulnerability};
 ghost use Rattle.rustsec_report.specs.Report.{as_warning};
 
 use crate::warning::Warning;
 use rustsec_advisory::{Affected, Metadata};
 use rustsec_database::Pair;
-use rustsec_error::Result;
 use rustsec_lock::package::Package;
 use rustsec_texts::WarningKind;
-use rustsec_values::{ExactClone, Items, exact_copy};
+use rustsec_values::{ExactClone, Items, Result, exact_copy};
 use rustsec_versions::Versions;
 use std::alloc::Global;
 use std::marker::Model;
@@ -109,13 +108,13 @@ impl<'a> WarningRef<'a> {
     /// # Errors
     ///
     /// `OutOfMemory` alone.
-    pub fn to_warning(&self) -> Result<Warning>
+    pub fn to_warning(&self, alloc: Global) -> Result<Warning>
         ensures ok { IfOk result (λ w. w ≡ self.now) }
         ensures err { IfErr result IsMemory }
     {
         let advisory = copy_of(self.advisory)?;
         let affected = copy_of(self.affected)?;
         let versions = copy_of(self.versions)?;
-        Warning::new(self.kind, self.package, advisory, affected, versions)
+        Warning::new(alloc, self.kind, self.package, advisory, affected, versions)
     }
 }

@@ -1,18 +1,17 @@
 //! The warnings of informational advisories.
 
 ghost use Rattle.std.specs.Prelude.{◌≡◌, ◌++◌, ◌∷◌, [], IfErr, IfOk, OnOk, map};
-ghost use Rattle.rustsec_error.specs.Failure.{IsMemory};
-ghost use Rattle.rustsec_query.specs.Pairs.{as_vulnerability};
+ghost use Rattle.rustsec_values.specs.Failure.{IsMemory};
+ghost use Rattle.rustsec_database.specs.Pairs.{as_vulnerability};
 ghost use Rattle.rustsec_report.specs.Report.{gives, present, warnings_by_kind, warnings_of_kind};
-ghost use Rattle.rustsec_report.specs.Kinds.{with_kind};
+ghost use Rattle.rustsec_report.specs.Kinds.{with_kinds};
 
 use crate::settings::Settings;
 use crate::warning::Warning;
 use crate::warning_ref::{WarningRef, WarningsOfKind};
 use rustsec_database::Pair;
-use rustsec_error::Result;
 use rustsec_texts::WarningKind;
-use rustsec_values::{ClosedEnum, Items, SortedMap};
+use rustsec_values::{ClosedEnum, Items, Result, SortedMap};
 use std::alloc::{AllocError, Global};
 
 /// Warnings by their kinds. A kind without warnings may be missing.
@@ -57,7 +56,7 @@ fn push_kind<'a>(
 }
 
 /// Returns the warnings that settings ask for, kind by kind, from the pairs that count.
-pub(crate) fn warnings_of_pairs<'a>(
+pub(crate) fn warnings_by_kind<'a>(
     alloc: Global,
     pairs: &[Pair<'a>],
     settings: &Settings,
@@ -79,42 +78,20 @@ fn copies_of(alloc: Global, warnings: &[WarningRef<'_>]) -> Result<Items<Warning
 {
     let mut copies = Items::new(alloc);
     for warning in warnings {
-        copies.push(warning.to_warning()?)?;
+        copies.push(warning.to_warning(alloc)?)?;
     }
     Ok(copies)
 }
 
-/// Sets the warnings of a kind, unless there are none.
-fn add_kind(
-    alloc: Global,
-    warnings: &mut WarningInfo,
-    pairs: &[Pair<'_>],
-    settings: &Settings,
-    kind: WarningKind,
-) -> Result<()>
-    ensures ok { OnOk result (warnings.new
-        ≡ with_kind warnings.old kind (warnings_of_kind settings.now (map as_vulnerability pairs.now) kind)) }
+/// Returns copies of warnings by their kinds. Of two lists of one kind the later one is kept.
+pub(crate) fn copies_by_kind(alloc: Global, warnings: &[WarningsOfKind<'_>]) -> Result<WarningInfo>
+    ensures ok { IfOk result (λ ws. ws ≡ with_kinds [] warnings.now) }
     ensures err { IfErr result IsMemory }
 {
-    let list = warnings_of_kind(alloc, pairs, settings, kind)?;
-    if !list.is_empty() {
-        warnings.insert(kind, copies_of(alloc, list.as_slice())?)?;
+    let mut copies = SortedMap::new(alloc);
+    for of_kind in warnings {
+        let list = copies_of(alloc, of_kind.list.as_slice())?;
+        copies.insert(of_kind.kind, list)?;
     }
-    Ok(())
-}
-
-/// Returns copies of the warnings that settings ask for, kind by kind, from the pairs that count.
-pub(crate) fn warnings_by_kind(
-    alloc: Global,
-    pairs: &[Pair<'_>],
-    settings: &Settings,
-) -> Result<WarningInfo>
-    ensures ok { IfOk result (λ ws. ws ≡ warnings_by_kind settings.now (map as_vulnerability pairs.now)) }
-    ensures err { IfErr result IsMemory }
-{
-    let mut warnings = SortedMap::new(alloc);
-    for kind in WarningKind::all() {
-        add_kind(alloc, &mut warnings, pairs, settings, *kind)?;
-    }
-    Ok(warnings)
+    Ok(copies)
 }

@@ -8,7 +8,7 @@ use Rattle.rustsec_json.specs.Trees.{text_tree}
 use Rattle.rustsec_check.specs.Values.{FindingValue, YankedValue}
 use Rattle.rustsec_check_output.specs.CheckTree.{WrittenValue, kind_text, tenths_of}
 use Rattle.rustsec_report.proofs.PlainTrees.{AllPlain, Plain, list-plain, neither, object-plain}
-use Rattle.rustsec_places.specs.declared.place.Place.{Place}
+use Rattle.rustsec_toml.specs.declared.place.Place.{Place}
 use Rattle.rustsec_sarif.specs.SarifTree.{FileValue, SaidValue, address_entries, all_said, artifact_entries, driver_entries, file_of, fingerprint_entries, help_words, location_tree, log_entries, message_tree, package_place, physical_entries, properties_entries, properties_tree, region_entries, result_entries, result_tree, rule_entries, rule_tree, rule_trees, ruled, run_entries, run_tree, sarif_tree, severity_entries, tool_tree, yanked_entries, yanked_id, yanked_of, yanked_rule_tree, yanked_rules}
 use Rattle.rustsec_sarif.specs.SarifWords.{long_words, short_words}
 

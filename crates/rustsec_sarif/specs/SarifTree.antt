@@ -10,8 +10,8 @@ use Rattle.rustsec_json.specs.Trees.{list_tree, text_tree}
 use Rattle.rustsec_report.specs.Trees.{Entry, object_of}
 use Rattle.rustsec_check.specs.Values.{FindingValue, YankedValue}
 use Rattle.rustsec_check_output.specs.CheckTree.{WrittenValue, kind_text, score_text, tenths_of}
-use Rattle.rustsec_places.specs.Places.{beginning}
-use Rattle.rustsec_places.specs.declared.place.Place.{Place}
+use Rattle.rustsec_toml.specs.Places.{beginning}
+use Rattle.rustsec_toml.specs.declared.place.Place.{Place}
 use Rattle.rustsec_sarif.specs.SarifWords.{address_uri, address_words, finding_words, fingerprint, level, long_words, patched_words, path_uri, short_words, yanked_words}
 
 -- ---- the advisories of findings

@@ -1,11 +1,10 @@
 //! Builds and writes the log of a check.
 
-ghost use Rattle.std.specs.Prelude.{◌≡◌, IfErr, IfOk, OnOk, false, map, string_bytes};
+ghost use Rattle.std.specs.Prelude.{◌≡◌, IfErr, IfOk, OnOk, map, string_bytes};
 ghost use Rattle.serde_json.specs.View.{members_view, view};
-ghost use Rattle.serde_json.specs.Written.{has_float};
-ghost use Rattle.rustsec_error.specs.Failure.{IsMemory};
+ghost use Rattle.rustsec_values.specs.Failure.{IsMemory};
 ghost use Rattle.rustsec_report.specs.Trees.{object_of, with_members};
-ghost use Rattle.rustsec_check_output.specs.CheckTree.{tree_line};
+ghost use Rattle.rustsec_json.specs.Lines.{tree_line};
 ghost use Rattle.rustsec_sarif.specs.SarifTree.{driver_entries, log_entries, run_entries, run_tree, sarif_tree, tool_tree, yanked_of};
 
 use crate::firsts::firsts;
@@ -15,9 +14,10 @@ use crate::rules::rule_trees;
 use crate::said::File;
 use rustsec_check::{Finding, Yanked};
 use rustsec_check_output::Written;
-use rustsec_error::Result;
-use rustsec_places::Place;
+use rustsec_json::tree_line;
 use rustsec_report::{Members, put_tree};
+use rustsec_toml::Place;
+use rustsec_values::Result;
 use serde_json::Value;
 use std::alloc::{AllocError, Global};
 
@@ -121,15 +121,6 @@ pub fn sarif_tree(
     let mut members = Members::new(alloc);
     put_log(alloc, &mut members, run)?;
     Ok(Value::from(members))
-}
-
-/// Returns the text of a tree on one line, with a line feed at its end.
-fn tree_line(alloc: Global, tree: &Value) -> std::result::Result<String, AllocError>
-    ensures { IfOk result (λ t. has_float (view tree.now) ≡ false → string_bytes t ≡ tree_line (view tree.now)) }
-{
-    let mut text = tree.to_string(alloc)?;
-    text.push_str("\n")?;
-    Ok(text)
 }
 
 /// Returns the log of a check of the lockfile at a path, on one line with a line feed at its end.

@@ -14,8 +14,8 @@ use crate::said::{File, Said};
 use crate::uri::path_uri;
 use rustsec_check::{Finding, Yanked};
 use rustsec_lock::package::Package;
-use rustsec_places::Place;
 use rustsec_report::{Members, put_tree};
+use rustsec_toml::Place;
 use serde_json::Value;
 use std::alloc::{AllocError, Global};
 

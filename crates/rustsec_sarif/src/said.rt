@@ -1,7 +1,7 @@
 //! What is said about a package, and about the lockfile that has it.
 
 use rustsec_lock::package::Package;
-use rustsec_places::Place;
+use rustsec_toml::Place;
 use std::marker::Model;
 
 /// The lockfile that results are about: its path, the places of the headers in its text, and how many packages it has.

@@ -2,7 +2,7 @@
 
 ghost use Rattle.std.specs.Prelude.{◌≡◌, IfErr, IfOk, count_by};
 ghost use Rattle.std.specs.Fmt.{decimal};
-ghost use Rattle.rustsec_error.specs.Failure.{IsMemory};
+ghost use Rattle.rustsec_values.specs.Failure.{IsMemory};
 ghost use Rattle.rustsec_stats.specs.Stats.{count_of, stats_of, table_of};
 ghost use Rattle.rustsec_stats.specs.Years.{is_of_year, years};
 
@@ -11,8 +11,7 @@ use crate::rows::{CollectionRow, KindRow, Row, WithdrawalRow};
 use crate::severities::SeverityRow;
 use crate::years::{count_in, years};
 use rustsec_advisory::Advisory;
-use rustsec_error::Result;
-use rustsec_values::{ClosedEnum, Items, Text};
+use rustsec_values::{ClosedEnum, Items, Result, Text};
 use std::alloc::{AllocError, Global};
 
 /// A row of a table.

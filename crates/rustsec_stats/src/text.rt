@@ -3,11 +3,11 @@
 ghost use Rattle.std.specs.Prelude.{◌≡◌, ◌++◌, ◌-◌, IfErr, IfOk, OnOk, codes, string_bytes};
 ghost use Rattle.std.specs.Fmt.{decimal};
 ghost use Rattle.std.specs.List.{repeat};
-ghost use Rattle.rustsec_error.specs.Failure.{IsMemory};
+ghost use Rattle.rustsec_values.specs.Failure.{IsMemory};
 ghost use Rattle.rustsec_stats.specs.StatsText.{bar, bar_width, count_line, first_tables, greatest, last_tables, row_line, row_lines, spaces, stats_text, table_text};
 
 use crate::stats::{Count, Stats};
-use rustsec_error::Result;
+use rustsec_values::Result;
 use std::alloc::{AllocError, Global};
 
 /// Returns the greatest count of a table.

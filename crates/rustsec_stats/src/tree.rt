@@ -2,12 +2,12 @@
 
 ghost use Rattle.std.specs.Prelude.{◌≡◌, [], ◌∷◌, IfErr, IfOk, OnOk};
 ghost use Rattle.serde_json.specs.View.{members_view, view};
-ghost use Rattle.rustsec_error.specs.Failure.{IsMemory};
+ghost use Rattle.rustsec_values.specs.Failure.{IsMemory};
 ghost use Rattle.rustsec_report.specs.Trees.{with_members};
 ghost use Rattle.rustsec_stats.specs.StatsTree.{count_entries, counts_tree, stats_entries, stats_tree};
 
 use crate::stats::{Count, Stats};
-use rustsec_error::Result;
+use rustsec_values::Result;
 use serde_json::{Map, Value};
 use std::alloc::{AllocError, Global};
 

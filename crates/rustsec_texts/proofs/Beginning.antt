@@ -1,8 +1,8 @@
 -- The message for a text that does not begin as an advisory file.
 use Rattle.std.proofs.Common.{◌≡◌, ◌⊎◌, inl, inr, List, None, ℕ, ap, ◌∙◌}
 use Rattle.rustsec_values.specs.Beginnings.{IsBeginning}
-use Rattle.rustsec_error.specs.declared.error.ErrorKind.TheVariants as kind
-use Rattle.rustsec_error.specs.Failure.{Failure, IsRefusal, out_of_memory}
+use Rattle.rustsec_values.specs.declared.error.ErrorKind.TheVariants as kind
+use Rattle.rustsec_values.specs.Failure.{Failure, IsRefusal, out_of_memory}
 use Rattle.rustsec_texts.specs.Parts.{ShowsBeginning, start_message}
 
 pub shows : (text b message : List ℕ) (e : Failure) → IsBeginning 20 text b → message ≡ start_message b

@@ -5,5 +5,4 @@ pub mod Dashes
 pub mod FileParts
 pub mod Numerals
 pub mod OtherNames
-pub mod PlainAddresses
 pub mod Slices

@@ -10,5 +10,4 @@ pub mod Numbers
 pub mod Parts
 pub mod Paths
 pub mod PatternCuts
-pub mod PlainAddresses
 pub mod WarningKinds

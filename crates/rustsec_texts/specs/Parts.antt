@@ -2,7 +2,7 @@
 use Rattle.std.specs.Prelude.{◌≡◌, ℕ, List, ◌++◌, codes, Option, Some}
 use Rattle.std.specs.Str.{trim, trim_end, trim_start}
 use Rattle.rustsec_values.specs.Reading.{◌>>=◌}
-use Rattle.rustsec_error.specs.Failure.{Failure}
+use Rattle.rustsec_values.specs.Failure.{Failure}
 use Rattle.rustsec_values.specs.Beginnings.{IsBeginning}
 use Rattle.rustsec_texts.specs.PatternCuts.{IsFirstCut, after_prefix, cut_at}
 

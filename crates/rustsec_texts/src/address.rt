@@ -6,11 +6,11 @@ ghost use Rattle.std.specs.Cmp.Lexicographic.{bytes_decides, nat_list_eq_equiv, 
 ghost use Rattle.url.specs.Parser.{parse_url};
 ghost use Rattle.url.specs.Parts.{serialize};
 ghost use Rattle.rustsec_texts.specs.Addresses.{address_of, unless_no_room};
-ghost use Rattle.rustsec_error.specs.Failure.{IsMemory, IsRefusal};
+ghost use Rattle.rustsec_values.specs.Failure.{IsMemory, IsRefusal};
 
-use crate::plain_address::is_plain;
-use rustsec_error::{Error, ErrorKind, FromText, Result, text_error_with_cause};
-use rustsec_values::{ExactClone, ExactEq, Text};
+use rustsec_values::{
+    Error, ErrorKind, ExactClone, ExactEq, FromText, Result, Text, text_error_with_cause,
+};
 use std::alloc::{AllocError, Global};
 use std::convert::AsStr;
 use std::fmt;
@@ -65,41 +65,29 @@ fn read_from(url: Url, text: &str) -> Address
     }
 }
 
-/// Parses an address by the URL Standard's parser.
-fn parsed(alloc: Global, text: &str) -> Result<Address>
-    ensures ok { IfOk result (λ a. address_of text.now ≡ Some a) }
-    ensures err { IfErr result (IsRefusal ErrorKind.Parse (address_of text.now ≡ None)) }
-{
-    let parsed = Url::parse(alloc, text);
-    let reason = reason(alloc, &parsed)?;
-    match unless_no_room(parsed)? {
-        Some(url) => Ok(read_from(url, text)),
-        None => Err(text_error_with_cause(
-            alloc,
-            "not an address",
-            text,
-            "an absolute URL",
-            &reason,
-        )),
-    }
-}
-
 impl Address {
-    /// Parses an address (URL Standard). A plain one is kept as it is written; the crate `url` parses any other.
+    /// Parses an address (URL Standard).
     ///
     /// # Errors
     ///
     /// `Parse` if the URL Standard's parser refuses the text; the cause is its reason. Else `OutOfMemory`. An address of 4 GB
-    /// or more that is not plain is `OutOfMemory` too, since a `Url` cannot hold it.
+    /// or more is `OutOfMemory` too, since a `Url` cannot hold it.
     pub fn from_str(alloc: Global, text: &str) -> Result<Address>
         ensures ok { IfOk result (λ a. address_of text.now ≡ Some a) }
         ensures err { IfErr result (IsRefusal ErrorKind.Parse (address_of text.now ≡ None)) }
     {
-        if !is_plain(text) {
-            return parsed(alloc, text);
+        let parsed = Url::parse(alloc, text);
+        let reason = reason(alloc, &parsed)?;
+        match unless_no_room(parsed)? {
+            Some(url) => Ok(read_from(url, text)),
+            None => Err(text_error_with_cause(
+                alloc,
+                "not an address",
+                text,
+                "an absolute URL",
+                &reason,
+            )),
         }
-        let text = Text::from_str(alloc, text)?;
-        Ok(Address { text })
     }
 
     /// Returns the address as a `Url`.

@@ -2,12 +2,11 @@
 
 ghost use Rattle.std.specs.Prelude.{◌≡◌, ◌⊎◌, IfErr, IfOk, List, OnErr, ℕ, None, Some};
 ghost use Rattle.rustsec_values.specs.ClosedTables.{from_name};
-ghost use Rattle.rustsec_error.specs.Failure.{IsMemory};
+ghost use Rattle.rustsec_values.specs.Failure.{IsMemory};
 ghost use Rattle.rustsec_texts.specs.declared.category.Category.TheVariants as category;
 ghost use Rattle.rustsec_texts.specs.Categories.{categories, category_cmp, category_name, category_of};
 
-use rustsec_error::{FromText, Result};
-use rustsec_values::{ExactClone, ExactEq, StatedOrder, Text};
+use rustsec_values::{ExactClone, ExactEq, FromText, Result, StatedOrder, Text};
 use std::alloc::{AllocError, Global};
 use std::fmt;
 

@@ -7,12 +7,11 @@ ghost use Rattle.std.specs.Cmp.Lexicographic.{bytes_decides, nat_list_cmp_total,
 ghost use Rattle.std.specs.Cmp.Rules.{hashing};
 ghost use Rattle.std.specs.Hash as fed;
 ghost use Rattle.std.specs.Ordering.{nat_cmp};
-ghost use Rattle.rustsec_error.specs.Failure.{IsMemory, IsRefusal};
+ghost use Rattle.rustsec_values.specs.Failure.{IsMemory, IsRefusal};
 ghost use Rattle.rustsec_texts.specs.Dates.{Day, date_of, day_numbers, day_of, is_real_day};
 
 use crate::numbers::{digits, three_parts};
-use rustsec_error::{ErrorKind, FromText, Result, text_error};
-use rustsec_values::{ExactClone, ExactEq, Text};
+use rustsec_values::{ErrorKind, ExactClone, ExactEq, FromText, Result, Text, text_error};
 use std::alloc::Global;
 use std::cmp::Ordering;
 use std::convert::AsStr;

@@ -7,12 +7,11 @@ ghost use Rattle.std.specs.Hash as fed;
 ghost use Rattle.std.specs.Iterator.Adapters.{IterYieldsInOrder};
 ghost use Rattle.std.specs.List.{list_all};
 ghost use Rattle.std.specs.Slice.Iter.{iter_rest};
-ghost use Rattle.rustsec_error.specs.Failure.{IsMemory, IsRefusal};
+ghost use Rattle.rustsec_values.specs.Failure.{IsMemory, IsRefusal};
 ghost use Rattle.rustsec_texts.specs.Paths.{IsPathOf, between_colons, is_identifier, is_path, path_eq, path_equiv, path_of, path_order, path_text, path_ties, path_total};
 
 use crate::identifier::Identifier;
-use rustsec_error::{ErrorKind, FromText, Result, text_error};
-use rustsec_values::{ExactClone, ExactEq, Items};
+use rustsec_values::{ErrorKind, ExactClone, ExactEq, FromText, Items, Result, text_error};
 use std::alloc::Global;
 use std::cmp::Ordering;
 use std::hash::{Hash, Hasher};

@@ -3,15 +3,14 @@
 ghost use Rattle.std.specs.Prelude.{◌≡◌, ◌≢◌, IfErr, IfOk, None, OnErr, Some, option_map, refl, string_bytes};
 ghost use Rattle.std.specs.Cmp.{partial_equiv_from_equiv, po};
 ghost use Rattle.std.specs.Hash as fed;
-ghost use Rattle.rustsec_error.specs.Failure.{IsMemory, IsOfKind, IsRefusal};
+ghost use Rattle.rustsec_values.specs.Failure.{IsMemory, IsOfKind, IsRefusal};
 ghost use Rattle.rustsec_texts.specs.IdOrder.{id_decides, id_eq, id_equiv, id_fed, id_order, id_ties, id_total, kind_eq};
 ghost use Rattle.rustsec_texts.specs.Ids.{IdValue, id_of, id_with, id_year, is_placeholder, numerical_part, page_of, page_of_kind, placeholder};
 ghost use Rattle.rustsec_texts.specs.declared.id_kind.IdKind.TheVariants as variant;
 
 use crate::id_kind::IdKind;
 use crate::numbers::{number, three_parts};
-use rustsec_error::{Error, ErrorKind, FromText, Result, text_error};
-use rustsec_values::{ExactClone, ExactEq, Text};
+use rustsec_values::{Error, ErrorKind, ExactClone, ExactEq, FromText, Result, Text, text_error};
 use std::alloc::Global;
 use std::cmp::Ordering;
 use std::convert::AsStr;

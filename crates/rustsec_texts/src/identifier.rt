@@ -2,11 +2,12 @@
 
 ghost use Rattle.std.specs.Prelude.{◌≡◌, IfErr, IfOk, None, Some};
 ghost use Rattle.std.specs.List.{list_all};
-ghost use Rattle.rustsec_error.specs.Failure.{IsMemory, IsRefusal};
+ghost use Rattle.rustsec_values.specs.Failure.{IsMemory, IsRefusal};
 ghost use Rattle.rustsec_texts.specs.Paths.{identifier_of, is_first, is_identifier, is_later};
 
-use rustsec_error::{ErrorKind, FromText, Result, text_error};
-use rustsec_values::{ExactClone, ExactEq, StatedOrder, Text};
+use rustsec_values::{
+    ErrorKind, ExactClone, ExactEq, FromText, Result, StatedOrder, Text, text_error,
+};
 use std::alloc::Global;
 use std::convert::AsStr;
 use std::fmt;

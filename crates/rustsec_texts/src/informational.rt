@@ -2,13 +2,12 @@
 
 ghost use Rattle.std.specs.Prelude.{◌≡◌, ◌⊎◌, ◌↔◌, IsTrue, IfErr, IfOk, List, OnErr, ℕ, None, Some};
 ghost use Rattle.rustsec_values.specs.ClosedTables.{from_name};
-ghost use Rattle.rustsec_error.specs.Failure.{IsMemory};
+ghost use Rattle.rustsec_values.specs.Failure.{IsMemory};
 ghost use Rattle.rustsec_texts.specs.declared.informational.Informational.TheVariants as informational;
 ghost use Rattle.rustsec_texts.specs.Informational.{informational_cmp, informational_kinds, informational_name, informational_of, is_other_kind, kind_of_warnings};
 
 use crate::warning_kind::WarningKind;
-use rustsec_error::{FromText, Result};
-use rustsec_values::{ExactClone, ExactEq, StatedOrder, Text};
+use rustsec_values::{ExactClone, ExactEq, FromText, Result, StatedOrder, Text};
 use std::alloc::{AllocError, Global};
 use std::fmt;
 

@@ -1,10 +1,9 @@
 //! Keywords of advisories.
 
 ghost use Rattle.std.specs.Prelude.{◌≡◌, IfErr, IfOk};
-ghost use Rattle.rustsec_error.specs.Failure.{IsMemory};
+ghost use Rattle.rustsec_values.specs.Failure.{IsMemory};
 
-use rustsec_error::{FromText, Result};
-use rustsec_values::{ExactClone, ExactEq, StatedOrder, Text};
+use rustsec_values::{ExactClone, ExactEq, FromText, Result, StatedOrder, Text};
 use std::alloc::Global;
 use std::convert::AsStr;
 use std::fmt;

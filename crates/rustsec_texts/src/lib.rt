@@ -14,7 +14,6 @@ mod keyword;
 mod license;
 mod numbers;
 mod parts;
-mod plain_address;
 mod warning_kind;
 
 pub use crate::address::Address;

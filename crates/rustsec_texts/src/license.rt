@@ -2,12 +2,11 @@
 
 ghost use Rattle.std.specs.Prelude.{◌≡◌, ◌⊎◌, IfErr, IfOk, List, OnErr, ℕ, None, Some};
 ghost use Rattle.rustsec_values.specs.ClosedTables.{from_name};
-ghost use Rattle.rustsec_error.specs.Failure.{IsMemory};
+ghost use Rattle.rustsec_values.specs.Failure.{IsMemory};
 ghost use Rattle.rustsec_texts.specs.declared.license.License.TheVariants as license;
 ghost use Rattle.rustsec_texts.specs.Licenses.{default_license, license_name, license_of, licenses};
 
-use rustsec_error::{FromText, Result};
-use rustsec_values::{ExactClone, ExactEq, Text};
+use rustsec_values::{ExactClone, ExactEq, FromText, Result, Text};
 use std::alloc::{AllocError, Global};
 use std::fmt;
 

@@ -1,12 +1,11 @@
 //! The parts of an advisory file.
 
 ghost use Rattle.std.specs.Prelude.{◌≡◌, ◌↔◌, IfErr, IfOk, IfSome, MatchOption, Some, None};
-ghost use Rattle.rustsec_error.specs.Failure.{IsRefusal};
+ghost use Rattle.rustsec_values.specs.Failure.{IsRefusal};
 ghost use Rattle.rustsec_texts.specs.PatternCuts.{IsSliceOf, after_prefix, cut_at};
 ghost use Rattle.rustsec_texts.specs.Parts.{AreParts, FileParts, ShowsBeginning, closing, opening, parts_of};
 
-use rustsec_error::{Error, ErrorKind, Result, text_error};
-use rustsec_values::beginning_of;
+use rustsec_values::{Error, ErrorKind, Result, beginning_of, text_error};
 use std::alloc::Global;
 
 /// The parts of an advisory file, each a slice of its text.

@@ -1,11 +1,13 @@
 //! Kinds of warnings.
 
 ghost use Rattle.std.specs.Prelude.{◌≡◌, IfErr, IfOk, Some, None};
-ghost use Rattle.rustsec_error.specs.Failure.{IsRefusal};
+ghost use Rattle.rustsec_values.specs.Failure.{IsRefusal};
 ghost use Rattle.rustsec_texts.specs.WarningKinds.{warning_kind_cmp, warning_kind_name, warning_kind_of};
 
-use rustsec_error::{ErrorKind, FromText, Result, text_error};
-use rustsec_values::{ClosedEnum, ExactClone, ExactEq, StatedOrder, from_name};
+use rustsec_values::{
+    ClosedEnum, ErrorKind, ExactClone, ExactEq, FromText, Result, StatedOrder, from_name,
+    text_error,
+};
 use std::alloc::Global;
 use std::fmt;
 

@@ -1,6 +1,7 @@
 -- The values at the keys of a table of a TOML document.
-use Rattle.std.specs.Prelude.{ℕ, List, [], ◌∷◌, Option, Some, None}
+use Rattle.std.specs.Prelude.{◌==◌, if◌then◌else◌, ℕ, List, [], ◌∷◌, Option, Some, None}
 use Rattle.toml.specs.Data.{Data, Items, no_items, item, Members, get_member, as_array, as_str}
+use Rattle.rustsec_toml.specs.Places.{skip_mark}
 use Rattle.rustsec_values.specs.Reading.{◌>>=◌, read_all, read_optional, value_or}
 
 -- the items of an array as a list
@@ -27,3 +28,7 @@ optional f key t = read_optional f (get_member key t)
 -- the value at a key, or its default
 abbrev pub defaulted : {A : Type 0} → A → (Data → Option A) → List ℕ → Members → Option A
 defaulted default f key t = value_or default f (get_member key t)
+
+-- the text that begins in a line of a file, without the byte order mark of the file (RFC 3629, section 6)
+abbrev pub unmarked : ℕ → List ℕ → List ℕ
+unmarked line text = if line == 1 then skip_mark text else text

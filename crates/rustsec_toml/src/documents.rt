@@ -1,15 +1,16 @@
 //! The document of a text, and where its tables and keys are.
 
-ghost use Rattle.std.specs.Prelude.{◌≡◌, IfErr, IfOk, None, Some};
+ghost use Rattle.std.specs.Prelude.{◌≡◌, ◌≤◌, ◌++◌, ℕ, IfErr, IfOk, IfSome, List, None, Some, [], length};
 ghost use Rattle.toml.specs.Parse.{parse_document};
 ghost use Rattle.toml.specs.View.{table_view};
-ghost use Rattle.rustsec_error.specs.Failure.{IsMemory, IsOfKind, IsRefusal};
+ghost use Rattle.rustsec_values.specs.Failure.{IsMemory, IsOfKind, IsRefusal};
+ghost use Rattle.rustsec_toml.specs.Places.{beginning, from_line, place_past};
+ghost use Rattle.rustsec_toml.specs.Fields.{unmarked};
 
 use crate::lines::shown_line;
 use crate::statements::{Found, element_at, header_at, key_at, key_of_body, key_of_inline};
-use rustsec_error::{Error, ErrorKind, Result};
-use rustsec_places::{Place, skip_mark};
-use rustsec_plain::plain_document;
+use crate::{Place, skip_mark};
+use rustsec_values::{Error, ErrorKind, Result};
 use std::alloc::{AllocError, Global};
 use toml::Table;
 
@@ -102,7 +103,13 @@ fn placed(
 
 impl<'a> TablePlace<'a> {
     /// Returns the place of a table that is in no known text.
-    pub fn unknown() -> TablePlace<'static> {
+    pub fn unknown() -> TablePlace<'static>
+        ensures text { result.text.now ≡ [] }
+        ensures path { result.path.now ≡ [] }
+        ensures index { result.index ≡ None }
+        ensures element { result.element ≡ None }
+        ensures line { result.line ≡ 1 }
+    {
         TablePlace {
             text: "",
             path: &[],
@@ -113,7 +120,13 @@ impl<'a> TablePlace<'a> {
     }
 
     /// Returns the place of a whole document.
-    pub fn whole(text: &'a str) -> TablePlace<'a> {
+    pub fn whole(text: &'a str) -> TablePlace<'a>
+        ensures text { result.text.now ≡ text.now }
+        ensures path { result.path.now ≡ [] }
+        ensures index { result.index ≡ None }
+        ensures element { result.element ≡ None }
+        ensures line { result.line ≡ 1 }
+    {
         TablePlace {
             text,
             path: &[],
@@ -124,7 +137,13 @@ impl<'a> TablePlace<'a> {
     }
 
     /// Returns the place of another table of the same document, to which these keys lead.
-    pub fn at(self, path: &'a [&'a str]) -> TablePlace<'a> {
+    pub fn at(self, path: &'a [&'a str]) -> TablePlace<'a>
+        ensures text { result.text.now ≡ self.entry.text.now }
+        ensures path { result.path.now ≡ path.now }
+        ensures index { result.index ≡ None }
+        ensures element { result.element ≡ None }
+        ensures line { result.line ≡ self.entry.line }
+    {
         TablePlace {
             text: self.text,
             path,
@@ -135,7 +154,13 @@ impl<'a> TablePlace<'a> {
     }
 
     /// Returns the place of an element of the array at a key of this table.
-    pub fn at_element(self, index: usize) -> TablePlace<'a> {
+    pub fn at_element(self, index: usize) -> TablePlace<'a>
+        ensures text { result.text.now ≡ self.entry.text.now }
+        ensures path { result.path.now ≡ self.entry.path.now }
+        ensures index { result.index ≡ self.entry.index }
+        ensures element { result.element ≡ Some index }
+        ensures line { result.line ≡ self.entry.line }
+    {
         TablePlace {
             text: self.text,
             path: self.path,
@@ -146,7 +171,9 @@ impl<'a> TablePlace<'a> {
     }
 
     /// Returns the text without the byte order mark of its file (RFC 3629, section 6), which only its first line can have.
-    fn unmarked(self) -> &'a str {
+    fn unmarked(self) -> &'a str
+        ensures { result.now ≡ unmarked self.entry.line self.entry.text.now }
+    {
         if self.line == 1 {
             skip_mark(self.text)
         } else {
@@ -154,9 +181,13 @@ impl<'a> TablePlace<'a> {
         }
     }
 
-    /// Returns the place in the text of a part that begins there and goes to the end of the text. A byte order mark at the
-    /// beginning of the file takes no column.
-    pub fn place_of(self, part: &str) -> Place {
+    /// Returns the place in the text of a part that begins there and goes to the end of the text: its line and column, each
+    /// from 1 on. A byte order mark at the beginning of the file takes no column. A part that is not shorter than the text
+    /// begins with it.
+    pub fn place_of(self, part: &str) -> Place
+        ensures inside { (before : List ℕ) → unmarked self.entry.line self.entry.text.now ≡ before ++ part.now → result ≡ place_past before }
+        ensures whole { length (unmarked self.entry.line self.entry.text.now) ≤ length part.now → result ≡ beginning }
+    {
         Place::of_end(self.unmarked(), part)
     }
 
@@ -283,8 +314,8 @@ fn document_error(
     }
 }
 
-/// Parses a document (TOML 1.1.0): one of plain lines by `rustsec_plain`, any other by `toml`. For messages, `name` says
-/// what the text is, and `at` where it is: the text ends with the text of that place.
+/// Parses a document (TOML 1.1.0). For messages, `name` says what the text is, and `at` where it is: the text ends with the
+/// text of that place.
 ///
 /// # Errors
 ///
@@ -293,9 +324,6 @@ pub fn document(alloc: Global, text: &str, at: TablePlace<'_>, name: &str) -> Re
     ensures ok { IfOk result (λ t. parse_document text.now ≡ Some (table_view t)) }
     ensures err { IfErr result (IsRefusal ErrorKind.Parse (parse_document text.now ≡ None)) }
 {
-    if let Some(table) = plain_document(alloc, text)? {
-        return Ok(table);
-    }
     match toml::table_from_str(alloc, text) {
         Ok(table) => Ok(table),
         Err(e) if e.is_memory() => Err(Error::from(AllocError)),

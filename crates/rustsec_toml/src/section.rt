@@ -5,11 +5,10 @@ ghost use Rattle.toml.specs.Data.{as_array, as_bool, as_str, as_table, get_membe
 ghost use Rattle.toml.specs.View.{array_view, table_view, view};
 ghost use Rattle.rustsec_toml.specs.Fields.{defaulted, every, list_of, optional, required, text};
 ghost use Rattle.rustsec_values.specs.Reading.{read_all};
-ghost use Rattle.rustsec_error.specs.Failure.{IsMemory, IsOfKind, IsRefusal};
+ghost use Rattle.rustsec_values.specs.Failure.{IsMemory, IsOfKind, IsRefusal};
 
 use crate::documents::TablePlace;
-use rustsec_error::{Error, ErrorKind, FromText, Result, text_error, with_place};
-use rustsec_values::Items;
+use rustsec_values::{Error, ErrorKind, FromText, Items, Result, text_error, with_place};
 use std::alloc::{AllocError, Global};
 use std::fmt;
 use std::fmt::Formatter;
@@ -81,7 +80,15 @@ fn texts<T: FromText>(
 
 impl<'a> Section<'a> {
     /// Returns the same section, for messages about an element of the array at a key.
-    pub fn at_element(self, index: usize) -> Section<'a> {
+    pub fn at_element(self, index: usize) -> Section<'a>
+        ensures table { result.table.now ≡ self.entry.table.now }
+        ensures name { result.name.now ≡ self.entry.name.now }
+        ensures text { result.place.text.now ≡ self.entry.place.text.now }
+        ensures path { result.place.path.now ≡ self.entry.place.path.now }
+        ensures index { result.place.index ≡ self.entry.place.index }
+        ensures element { result.place.element ≡ Some index }
+        ensures line { result.place.line ≡ self.entry.place.line }
+    {
         Section {
             table: self.table,
             name: self.name,

@@ -1,6 +1,6 @@
 //! Where the keys of a document are. The document was read before, so it is known to be TOML.
 
-use rustsec_places::skip_mark;
+use crate::skip_mark;
 use std::alloc::{AllocError, Global};
 use toml_parser::text::{first, skip_blank, skip_ws};
 use toml_parser::{Key, ParseError, dotted_key, quoted, starts_string};

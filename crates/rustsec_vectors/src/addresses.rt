@@ -2,9 +2,9 @@
 //! parses or refuses. The expected texts are those of `URL` of Node.js 20.
 
 use crate::rows::is_copied;
-use rustsec_error::ErrorKind;
 use rustsec_fixtures::kind_of;
 use rustsec_texts::Address;
+use rustsec_values::ErrorKind;
 use std::alloc::Global;
 use std::test::Fail;
 
@@ -79,7 +79,7 @@ fn prints(alloc: Global, text: &str, printed: &str) -> Result<bool, Fail> {
 }
 
 #[test]
-fn plain_addresses_agree_kept(rt: HostRuntime) -> Result<(), Fail> {
+fn addresses_kept(rt: HostRuntime) -> Result<(), Fail> {
     for text in KEPT.split_whitespace() {
         assert!(rt; prints(rt.alloc(), text, text)?, "of {text}");
     }
@@ -87,7 +87,7 @@ fn plain_addresses_agree_kept(rt: HostRuntime) -> Result<(), Fail> {
 }
 
 #[test]
-fn plain_addresses_agree_changed(rt: HostRuntime) -> Result<(), Fail> {
+fn addresses_changed(rt: HostRuntime) -> Result<(), Fail> {
     for row in CHANGED.lines() {
         let (text, printed) = row.split_once(" -> ").ok_or("no printed text")?;
         assert!(rt; prints(rt.alloc(), text, printed)?, "of {text:?}");
@@ -102,7 +102,7 @@ fn is_refused(alloc: Global, text: &str) -> bool {
 }
 
 #[test]
-fn plain_addresses_agree_refused(rt: HostRuntime) -> Result<(), Fail> {
+fn addresses_refused(rt: HostRuntime) -> Result<(), Fail> {
     for text in REFUSED.split_whitespace() {
         assert!(rt; is_refused(rt.alloc(), text), "of {text}");
     }

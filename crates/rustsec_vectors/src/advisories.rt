@@ -2,11 +2,12 @@
 //! have the texts that are refused.
 
 use crate::rows::{exact_field, is_copied, refuses};
-use rustsec_advisory::{Advisory, Affected, Functions, Metadata};
+use rustsec_advisory::{Advisory, Affected, Metadata};
 use rustsec_fixtures::{VALID, acceptance, acceptance_with, changed, version};
 use rustsec_lock::platforms::{Arch, OS};
 use rustsec_lock::{Cvss, Severity};
 use rustsec_texts::{FunctionPath, License, Parts};
+use rustsec_versions::Requirements;
 use semver::VersionReq;
 use std::alloc::Global;
 use std::fmt::Display;
@@ -273,9 +274,9 @@ fn advisory_prefixes(rt: HostRuntime) -> Result<(), Fail> {
 const FUNCTIONS: &str =
     "[affected.functions]\n\"base::b\" = [\"< 2.0.0\"]\n\"base::a\" = [\"< 1.0.0\", \">= 3.0.0\"]";
 
-fn count_at(alloc: Global, functions: &Functions, path: &str) -> Result<usize, Fail> {
+fn count_at(alloc: Global, affected: &Affected, path: &str) -> Result<usize, Fail> {
     let path = FunctionPath::from_str(alloc, path)?;
-    match functions.get(&path) {
+    match affected.functions.get(&path) {
         Some(reqs) => Ok(reqs.as_slice().len()),
         None => Ok(0),
     }
@@ -287,9 +288,7 @@ fn count_of_two(alloc: Global, path: &str) -> Result<usize, Fail> {
     let text = changed(alloc, VALID, own, FUNCTIONS)?;
     let advisory = Advisory::from_str(alloc, &text)?;
     match &advisory.affected {
-        Some(affected) if affected.functions.len() == 2 => {
-            count_at(alloc, &affected.functions, path)
-        }
+        Some(affected) if affected.functions.len() == 2 => count_at(alloc, affected, path),
         _ => Err(Fail::from("other functions")),
     }
 }
@@ -300,6 +299,31 @@ fn functions_by_path(rt: HostRuntime) -> Result<(), Fail> {
     assert!(rt; count_of_two(rt.alloc(), "base::b")? == 1);
     assert!(rt; count_of_two(rt.alloc(), "base::c")? == 0);
     assert!(rt; count_of_two(rt.alloc(), "base::a::b")? == 0);
+    Ok(())
+}
+
+/// Returns the paths of functions that were inserted one after another, with a space after each.
+fn inserted(alloc: Global, texts: &[&str]) -> Result<String, Fail> {
+    let mut affected = Affected::default(alloc);
+    for text in texts {
+        let path = FunctionPath::from_str(alloc, text)?;
+        affected.functions.insert(path, Requirements::new(alloc))?;
+    }
+    let mut printed = String::new(alloc);
+    for (path, _) in &affected.functions {
+        let path = path.to_string(alloc)?;
+        printed.push_str(&path)?;
+        printed.push_str(" ")?;
+    }
+    Ok(printed)
+}
+
+// Paths are compared identifier by identifier, so `base0::b` is not among those of `base`.
+#[test]
+fn functions_inserted(rt: HostRuntime) -> Result<(), Fail> {
+    let texts = &["base::b", "base0::b", "base::a", "base::b"][..];
+    let printed = inserted(rt.alloc(), texts)?;
+    assert!(rt; printed.as_str() == "base::a base::b base0::b ");
     Ok(())
 }
 

@@ -1,9 +1,9 @@
 //! Categories, kinds of warnings, licenses and keywords by their texts.
 
 use crate::rows::{compare, is_copied, prints, refuses};
-use rustsec_error::ErrorKind;
 use rustsec_fixtures::kind_of;
 use rustsec_texts::{Category, Keyword, License, WarningKind};
+use rustsec_values::ErrorKind;
 use std::alloc::Global;
 use std::cmp::Ordering;
 use std::test::Fail;

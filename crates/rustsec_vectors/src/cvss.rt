@@ -1,9 +1,9 @@
 //! Vectors of CVSS: how they are read, printed and copied, their versions, scores and ratings; names of ratings.
 
 use crate::rows::{field, is_kept, prints};
-use rustsec_error::ErrorKind;
 use rustsec_fixtures::{base_of, is_printed, kind_of, score};
 use rustsec_lock::{Base, Cvss, Severity};
+use rustsec_values::ErrorKind;
 use std::alloc::Global;
 use std::test::Fail;
 

@@ -2,10 +2,9 @@
 
 use crate::stored::{kind_word, load_all, path_of, text_of};
 use rustsec_advisory::Advisory;
-use rustsec_database::{Database, Entries, SourceFile};
+use rustsec_database::{Database, Entries, Query, SourceFile};
 use rustsec_lock::Lockfile;
 use rustsec_lock::package::Name;
-use rustsec_query::Query;
 use rustsec_texts::{Collection, Id};
 use rustsec_values::Text;
 use std::alloc::Global;

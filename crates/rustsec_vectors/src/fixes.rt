@@ -2,10 +2,10 @@
 
 use crate::rows::field;
 use rustsec_advisory::Advisory;
-use rustsec_fixer::{FixCommand, Fixer};
+use rustsec_database::Vulnerability;
 use rustsec_fixtures::{VALID, changed};
 use rustsec_lock::Lockfile;
-use rustsec_query::Vulnerability;
+use rustsec_report::{FixCommand, Fixer};
 use rustsec_values::Text;
 use std::alloc::Global;
 use std::test::Fail;

@@ -2,8 +2,8 @@
 //! least version above another.
 
 use crate::rows::{field, prints};
-use rustsec_error::{Error, ErrorKind};
 use rustsec_fixtures::{TextWriter, interval, kind_of, version};
+use rustsec_values::{Error, ErrorKind};
 use rustsec_versions::{Bound, OsvRange, UnaffectedRange, requirement_text, successor};
 use semver::{Comparator, Op, Prerelease, VersionReq};
 use std::alloc::Global;

@@ -1,5 +1,5 @@
 //! Worked examples of calls: versions, requirements, small texts, lockfiles, look-ups, fixes and reports, advisories,
-//! databases, queries, and refusals of OSV documents. A row of a table begins with the name of its example where the
+//! databases, queries, refusals of OSV documents, and how errors print. A row of a table begins with the name of its example where the
 //! examples of a table differ. Expected values come from outside: from the rules in `docs/DEFINITIONS.md`, worked by
 //! hand, from the Rust crate, or from the program that a table names.
 #![tactic(auto)]
@@ -14,6 +14,8 @@ mod categories_and_licenses;
 mod cvss;
 #[cfg(test)]
 mod databases;
+#[cfg(test)]
+mod errors;
 #[cfg(test)]
 mod fixes;
 #[cfg(test)]

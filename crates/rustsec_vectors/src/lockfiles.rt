@@ -2,10 +2,10 @@
 
 use crate::packages;
 use crate::rows::is_copied;
-use rustsec_error::ErrorKind;
 use rustsec_fixtures::{changed, kind_of};
 use rustsec_lock::Lockfile;
 use rustsec_lock::package::Package;
+use rustsec_values::ErrorKind;
 use std::alloc::Global;
 use std::fs;
 use std::rt::Files;

@@ -2,10 +2,9 @@
 
 use crate::packages::package;
 use crate::rows::field;
-use rustsec_error::{Error, ErrorKind};
 use rustsec_lock::package::{Name, Package};
 use rustsec_registry::{CachedIndex, IndexVersion, Lookup, Signature};
-use rustsec_values::{Items, Text};
+use rustsec_values::{Error, ErrorKind, Items, Text};
 use std::alloc::Global;
 use std::cell::Cell;
 use std::fmt::Write as _;

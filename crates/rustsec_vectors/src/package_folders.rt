@@ -4,10 +4,10 @@
 use crate::rows::is_copied;
 use crate::stored::PLACE;
 use rustsec_database::Database;
-use rustsec_error::ErrorKind;
+use rustsec_files::{SourceFile, source_files};
 use rustsec_fixtures::Holds::{Entries, Text};
 use rustsec_fixtures::{Failing, Holds, MemoryFolders, Paths, VALID};
-use rustsec_folders::{SourceFile, source_files};
+use rustsec_values::ErrorKind;
 use std::alloc::Global;
 use std::fs;
 use std::process::Abort;

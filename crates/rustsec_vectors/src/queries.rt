@@ -3,13 +3,13 @@
 use crate::packages::published;
 use crate::rows::is_copied;
 use rustsec_advisory::Advisory;
-use rustsec_error::FromText;
+use rustsec_database::{Query, Vulnerability};
 use rustsec_fixtures::{VALID, changed};
 use rustsec_lock::package::Name;
 use rustsec_lock::platforms::{Arch, OS};
 use rustsec_lock::{Severity, SourceId};
-use rustsec_query::{Query, Vulnerability};
 use rustsec_texts::Collection;
+use rustsec_values::FromText;
 use semver::Version;
 use std::alloc::Global;
 use std::process::Abort;

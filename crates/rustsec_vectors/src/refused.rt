@@ -1,16 +1,14 @@
-//! Texts that a reader refuses with `Parse`, and how errors print.
+//! Texts that a reader refuses with `Parse`.
 
-use crate::rows::{exact_field, field, prints};
-use rustsec_error::{Error, ErrorKind};
+use crate::rows::{exact_field, field};
 use rustsec_fixtures::kind_of;
 use rustsec_lock::package::Name;
 use rustsec_lock::platforms::{Arch, OS};
 use rustsec_lock::{Cvss, Lockfile, SourceId};
 use rustsec_texts::{Collection, Date, FunctionPath, Id, Parts};
-use std::alloc::{AllocError, Global};
-use std::error;
+use rustsec_values::ErrorKind;
+use std::alloc::Global;
 use std::process::Abort;
-use std::test::Fail;
 
 /// Examples with a reader and texts that it refuses, which have commas between them.
 const LISTS: &str = "
@@ -121,23 +119,4 @@ fn refused_texts(rt: HostRuntime) {
         let kind = refusal(rt.alloc(), exact_field(row, 1), exact_field(row, 2));
         assert!(rt; kind == Some(ErrorKind::Parse), "{row}");
     }
-}
-
-fn prints_as_error<E: error::Error>(alloc: Global, error: &E, text: &str) -> Result<bool, Fail> {
-    let printed = error.to_string(alloc)?;
-    Ok(printed.as_str() == text)
-}
-
-#[test]
-fn errors_print_their_cause(rt: HostRuntime) -> Result<(), Fail> {
-    let alloc = rt.alloc();
-    let plain = Error::new(alloc, ErrorKind::Io, "couldn't open a");
-    assert!(rt; prints(alloc, &plain, "I/O operation failed: couldn't open a")?);
-    let caused = Error::with_source(alloc, ErrorKind::Parse, "error parsing a", "b");
-    assert!(rt; prints_as_error(alloc, &caused, "parse error: error parsing a: b")?);
-    let memory = Error::from(AllocError);
-    assert!(rt; prints(alloc, &memory, "out of memory")?);
-    let bare = Error::with_source(alloc, ErrorKind::Io, "", "b");
-    assert!(rt; prints(alloc, &bare, "I/O operation failed: b")?);
-    Ok(())
 }

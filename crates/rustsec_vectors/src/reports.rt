@@ -115,7 +115,7 @@ fn warning(alloc: Global, kind: WarningKind, system: OS) -> Result<Warning, Fail
     let package = package(alloc, "base 1.0.0")?;
     let mut affected = Affected::default(alloc);
     affected.os.push(system)?;
-    Ok(Warning::new(kind, &package, None, Some(affected), None)?)
+    Ok(Warning::new(alloc, kind, &package, None, Some(affected), None)?)
 }
 
 fn one_notice(alloc: Global, system: OS) -> Result<WarningInfo, Fail> {

@@ -1,6 +1,6 @@
 //! Rows of tables, and what values of each type do. A row is a line, and has bars between its fields.
 
-use rustsec_error::{Error, ErrorKind, FromText};
+use rustsec_values::{Error, ErrorKind, FromText};
 use std::alloc::Global;
 use std::cmp::Ordering;
 use std::fmt::Display;

@@ -3,9 +3,8 @@
 
 use crate::packages::published;
 use crate::rows::field;
-use rustsec_database::{Bearing, Database, SourceFile};
+use rustsec_database::{Bearing, Database, Query, SourceFile};
 use rustsec_lock::package::Name;
-use rustsec_query::Query;
 use rustsec_texts::Collection;
 use rustsec_values::{Predicate, Text};
 use semver::Version;

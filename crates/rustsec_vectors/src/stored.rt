@@ -6,11 +6,11 @@
 use crate::rows::field;
 use rustsec_advisory::Advisory;
 use rustsec_database::{Entries, Index, Slot};
-use rustsec_error::{Error, ErrorKind};
 use rustsec_files::path::FilePath;
 use rustsec_fixtures::{VALID, changed};
 use rustsec_lock::package::Name;
 use rustsec_texts::{Collection, Id};
+use rustsec_values::{Error, ErrorKind};
 use std::alloc::Global;
 use std::process::Abort;
 use std::test::Fail;

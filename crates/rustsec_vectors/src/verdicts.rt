@@ -2,8 +2,8 @@
 //! and how many comparisons a search makes among the gaps that the lists keep.
 
 use crate::rows::{field, prints};
-use rustsec_error::ErrorKind;
 use rustsec_fixtures::{kind_of, some_affects, version};
+use rustsec_values::ErrorKind;
 use rustsec_versions::{OsvRange, Steps, Versions, ranges_for_advisory};
 use semver::{Version, VersionReq};
 use std::alloc::Global;
@@ -73,7 +73,7 @@ fn requirements(alloc: Global, texts: &str) -> Result<Vec<VersionReq>, Fail> {
     Ok(reqs)
 }
 
-fn lists(alloc: Global, row: &str) -> Result<rustsec_error::Result<Versions>, Fail> {
+fn lists(alloc: Global, row: &str) -> Result<rustsec_values::Result<Versions>, Fail> {
     let patched = requirements(alloc, field(row, 1))?;
     let unaffected = requirements(alloc, field(row, 2))?;
     Ok(Versions::new(alloc, patched, unaffected))

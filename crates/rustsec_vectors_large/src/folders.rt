@@ -2,10 +2,9 @@
 
 use crate::numbers::{filled, numbered};
 use rustsec_database_commands::run_over;
-use rustsec_error::ErrorKind;
+use rustsec_files::SourceFile;
 use rustsec_fixtures::{Failing, Holds, MemoryFolders, Paths, SHORT};
-use rustsec_folders::SourceFile;
-use rustsec_values::Text;
+use rustsec_values::{ErrorKind, Text};
 use std::alloc::Global;
 use std::ops::Range;
 use std::test::Fail;

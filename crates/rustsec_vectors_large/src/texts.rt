@@ -4,11 +4,8 @@
 use crate::numbers::{LONG, long};
 use rustsec::database::{Database, Query};
 use rustsec_advisory::{Linter, linter};
-use rustsec_error::{
-    Error, ErrorKind, FromText, file_error, text_error, text_error_with_cause, with_place,
-};
+use rustsec_files::{FolderEntry, SourceFile};
 use rustsec_fixtures::{VALID, changed, interval, kind_of, requirements};
-use rustsec_folders::{FolderEntry, SourceFile};
 use rustsec_lock::package::{Name, Package};
 use rustsec_lock::platforms::{Arch, OS};
 use rustsec_lock::{Cvss, Lockfile, SourceId};
@@ -18,7 +15,9 @@ use rustsec_texts::{
     Address, Category, Collection, Date, FunctionPath, Id, Identifier, Informational, Keyword,
     License, WarningKind,
 };
-use rustsec_values::Text;
+use rustsec_values::{
+    Error, ErrorKind, FromText, Text, file_error, text_error, text_error_with_cause, with_place,
+};
 use rustsec_versions::{
     Bound, OsvRange, Requirements, read_requirement, read_version, requirement_text, successor,
 };
@@ -326,17 +325,32 @@ fn error_by(alloc: Global, call: &str, text: &str) -> Error {
     }
 }
 
+/// Returns whether an error prints its message at its end, and whether a person is told the last of its message and its
+/// cause at the end.
+fn is_printed(alloc: Global, error: &Error) -> Result<bool, Fail> {
+    let printed = error.to_string(alloc)?;
+    Ok(printed.ends_with(error.message()))
+}
+
+fn is_told(alloc: Global, error: &Error) -> Result<bool, Fail> {
+    let told = error.text_with_cause(alloc)?;
+    Ok(told.ends_with(error.cause().unwrap_or(error.message())))
+}
+
 /// Returns whether an error of the kind `Parse` has this message and this cause; whether it and a copy of it have, and
-/// it prints the last one of them at its end; and whether that holds for the error that a call makes of a text.
+/// it is printed and told; and whether that holds for the error that a call makes of a text.
 fn is_parse(error: &Error, message: &str, cause: Option<&str>) -> bool {
     error.kind() == ErrorKind::Parse && error.message() == message && error.cause() == cause
 }
 
 fn keeps(alloc: Global, error: &Error, message: &str, cause: Option<&str>) -> Result<bool, Fail> {
     let copy = error.clone(alloc)?;
-    let printed = error.to_string(alloc)?;
-    let ends = printed.ends_with(cause.unwrap_or(message));
-    Ok(is_parse(error, message, cause) && is_parse(&copy, message, cause) && ends)
+    Ok(
+        is_parse(error, message, cause)
+            && is_parse(&copy, message, cause)
+            && is_printed(alloc, error)?
+            && is_told(alloc, error)?,
+    )
 }
 
 fn is_made(alloc: Global, row: &(&str, &str, bool), text: &str) -> Result<bool, Fail> {

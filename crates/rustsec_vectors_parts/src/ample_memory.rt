@@ -2,9 +2,8 @@
 //! that they accept. Those of other crates are in the modules of their subjects.
 
 use rustsec_commands::{answer, answer_ranges};
-use rustsec_error::{Error, ErrorKind};
 use rustsec_fixtures::{interval, lists, requirements, version};
-use rustsec_values::{Items, SortedMap, Text};
+use rustsec_values::{Error, ErrorKind, Items, SortedMap, Text};
 use rustsec_versions::{
     Bound, Requirements, Versions, ranges_for_advisory, requirement_text, successor,
 };

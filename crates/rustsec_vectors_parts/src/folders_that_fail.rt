@@ -1,11 +1,11 @@
 //! Commands over folders in memory that fail at each call in turn, and that change; and checks that memory breaks off.
 
 use rustsec_commands::{Fault, run_over};
-use rustsec_error::ErrorKind;
 use rustsec_fixtures::{
     FOUR_PACKAGES, Failing, Holds, MemoryFolders, Paths, SHORT, SHORT_DOCUMENT, UNMAINTAINED,
     VULNERABLE, WITHDRAWN,
 };
+use rustsec_values::ErrorKind;
 use std::alloc::Global;
 use std::io;
 use std::test::Fail;

@@ -2,14 +2,14 @@
 //! package that a lockfile has twice, and an index that cannot be listed. The files of the indexes are written by hand
 //! from The Cargo Book and Cargo's source.
 
-use rustsec_error::ErrorKind;
+use rustsec_files::SourceFile;
 use rustsec_fixtures::{Holds, MemoryFolders, Paths};
-use rustsec_folders::SourceFile;
-use rustsec_index::{IndexForm, YankedPackages, index_path, versions_in, yanked_in};
 use rustsec_lock::Lockfile;
 use rustsec_lock::package::Package;
-use rustsec_registry::IndexVersion;
-use rustsec_values::Text;
+use rustsec_registry::{
+    IndexForm, IndexVersion, YankedPackages, index_path, versions_in, yanked_in,
+};
+use rustsec_values::{ErrorKind, Text};
 use std::alloc::Global;
 use std::test::Fail;
 
@@ -102,7 +102,7 @@ fn are_unlisted(texts: &[Text]) -> bool {
 }
 
 /// Returns what an index gives for the packages of the lockfile. No call fails.
-fn found(alloc: Global, paths: Paths<'_>) -> Result<rustsec_error::Result<YankedPackages>, Fail> {
+fn found(alloc: Global, paths: Paths<'_>) -> Result<rustsec_values::Result<YankedPackages>, Fail> {
     let lockfile = Lockfile::from_str(alloc, LOCKFILE)?;
     let mut folders = MemoryFolders::turning(paths, paths, 0);
     let packages = lockfile.packages.as_slice();

@@ -2,11 +2,10 @@
 //! order, a name that is not UTF-8 is refused, and an error of memory stays that.
 
 use crate::fake_files::{FakeFiles, Kind};
-use rustsec_error::{Error, ErrorKind};
 use rustsec_files::reading::text_of_file;
+use rustsec_files::{Folders, RealFolders, entry_names, listed_names};
 use rustsec_fixtures::{ByteReader, kind_of};
-use rustsec_folders::{Folders, RealFolders, entry_names, listed_names};
-use rustsec_values::{Items, Text};
+use rustsec_values::{Error, ErrorKind, Items, Text};
 use std::alloc::Global;
 use std::io;
 use std::test::Fail;

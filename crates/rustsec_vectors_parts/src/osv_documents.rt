@@ -3,9 +3,9 @@
 
 use crate::rows::exact_field;
 use rustsec_advisory::Advisory;
-use rustsec_error::{Error, ErrorKind};
 use rustsec_fixtures::{SHORT, SHORT_DOCUMENT, VALID, changed, kind_of};
 use rustsec_osv::{OsvAdvisory, OsvAffected, OsvEcosystemSpecific, OsvJsonRange};
+use rustsec_values::{Error, ErrorKind};
 use serde_json::Value;
 use std::alloc::Global;
 use std::test::Fail;

@@ -3,7 +3,7 @@
 use crate::osv_documents::{text_of, with_lists};
 use crate::rows::field;
 use rustsec_osv::OsvAdvisory;
-use rustsec_osv_evaluation::{
+use rustsec_osv_rules::{
     Event, PackageVersion, has_ordered_events, is_affected, normalized, says_affected,
 };
 use semver::Version;

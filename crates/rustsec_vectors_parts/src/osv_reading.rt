@@ -2,8 +2,8 @@
 //! of its page (ossf.github.io/osv-schema, "Examples"): each is read, or is refused as docs/OSV-READING.md says.
 
 use crate::osv_schema::keeps;
-use rustsec_error::ErrorKind;
 use rustsec_osv::OsvAdvisory;
+use rustsec_values::ErrorKind;
 use serde_json::Value;
 use std::alloc::Global;
 use std::test::Fail;
@@ -157,7 +157,7 @@ const EXAMPLES: &str =
 => at `affected[0]`: key `database_specific` is missing"#;
 
 /// Returns whether an answer is a document with this ID, or a refusal with this message.
-fn is_answer(answer: rustsec_error::Result<OsvAdvisory>, wanted: &str) -> bool {
+fn is_answer(answer: rustsec_values::Result<OsvAdvisory>, wanted: &str) -> bool {
     match answer {
         Ok(document) => document.id().as_str() == wanted,
         Err(e) => e.kind() == ErrorKind::Parse && e.message() == wanted,

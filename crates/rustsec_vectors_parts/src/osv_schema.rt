@@ -2,7 +2,7 @@
 
 use crate::rows::field;
 use rustsec_fixtures::changed;
-use rustsec_osv_schema::is_osv_schema;
+use rustsec_osv_rules::is_osv_schema;
 use serde_json::Value;
 use std::alloc::Global;
 use std::process::Abort;

@@ -1,13 +1,14 @@
 //! The commands over readers and writers that take one byte a call, that fail, and that hold much.
 
 use crate::rows::exact_field;
-use rustsec_commands::{Fault, answer, answer_ranges, run, run_with_notes, write_audit};
+use rustsec_commands::{Fault, answer, answer_ranges, read_all, run, run_with_notes, write_audit};
 use rustsec_fixtures::{ByteReader, ByteWriter};
 use rustsec_lock::Lockfile;
 use rustsec_report::{LockfileInfo, Report, Settings, VulnerabilityInfo, Warning, WarningInfo};
 use rustsec_texts::WarningKind;
 use rustsec_values::Items;
 use std::alloc::Global;
+use std::io::ErrorKind;
 use std::test::Fail;
 
 /// A call of the library, or the word of a command, with its input.
@@ -85,6 +86,33 @@ fn readers_and_writers_that_fail(rt: HostRuntime) {
     }
 }
 
+/// Returns whether `read_all` and `answer` answer this fault if a read fails so, at each of the 15 reads in turn, and
+/// whether `answer` writes nothing then.
+fn faults_so(alloc: Global, failure: ErrorKind, fault: Fault) -> bool {
+    let text = b"version 1.0.0\n".as_slice();
+    for fails_at in 1..16u64 {
+        let read = read_all(alloc, &mut ByteReader::failing(text, fails_at, failure));
+        let mut output = Vec::new(alloc);
+        let mut input = ByteReader::failing(text, fails_at, failure);
+        let found = answer(alloc, &mut input, &mut output);
+        if read.err() != Some(fault) || found != Err(fault) || !output.is_empty() {
+            return false;
+        }
+    }
+    true
+}
+
+#[test]
+fn faults_of_readers(rt: HostRuntime) {
+    for (failure, fault) in [
+        (ErrorKind::OutOfMemory, Fault::Memory),
+        (ErrorKind::Other, Fault::Read),
+        (ErrorKind::UnexpectedEof, Fault::Read),
+    ] {
+        assert!(rt; faults_so(rt.alloc(), failure, fault), "{failure:?}");
+    }
+}
+
 /// A call, a text, a filler, a text after much of it, which decides; the status, and what is written.
 const LONG: &[&str] = &[
     "affected | version 1.0.0\nversion 2.0.0\npatched  |   | >= 2 | 0 | 1.0.0 affected\n2.0.0 not affected\n",
@@ -157,7 +185,7 @@ fn report_of_a_notice(alloc: Global) -> Result<Report, Fail> {
     let lockfile = Lockfile::from_str(alloc, text)?;
     let mut notices = Items::new(alloc);
     for package in &lockfile.packages {
-        notices.push(Warning::new(WarningKind::Notice, package, None, None, None)?)?;
+        notices.push(Warning::new(alloc, WarningKind::Notice, package, None, None, None)?)?;
     }
     let mut warnings = WarningInfo::new(alloc);
     warnings.insert(WarningKind::Notice, notices)?;

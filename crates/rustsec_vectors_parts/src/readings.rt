@@ -3,9 +3,9 @@
 //! opened.
 
 use crate::fake_files::{FakeFiles, Kind};
-use rustsec_error::ErrorKind;
 use rustsec_files::reading;
 use rustsec_fixtures::ByteReader;
+use rustsec_values::ErrorKind;
 use std::alloc::Global;
 use std::test::Fail;
 

@@ -170,7 +170,7 @@ fn warning(alloc: Global, kind: WarningKind, system: OS) -> Result<Items<Warning
     let mut affected = Affected::default(alloc);
     affected.os.push(system)?;
     let mut list = Items::new(alloc);
-    list.push(Warning::new(kind, package, None, Some(affected), None)?)?;
+    list.push(Warning::new(alloc, kind, package, None, Some(affected), None)?)?;
     Ok(list)
 }
 

@@ -1,5 +1,6 @@
 pub mod Equality
 pub mod EqualityLaws
+pub mod Matching
 pub mod Memory
 pub mod Views
 pub mod acceptance

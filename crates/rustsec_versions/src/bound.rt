@@ -4,11 +4,11 @@ ghost use Rattle.std.specs.Prelude.{◌≡◌, IfErr, IfOk, OnErr, option_map, t
 ghost use Rattle.std.specs.Cmp.{on_equiv, on_per, partial_equiv_from_equiv};
 ghost use Rattle.semver.specs.Identifiers.{parts_of};
 ghost use Rattle.rustsec_versions.specs.Equality.{endpoint_eq, endpoint_equiv};
-ghost use Rattle.rustsec_error.specs.Failure.{IsMemory};
+ghost use Rattle.rustsec_values.specs.Failure.{IsMemory};
 ghost use Rattle.rustsec_versions.specs.interval.Interval.{has_bound};
 ghost use Rattle.rustsec_versions.specs.Views.{bound_version_of, endpoint_of};
 
-use rustsec_error::Result;
+use rustsec_values::Result;
 use semver::Version;
 use std::alloc::{AllocError, Global};
 

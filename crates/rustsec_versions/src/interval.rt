@@ -5,7 +5,7 @@ ghost use Rattle.std.specs.Cmp.{partial_equiv_from_equiv};
 ghost use Rattle.std.specs.Fmt.{DisplaysOnOk};
 ghost use Rattle.semver.specs.Identifiers.{parts_of};
 ghost use Rattle.rustsec_versions.specs.Equality.{interval_eq, interval_equiv};
-ghost use Rattle.rustsec_error.specs.Failure.{IsMemory, IsOfKind, IsRefusal};
+ghost use Rattle.rustsec_values.specs.Failure.{IsMemory, IsOfKind, IsRefusal};
 ghost use Rattle.rustsec_versions.specs.interval.Interval.{end_le, has_bound, holds, is_after, is_before, overlap, reaches};
 ghost use Rattle.rustsec_versions.specs.interval.IntervalText.{end_text, interval_text, start_text};
 ghost use Rattle.rustsec_versions.specs.Memory.{hold_no_text};
@@ -16,8 +16,7 @@ ghost use Rattle.rustsec_versions.specs.Views.{comparators_of, endpoint_of, inte
 use crate::bound::Bound;
 use crate::requirement::comparator::bounds_of;
 use crate::requirement::print::{quoted_bound, with_requirement};
-use rustsec_error::{Error, ErrorKind, Result};
-use rustsec_values::{ExactClone, ExactEq};
+use rustsec_values::{Error, ErrorKind, ExactClone, ExactEq, Result};
 use semver::{Version, VersionReq};
 use std::alloc::{AllocError, Global};
 use std::fmt;

@@ -3,6 +3,7 @@
 
 mod acceptance;
 mod bound;
+mod difference;
 mod interval;
 mod order;
 mod ranges;
@@ -11,6 +12,7 @@ mod search;
 mod versions;
 
 pub use crate::bound::Bound;
+pub use crate::difference::{Difference, find_difference};
 pub use crate::interval::UnaffectedRange;
 pub use crate::order::next_version::successor;
 pub use crate::ranges::OsvRange;
@@ -20,4 +22,4 @@ pub use crate::requirement::semver_texts::{is_out_of_memory, read_requirement, r
 pub use crate::search::steps::Steps;
 pub use crate::versions::Versions;
 pub use crate::versions::advisory_ranges::ranges_for_advisory;
-pub use rustsec_error::{Error, ErrorKind, FromText, Result, file_error, text_error, with_place};
+pub use rustsec_values::{Error, ErrorKind, FromText, Result, file_error, text_error, with_place};

@@ -5,7 +5,7 @@ pub(crate) mod complement;
 ghost use Rattle.std.specs.Prelude.{◌≡◌, ◌<◌, ◌⊎◌, IfErr, IfOk, OnErr, Some, is_some, length, map, option_map, true};
 ghost use Rattle.std.specs.List.{All};
 ghost use Rattle.semver.specs.Identifiers.{parts_of};
-ghost use Rattle.rustsec_error.specs.Failure.{IsMemory};
+ghost use Rattle.rustsec_values.specs.Failure.{IsMemory};
 ghost use Rattle.rustsec_versions.specs.ranges.Complement.{HasValidBounds, IsValidBound, cut};
 ghost use Rattle.rustsec_versions.specs.acceptance.Lists.{affected, intervals};
 ghost use Rattle.rustsec_versions.specs.ranges.Ranges.{Range, affects, affects_from, affects_till, lower_cut, upper_cut};
@@ -15,8 +15,7 @@ ghost use Rattle.rustsec_versions.specs.Views.{endpoint_of, range_of};
 use crate::bound::Bound;
 use crate::order::next_version::successor;
 use crate::ranges::complement::AffectedInterval;
-use rustsec_error::{Error, Result};
-use rustsec_values::ExactClone;
+use rustsec_values::{Error, ExactClone, Result};
 use semver::Version;
 use std::alloc::{AllocError, Global};
 use std::marker::Model;
@@ -45,7 +44,7 @@ impl OsvRange {
     pub fn affects(&self, version: &Version) -> bool
         ensures { result ≡ affects self.now (parts_of version.now) }
     {
-        is_from(&self.introduced, version) && is_until(&self.fixed, version)
+        affects_from(&self.introduced, version) && affects_till(&self.fixed, version)
     }
 
     /// Returns an equal range.
@@ -95,7 +94,7 @@ impl ExactClone for OsvRange {
 }
 
 /// Returns whether a version is at or above the introduction of a range.
-fn is_from(introduced: &Option<Version>, version: &Version) -> bool
+fn affects_from(introduced: &Option<Version>, version: &Version) -> bool
     ensures { result ≡ affects_from (option_map parts_of introduced.now) (parts_of version.now) }
 {
     match introduced {
@@ -105,7 +104,7 @@ fn is_from(introduced: &Option<Version>, version: &Version) -> bool
 }
 
 /// Returns whether a version is below the fix of a range.
-fn is_until(fixed: &Option<Version>, version: &Version) -> bool
+fn affects_till(fixed: &Option<Version>, version: &Version) -> bool
     ensures { result ≡ affects_till (option_map parts_of fixed.now) (parts_of version.now) }
 {
     match fixed {

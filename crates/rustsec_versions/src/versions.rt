@@ -9,7 +9,7 @@ ghost use Rattle.semver.specs.Identifiers.{parts_of};
 ghost use Rattle.rustsec_versions.specs.ranges.Between.{IsComplementOf};
 ghost use Rattle.rustsec_versions.specs.Equality.{lists_eq, lists_equiv};
 ghost use Rattle.rustsec_versions.specs.EqualityLaws.{lists_decides};
-ghost use Rattle.rustsec_error.specs.Failure.{IsMemory, IsRefusal};
+ghost use Rattle.rustsec_values.specs.Failure.{IsMemory, IsRefusal};
 ghost use Rattle.rustsec_versions.specs.acceptance.Lists.{Lists, accepted, accepted_apart, affected, no_lists};
 ghost use Rattle.rustsec_versions.specs.order.Precedence.{with_build};
 ghost use Rattle.rustsec_versions.specs.ranges.Ranges.{Range, SameInEachList};
@@ -24,9 +24,8 @@ use crate::ranges::{OsvRange, ranges_of};
 use crate::requirement::requirements::Requirements;
 use crate::search::in_complement;
 use crate::search::steps::{Sought, Steps};
-use crate::versions::apart::accepted_as_unaffected;
-use rustsec_error::{Error, ErrorKind, Result};
-use rustsec_values::{ExactClone, ExactEq};
+use crate::versions::apart::are_apart;
+use rustsec_values::{Error, ErrorKind, ExactClone, ExactEq, Result};
 use semver::{Version, VersionReq};
 use std::alloc::{AllocError, Global};
 use std::marker::Model;
@@ -61,15 +60,15 @@ fn complement_of(
     ensures err { IfErr result (IsRefusal ErrorKind.BadParam
         (accepted (record { patched = patched.now; unaffected = unaffected.now }) ≡ false)) }
 {
-    let all = tagged_intervals(alloc, patched, unaffected)?;
+    let all = tagged_intervals(alloc, patched, unaffected, true)?;
     let sorted = by_start(alloc, &all)?;
     match merged_intervals(alloc, &sorted)? {
-        Some(intervals) => {
+        Ok(intervals) => {
             let mut complement = complement(alloc, &intervals)?;
             complement.shrink_to_fit();
             Ok(complement)
         }
-        None => Err(overlap_error(alloc, &sorted)),
+        Err((first, second)) => Err(overlap_error(alloc, first, second)),
     }
 }
 
@@ -187,7 +186,7 @@ impl Versions {
         if self.patched.as_slice().len() <= 1 {
             return Ok(true);
         }
-        accepted_as_unaffected(alloc, self)
+        are_apart(alloc, &self.patched, &self.unaffected)
     }
 
     /// Returns the ranges that the requirements leave.

@@ -5,13 +5,13 @@ use Rattle.toml.specs.Data.{Members}
 use Rattle.toml.specs.Parse.{parse_document}
 use Rattle.rustsec_values.specs.Reading.{◌>>=◌, read_all}
 use Rattle.rustsec_versions.proofs.lemmas.ranges.Agreement.{ranges-one}
-use Rattle.rustsec_error.specs.Failure.{Failure, IsMemory, IsRefusal}
+use Rattle.rustsec_values.specs.Failure.{Failure, IsMemory, IsRefusal}
 use Rattle.rustsec_versions.specs.acceptance.Lists.{Lists}
-use Rattle.rustsec_error.specs.declared.error.ErrorKind.{ErrorKind}
-use Rattle.rustsec_error.specs.declared.error.ErrorKind.TheVariants as kind
-use Rattle.rustsec_folders.specs.Allowed.{Allowed, AnswersOnce}
-use Rattle.rustsec_folders.specs.declared.source_file.SourceFile.{SourceFile}
-use Rattle.rustsec_folders.proofs.Once.{listed-once, read-or-not, text-once}
+use Rattle.rustsec_values.specs.declared.error.ErrorKind.{ErrorKind}
+use Rattle.rustsec_values.specs.declared.error.ErrorKind.TheVariants as kind
+use Rattle.rustsec_files.specs.Allowed.{Allowed, AnswersOnce}
+use Rattle.rustsec_files.specs.declared.source_file.SourceFile.{SourceFile}
+use Rattle.rustsec_files.proofs.Once.{listed-once, read-or-not, text-once}
 use Rattle.rustsec_lock.specs.Lockfile.{IsLockfileRefusal, lockfile_of, packages_of}
 use Rattle.rustsec_lock.specs.Package.{PackageValue}
 use Rattle.rustsec_texts.specs.Ids.{IdValue, id_of}

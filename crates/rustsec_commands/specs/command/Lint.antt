@@ -1,12 +1,12 @@
 -- What the command `lint` writes for the file at a path.
 use Rattle.std.specs.Prelude.{◌≡◌, ◌≢◌, ◌++◌, ◌==◌, ℕ, List, codes, flat_map, length, if◌then◌else◌}
-use Rattle.rustsec_folders.specs.Allowed.{Allowed}
+use Rattle.rustsec_files.specs.Allowed.{Allowed}
 use Rattle.rustsec_advisory.specs.FileRefusals.{AreLintsAt, IsLintRefusal}
 use Rattle.rustsec_advisory.specs.LintErrors.{LintError, lint_error_text}
 use Rattle.rustsec_advisory.specs.declared.advisory.Advisory.{Advisory}
 use Rattle.rustsec_commands.specs.Output.{Output, refused_as}
-use Rattle.rustsec_error.specs.Failure.{Failure}
-use Rattle.rustsec_error.specs.declared.error.ErrorKind.TheVariants as kind
+use Rattle.rustsec_values.specs.Failure.{Failure}
+use Rattle.rustsec_values.specs.declared.error.ErrorKind.TheVariants as kind
 
 -- the line for a lint error
 abbrev pub error_line : LintError → List ℕ

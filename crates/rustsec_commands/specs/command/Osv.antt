@@ -1,8 +1,8 @@
 -- What the command `osv` writes for the file at a path and the time of its last change.
 use Rattle.std.specs.Prelude.{◌≡◌, ◌≢◌, ◌⊎◌, ℕ, List, None}
-use Rattle.rustsec_folders.specs.Allowed.{Allowed}
-use Rattle.rustsec_error.specs.Failure.{Failure, IsRefusal}
-use Rattle.rustsec_error.specs.declared.error.ErrorKind.TheVariants as kind
+use Rattle.rustsec_files.specs.Allowed.{Allowed}
+use Rattle.rustsec_values.specs.Failure.{Failure, IsRefusal}
+use Rattle.rustsec_values.specs.declared.error.ErrorKind.TheVariants as kind
 use Rattle.rustsec_versions.specs.ranges.AcceptedRanges.{HasUnboundedInterval}
 use Rattle.rustsec_advisory.specs.FileRefusals.{IsAdvisoryAt, IsAdvisoryRefusal}
 use Rattle.rustsec_advisory.specs.declared.advisory.Advisory.{Advisory}
@@ -10,7 +10,8 @@ use Rattle.rustsec_osv.specs.Documents.{Document}
 use Rattle.rustsec_osv.specs.Export.{IsDocument}
 use Rattle.rustsec_osv.specs.References.{references_of}
 use Rattle.rustsec_osv.specs.DocumentCodec.{document_tree}
-use Rattle.rustsec_commands.specs.Output.{Output, refused_as, tree_line}
+use Rattle.rustsec_commands.specs.Output.{Output, refused_as}
+use Rattle.rustsec_json.specs.Lines.{tree_line}
 
 -- the output for a document: its tree, and status 0
 abbrev pub document_output : Document → Output

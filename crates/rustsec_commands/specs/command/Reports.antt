@@ -2,16 +2,16 @@
 use Rattle.std.specs.Prelude.{◌≡◌, ◌≢◌, ◌⊎◌, ℕ, List, [], ◌∷◌, Some, None, if◌then◌else◌}
 use Rattle.std.specs.List.{filter}
 use Rattle.rustsec_values.specs.Reading.{read_all}
-use Rattle.rustsec_error.specs.Failure.{Failure}
-use Rattle.rustsec_error.specs.declared.error.ErrorKind.TheVariants as kind
+use Rattle.rustsec_values.specs.Failure.{Failure}
+use Rattle.rustsec_values.specs.declared.error.ErrorKind.TheVariants as kind
 use Rattle.rustsec_lock.specs.Lockfile.{IsLockfileAt, IsLockfileRefusal}
 use Rattle.rustsec_lock.specs.Package.{PackageValue}
 use Rattle.rustsec_texts.specs.Ids.{IdValue, id_of}
 use Rattle.rustsec_texts.specs.declared.informational.Informational.TheVariants as informational
 use Rattle.rustsec_advisory.specs.declared.advisory.Advisory.{Advisory}
-use Rattle.rustsec_folders.specs.Allowed.{Allowed}
-use Rattle.rustsec_folders.specs.Listed.{Listed}
-use Rattle.rustsec_folders.specs.declared.source_file.SourceFile.{SourceFile}
+use Rattle.rustsec_files.specs.Allowed.{Allowed}
+use Rattle.rustsec_files.specs.Listed.{Listed}
+use Rattle.rustsec_files.specs.declared.source_file.SourceFile.{SourceFile}
 use Rattle.rustsec_database.specs.Kept.{touches_any}
 use Rattle.rustsec_database.specs.Opened.{AreOpened, IsOpenRefusal}
 use Rattle.rustsec_report.specs.EndToEnd.{IsReportOfText}
@@ -20,7 +20,8 @@ use Rattle.rustsec_report.specs.declared.report.Report.{Report}
 use Rattle.rustsec_report.specs.declared.settings.Settings.{Settings}
 use Rattle.rustsec_commands.specs.command.Audit.{audit_output}
 use Rattle.rustsec_commands.specs.args.Options.{Options, options_of}
-use Rattle.rustsec_commands.specs.Output.{Output, refused_as, tree_line, usage}
+use Rattle.rustsec_commands.specs.Output.{Output, refused_as, usage}
+use Rattle.rustsec_json.specs.Lines.{tree_line}
 
 -- the settings of the commands' reports: these IDs are ignored, there are warnings of the three kinds, and nothing else is set
 abbrev pub settings_with : List IdValue → Settings

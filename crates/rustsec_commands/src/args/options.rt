@@ -2,13 +2,12 @@
 
 ghost use Rattle.std.specs.Prelude.{◌≡◌, IfErr, IfOk, None, Some, map};
 ghost use Rattle.rustsec_values.specs.Reading.{read_all};
-ghost use Rattle.rustsec_error.specs.Failure.{IsRefusal};
+ghost use Rattle.rustsec_values.specs.Failure.{IsRefusal};
 ghost use Rattle.rustsec_texts.specs.Ids.{id_of};
 ghost use Rattle.rustsec_commands.specs.args.Options.{options_of};
 
-use rustsec_error::ErrorKind;
 use rustsec_texts::Id;
-use rustsec_values::Items;
+use rustsec_values::{ErrorKind, Items};
 use std::alloc::{AllocError, Global};
 use std::marker::Model;
 
@@ -31,7 +30,7 @@ impl<'a> Model for Options<'a> {
 }
 
 /// Parses IDs, in order. A text that is not an ID gives the error `Parse`.
-fn ids_of(alloc: Global, texts: &[&str]) -> rustsec_error::Result<Items<Id>>
+fn ids_of(alloc: Global, texts: &[&str]) -> rustsec_values::Result<Items<Id>>
     ensures ok { IfOk result (λ ids. read_all id_of (map (λ t. t.now) texts.now) ≡ Some ids) }
     ensures err { IfErr result (IsRefusal ErrorKind.Parse (read_all id_of (map (λ t. t.now) texts.now) ≡ None)) }
 {
@@ -47,7 +46,7 @@ fn ids_of(alloc: Global, texts: &[&str]) -> rustsec_error::Result<Items<Id>>
 
 impl<'a> Options<'a> {
     /// Parses the IDs that are ignored. A text that is not an ID gives the error `Parse`.
-    pub fn ignored_ids(&self, alloc: Global) -> rustsec_error::Result<Items<Id>>
+    pub fn ignored_ids(&self, alloc: Global) -> rustsec_values::Result<Items<Id>>
         ensures ok { IfOk result (λ ids. read_all id_of self.now.ignored ≡ Some ids) }
         ensures err { IfErr result (IsRefusal ErrorKind.Parse (read_all id_of self.now.ignored ≡ None)) }
     {

@@ -13,7 +13,7 @@ use crate::input::read::read_all;
 use crate::input::version::InputVersion;
 use crate::input::{self, Input, InputKind};
 use crate::output::{Output, malformed_output};
-use rustsec_error::ErrorKind;
+use rustsec_values::ErrorKind;
 use rustsec_versions::Versions;
 use semver::Version;
 use std::alloc::{AllocError, Global};

@@ -1,7 +1,7 @@
 //! The command `audit`, over a database and a lockfile.
 
 ghost use Rattle.std.specs.Prelude.{◌≡◌, IfOk, map};
-ghost use Rattle.rustsec_folders.specs.Allowed.{AllowSame};
+ghost use Rattle.rustsec_files.specs.Allowed.{AllowSame};
 ghost use Rattle.rustsec_commands.specs.command.Audit.{audit_output};
 ghost use Rattle.rustsec_commands.specs.command.Reports.{IsAuditOutput, IsOutputOver, settings_with};
 
@@ -13,7 +13,7 @@ use crate::command::report::overview::Paths;
 use crate::command::report::settings_with;
 use crate::error_output::{misuse, refusal_output};
 use crate::output::{Output, usage_output};
-use rustsec_folders::Folders;
+use rustsec_files::Folders;
 use rustsec_report::ReportRef;
 use rustsec_texts::Id;
 use rustsec_values::Items;
@@ -27,7 +27,7 @@ fn advice_and_note(
     alloc: Global,
     report: &ReportRef<'_>,
     overview: Option<String>,
-) -> rustsec_error::Result<String> {
+) -> rustsec_values::Result<String> {
     let mut note = advice(alloc, report)?;
     if let Some(overview) = overview {
         note.push_str(&overview)?;

@@ -1,15 +1,15 @@
 //! The command `lint`: the errors that a linter finds in an advisory's file.
 
 ghost use Rattle.std.specs.Prelude.{◌≡◌, IfOk, flat_map, string_bytes};
-ghost use Rattle.rustsec_folders.specs.Allowed.{AllowSame};
+ghost use Rattle.rustsec_files.specs.Allowed.{AllowSame};
 ghost use Rattle.rustsec_commands.specs.command.Lint.{IsLintOutput, error_line, errors_output};
 
 use crate::command::lint::notes::lint_note;
 use crate::error_output::{file_refusal_output, refusal_output};
 use crate::output::Output;
 use rustsec_advisory::linter::{self, Linter};
+use rustsec_files::Folders;
 use rustsec_files::path::FilePath;
-use rustsec_folders::Folders;
 use std::alloc::{AllocError, Global};
 use std::fmt::Write as _;
 

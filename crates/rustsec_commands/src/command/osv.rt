@@ -1,15 +1,16 @@
 //! The command `osv`: the document of an advisory, as one line of JSON.
 
 ghost use Rattle.std.specs.Prelude.{◌≡◌, IfErr, IfOk, string_bytes};
-ghost use Rattle.rustsec_folders.specs.Allowed.{AllowSame};
+ghost use Rattle.rustsec_files.specs.Allowed.{AllowSame};
 ghost use Rattle.rustsec_osv.specs.DocumentCodec.{document_tree};
 ghost use Rattle.rustsec_commands.specs.command.Osv.{IsDocumentOf, IsOsvOutput, IsOsvRefusal, document_output};
-ghost use Rattle.rustsec_commands.specs.Output.{tree_line};
+ghost use Rattle.rustsec_json.specs.Lines.{tree_line};
 
 use crate::error_output::refusal_output;
-use crate::output::{Output, tree_line};
+use crate::output::Output;
 use rustsec_advisory::Advisory;
-use rustsec_folders::Folders;
+use rustsec_files::Folders;
+use rustsec_json::tree_line;
 use rustsec_osv::OsvAdvisory;
 use std::alloc::{AllocError, Global};
 
@@ -37,7 +38,7 @@ fn exported_document<F: Folders>(
     folders: &mut F,
     path: &str,
     modified: &str,
-) -> rustsec_error::Result<OsvAdvisory>
+) -> rustsec_values::Result<OsvAdvisory>
     ensures ok { IfOk result (IsDocumentOf (F.allowed folders.old) path.now modified.now) }
     ensures err { IfErr result (IsOsvRefusal (F.allowed folders.old) path.now) }
     ensures same { AllowSame (F.allowed folders.old) (F.allowed folders.new) }

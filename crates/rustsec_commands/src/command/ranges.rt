@@ -13,7 +13,7 @@ use crate::fault::Fault;
 use crate::input::read::read_all;
 use crate::input::{self, Input, InputKind};
 use crate::output::{Output, malformed_output};
-use rustsec_error::ErrorKind;
+use rustsec_values::ErrorKind;
 use rustsec_versions::{OsvRange, Versions, ranges_for_advisory};
 use semver::Version;
 use std::alloc::{AllocError, Global};

@@ -1,16 +1,16 @@
 //! The command `report`, over a database and a lockfile.
 
 ghost use Rattle.std.specs.Prelude.{◌≡◌, [], IfOk, string_bytes};
-ghost use Rattle.rustsec_folders.specs.Allowed.{AllowSame};
+ghost use Rattle.rustsec_files.specs.Allowed.{AllowSame};
 ghost use Rattle.rustsec_report.specs.Trees.{report_tree};
 ghost use Rattle.rustsec_commands.specs.command.Reports.{IsReportOutput, report_output, settings_with};
-ghost use Rattle.rustsec_commands.specs.Output.{tree_line};
+ghost use Rattle.rustsec_json.specs.Lines.{tree_line};
 
 use crate::command::report::inputs::read_inputs;
 use crate::command::report::overview::Paths;
 use crate::error_output::refusal_output;
 use crate::output::Output;
-use rustsec_folders::Folders;
+use rustsec_files::Folders;
 use rustsec_report::{ReportRef, Settings};
 use rustsec_texts::{Id, Informational};
 use rustsec_values::Items;

@@ -1,7 +1,7 @@
 //! Says what is wrong with words that do not name a command or its options.
 
 use crate::error_output::usage::PAGE;
-use rustsec_shown::push_shown;
+use rustsec_values::push_shown;
 use std::alloc::{AllocError, Global};
 
 /// The names of the commands.

@@ -6,8 +6,8 @@ use crate::affected::{
     OsvAffected, OsvDatabaseSpecific, OsvEcosystemSpecific, OsvEcosystemSpecificAffected,
     OsvPackage,
 };
-use rustsec_error::Result;
 use rustsec_json::{FromTree, ToTree, fields_of, list_at, optional_at, put_at, required_at};
+use rustsec_values::Result;
 use serde_json::{Map, Value};
 use std::alloc::{AllocError, Global};
 

@@ -9,8 +9,9 @@ ghost use Rattle.rustsec_osv.specs.DocumentCodec.{AreEventsValid, IsDocumentAgai
 ghost use Rattle.rustsec_osv.specs.DocumentKinds.{reference_kind_name, reference_kind_of};
 ghost use Rattle.rustsec_osv.specs.Documents.{Document, ranges_of};
 ghost use Rattle.rustsec_osv.specs.EventCodec.{version_of, version_tree};
+ghost use Rattle.rustsec_osv.specs.EventObjects.{AreEventsRead};
 ghost use Rattle.rustsec_osv.specs.Export.{document_events};
-ghost use Rattle.rustsec_error.specs.Failure.{IsMemory, IsRefusal};
+ghost use Rattle.rustsec_values.specs.Failure.{IsMemory, IsRefusal};
 ghost use Rattle.semver.specs.Identifiers.{parts_of};
 
 use crate::affected::OsvAffected;
@@ -19,14 +20,13 @@ use crate::document::{MainOsvDatabaseSpecific, OsvAdvisory};
 use crate::export::members::severity_of;
 use crate::reference::{OsvReference, OsvReferenceKind};
 use crate::severity::OsvSeverity;
-use rustsec_error::{ErrorKind, Result, text_error};
 use rustsec_json::{
     FromTree, ToTree, fields_of, list_at, member, optional_at, put_at, put_if, required_at,
     unexpected_error,
 };
 use rustsec_lock::Cvss;
 use rustsec_texts::Id;
-use rustsec_values::{Items, Text};
+use rustsec_values::{ErrorKind, Items, Result, Text, text_error};
 use rustsec_versions::read_version;
 use semver::Version;
 use serde_json::{Map, Value};
@@ -208,11 +208,14 @@ impl OsvAdvisory {
         // If the texts of a document's parts are parsed as these parts, the document's tree is read as the document.
         ensures again { IfOk result (λ v. IsDocumentAgain self.now → read_document (view v) ≡ Some self.now) }
 
-        // If its events have valid versions, any document that is read from the tree has the same ranges, in order.
+        // If its events have valid versions, the JSON object of each event is read as this event.
+        ensures objects { IfOk result (λ v. AreEventsValid self.now → AreEventsRead (view v) (document_events self.now)) }
+
+        // Then any document that is read from the tree has the same ranges, in order.
         ensures ranges { IfOk result (λ v. AreEventsValid self.now → (d : Document) → read_document (view v) ≡ Some d
             → ranges_of d ≡ ranges_of self.now) }
 
-        // Then it has the same events too, in order.
+        // It has the same events too, in order.
         ensures events { IfOk result (λ v. AreEventsValid self.now → (d : Document) → read_document (view v) ≡ Some d
             → document_events d ≡ document_events self.now) }
     {

@@ -6,16 +6,15 @@ ghost use Rattle.serde_json.specs.View.{members_view, view};
 ghost use Rattle.rustsec_json.specs.Trees.{list_tree};
 ghost use Rattle.rustsec_osv.specs.DocumentEvents.{event_of};
 ghost use Rattle.rustsec_osv.specs.EventCodec.{dots, event_in, event_tree, event_version, in_full, range_codec, range_tree, read_event, version_tree};
-ghost use Rattle.rustsec_error.specs.Failure.{IsRefusal};
+ghost use Rattle.rustsec_values.specs.Failure.{IsRefusal};
 ghost use Rattle.semver.specs.Identifiers.{parts_of};
 
 use crate::ranges::OsvJsonRange;
 use crate::timeline::OsvTimelineEvent;
-use rustsec_error::{ErrorKind, Result};
 use rustsec_json::{
     FromTree, ToTree, fields_of, member, put_at, required_at, unexpected_error, with_key,
 };
-use rustsec_values::Items;
+use rustsec_values::{ErrorKind, Items, Result};
 use rustsec_versions::read_version;
 use semver::Version;
 use serde_json::{Map, Value};

@@ -3,12 +3,13 @@
 ghost use Rattle.std.specs.Prelude.{◌≡◌, ◌⊎◌, ◌++◌, ◌∷◌, ℕ, [], All, IfErr, IfOk, List, None, Some, map, option_map, option_to_list};
 ghost use Rattle.semver.specs.Parse.{Parts};
 ghost use Rattle.rustsec_texts.specs.Licenses.{license_name};
-ghost use Rattle.rustsec_error.specs.Failure.{IsRefusal};
+ghost use Rattle.rustsec_values.specs.Failure.{IsRefusal};
 ghost use Rattle.rustsec_versions.specs.acceptance.Lists.{affected};
 ghost use Rattle.rustsec_versions.specs.order.Precedence.{IsVersion};
 ghost use Rattle.rustsec_versions.specs.ranges.AcceptedRanges.{HasUnboundedInterval};
 ghost use Rattle.rustsec_osv.specs.DocumentCodec.{AreEventsValid, IsReferenceAgain, document_tree, read_document};
 ghost use Rattle.rustsec_advisory.specs.Advisory.{IsAdvisory};
+ghost use Rattle.rustsec_osv.specs.EventObjects.{AreEventsRead};
 ghost use Rattle.rustsec_osv.specs.Events.{events_say};
 ghost use Rattle.rustsec_osv.specs.Export.{IsDocument, database_of, document_events, document_with, member_of, noon, package_of, severity_of};
 ghost use Rattle.rustsec_osv.specs.References.{own_pages, reference_of, references_of};
@@ -24,8 +25,7 @@ use crate::reference::OsvReference;
 use crate::severity::OsvSeverity;
 use rustsec_advisory::metadata::MetadataParts;
 use rustsec_advisory::{Advisory, Affected, Metadata};
-use rustsec_error::{ErrorKind, Result};
-use rustsec_values::{Items, Text};
+use rustsec_values::{ErrorKind, Items, Result, Text};
 use std::alloc::{AllocError, Global};
 
 /// The members of a document that are newly allocated, not moved from the advisory.
@@ -148,8 +148,11 @@ impl OsvAdvisory {
         // The document's events call a valid version affected exactly if the advisory does.
         ensures events { IfOk result (λ d. (v : Parts) → IsVersion v → events_say (document_events d) v ≡ affected advisory.versions v) }
 
-        // The versions of the events are valid, so the tree of each event is read as the same event.
+        // The versions of the events are valid.
         ensures valid { IfOk result AreEventsValid }
+
+        // In the document's tree, the JSON object of each event is read as this event.
+        ensures objects { IfOk result (λ d. AreEventsRead (document_tree d) (document_events d)) }
 
         // If the advisory is that of a text, the document's tree is read as this document.
         ensures again { IfOk result (λ d. (t : List ℕ) → IsAdvisory t advisory → read_document (document_tree d) ≡ Some d) }

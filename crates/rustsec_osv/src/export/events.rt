@@ -3,7 +3,7 @@
 ghost use Rattle.std.specs.Prelude.{◌≡◌, ◌++◌, IfErr, IfOk, OnOk, map, option_map};
 ghost use Rattle.semver.specs.Identifiers.{parts_of};
 ghost use Rattle.semver.specs.Parse.{Parts};
-ghost use Rattle.rustsec_error.specs.Failure.{IsRefusal};
+ghost use Rattle.rustsec_values.specs.Failure.{IsRefusal};
 ghost use Rattle.rustsec_versions.specs.acceptance.Lists.{affected};
 ghost use Rattle.rustsec_versions.specs.order.Precedence.{IsVersion, least_of};
 ghost use Rattle.rustsec_versions.specs.ranges.AcceptedRanges.{HasUnboundedInterval};
@@ -14,8 +14,7 @@ ghost use Rattle.rustsec_osv.specs.Export.{IsRangeOf};
 
 use crate::ranges::OsvJsonRange;
 use crate::timeline::OsvTimelineEvent;
-use rustsec_error::{Error, ErrorKind, Result};
-use rustsec_values::Text;
+use rustsec_values::{Error, ErrorKind, Result, Text};
 use rustsec_versions::{OsvRange, Versions, ranges_for_advisory};
 use semver::{BuildMetadata, Prerelease, Version};
 use std::alloc::{AllocError, Global};

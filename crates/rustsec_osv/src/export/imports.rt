@@ -5,16 +5,15 @@ ghost use Rattle.std.specs.Str.{IsAscii};
 ghost use Rattle.rustsec_lock.specs.Names.{name_cmp};
 ghost use Rattle.rustsec_texts.specs.IdOrder.{id_order};
 ghost use Rattle.rustsec_texts.specs.Ids.{IdValue};
-ghost use Rattle.rustsec_error.specs.Failure.{IsMemory, IsRefusal};
+ghost use Rattle.rustsec_values.specs.Failure.{IsMemory, IsRefusal};
 ghost use Rattle.rustsec_osv.specs.Imports.{AreDistinct, crate_names, is_crate, is_page, linked_id, linked_ids, linked_text};
 
 use crate::affected::OsvAffected;
 use crate::document::OsvAdvisory;
 use crate::export::members::ECOSYSTEM;
 use crate::reference::OsvReference;
-use rustsec_error::{ErrorKind, Result, text_error};
 use rustsec_texts::{Address, Id};
-use rustsec_values::Items;
+use rustsec_values::{ErrorKind, Items, Result, text_error};
 use std::alloc::{AllocError, Global};
 
 /// The beginning of the addresses of RustSec's advisories.

@@ -10,13 +10,15 @@ use crate::affected::{
 };
 use crate::ranges::OsvJsonRange;
 use crate::severity::OsvSeverity;
+use rustsec_advisory::Affected;
 use rustsec_advisory::metadata::Kinds;
-use rustsec_advisory::{Affected, Functions};
 use rustsec_lock::Cvss;
 use rustsec_lock::package::Name;
 use rustsec_texts::{Date, FunctionPath};
-use rustsec_values::{Items, Text, exact_copy};
+use rustsec_values::{Items, SortedMap, Text, exact_copy};
+use rustsec_versions::Requirements;
 use std::alloc::{AllocError, Global};
+use std::collections::BTreeMap;
 
 /// The ecosystem of the packages of crates.io.
 pub(crate) const ECOSYSTEM: &str = "crates.io";
@@ -56,13 +58,13 @@ pub(crate) fn package_of(alloc: Global, name: &Name) -> Result<OsvPackage, Alloc
 }
 
 /// Returns the paths of functions, in order.
-fn paths_of(alloc: Global, functions: Functions) -> Result<Vec<FunctionPath>, AllocError>
+fn paths_of(
+    alloc: Global,
+    functions: SortedMap<FunctionPath, Requirements>,
+) -> Result<Vec<FunctionPath>, AllocError>
     ensures { IfOk result (λ v. v.items ≡ keys_of functions) }
 {
-    Vec::from(functions)
-        .into_iter()
-        .map(|(path, _)| path)
-        .collect(alloc)
+    BTreeMap::from(functions).into_keys().collect(alloc)
 }
 
 /// Returns the affected platforms and functions, none if the advisory names none.

@@ -2,16 +2,15 @@
 
 ghost use Rattle.std.specs.Prelude.{◌≡◌, ◌++◌, ◌∷◌, [], All, IfErr, IfOk, None, OnOk, Some, map, option_to_list};
 ghost use Rattle.rustsec_texts.specs.Addresses.{address_of};
-ghost use Rattle.rustsec_error.specs.Failure.{IsRefusal};
+ghost use Rattle.rustsec_values.specs.Failure.{IsRefusal};
 ghost use Rattle.rustsec_osv.specs.DocumentCodec.{IsReferenceAgain};
 ghost use Rattle.rustsec_osv.specs.References.{advisory_page, has, is_advisory, is_package, is_report, kind_of, own_pages, package_page, reference_of};
 
 use crate::reference::{OsvReference, OsvReferenceKind};
 use rustsec_advisory::metadata::Origin;
-use rustsec_error::{ErrorKind, Result};
 use rustsec_lock::package::Name;
 use rustsec_texts::{Address, Id};
-use rustsec_values::Items;
+use rustsec_values::{ErrorKind, Items, Result};
 use std::alloc::{AllocError, Global};
 
 /// Returns whether a text contains a part.

@@ -3,7 +3,7 @@ pub mod Admission
 pub mod Clashes
 pub mod Clear
 pub mod Contraction
-pub mod Early
+pub mod FirstClash
 pub mod MergedFit
 pub mod Neighbours
 pub mod OneMerge

@@ -4,6 +4,7 @@ use Rattle.std.specs.Prelude.{◌&&◌, ◌==◌, ℕ, not, Bool, true, false, L
 use Rattle.std.specs.List.{enumerate_from, list_all, list_any}
 use Rattle.semver.specs.Parse.{Held, Parts}
 use Rattle.rustsec_versions.specs.order.Precedence.{precedence}
+use Rattle.rustsec_versions.specs.interval.Apart.{are_apart}
 use Rattle.rustsec_versions.specs.interval.Interval.{Interval, holds, overlap}
 use Rattle.rustsec_versions.specs.requirement.Requirement.{interval_of}
 
@@ -76,9 +77,9 @@ some_clash ps = list_any (λ p. list_any (clash p) ps) ps
 unfoldable pub accepted : Lists → Bool
 accepted ls = all_admissible (ls.patched ++ ls.unaffected) && not (some_clash (joined ls))
 
--- as `accepted`, but no two requirements may overlap, whichever lists they are in: as if all were unaffected ones
+-- as `accepted`, but no two requirements may overlap, whichever lists they are in
 abbrev pub accepted_apart : Lists → Bool
-accepted_apart ls = accepted (record { patched = []; unaffected = ls.patched ++ ls.unaffected })
+accepted_apart ls = all_admissible (ls.patched ++ ls.unaffected) && are_apart precedence (intervals ls)
 
 -- ---- verdicts
 

@@ -1,8 +1,9 @@
 -- The sweep that merges intervals: over intervals in the order of their starts, it joins each one with the merged
--- interval so far if the two overlap and both are patched. If they overlap and one is not patched, two clash, and
--- there is no answer. It only helps proofs: `Merged` defines merged intervals for public contracts.
-use Rattle.std.specs.Prelude.{Bool, true, false, not, ◌&&◌, List, [], ◌∷◌, ◌++◌, Option, Some, None, cond, filter_map, map, option_map}
+-- interval so far if it overlaps the one that ends last of those and both are patched. If they overlap and one is not
+-- patched, the two clash. It only helps proofs: `Merged` defines merged intervals for public contracts.
+use Rattle.std.specs.Prelude.{Bool, true, false, not, ◌&&◌, List, [], ◌∷◌, ◌++◌, Result, Ok, Err, cond, filter_map, map}
 use Rattle.std.specs.List.{list_any}
+use Rattle.std.specs.Result.{result_map_both}
 use Rattle.semver.specs.Parse.{Held}
 use Rattle.rustsec_versions.specs.interval.Interval.{Endpoint, Interval, end_le, overlap}
 use Rattle.rustsec_versions.specs.acceptance.Lists.{Lists}
@@ -28,17 +29,6 @@ all_tagged ls = tagged true ls.patched ++ tagged false ls.unaffected
 abbrev pub spans : List TaggedInterval → List Interval
 spans cs = map (λ c. c.interval) cs
 
--- the later one of two ends
-abbrev pub later_end : Endpoint → Endpoint → Endpoint
-later_end d e = cond (end_le d e) e d
-
--- an interval with its end extended to that of another one, if that is later
-abbrev pub stretched : Interval → Interval → Interval
-stretched i j = record { start = i.start; end = later_end i.end j.end }
-
-abbrev pub stretched_tag : TaggedInterval → TaggedInterval → TaggedInterval
-stretched_tag c x = record { interval = stretched c.interval x.interval; is_patched = c.is_patched }
-
 -- whether two requirements at different places clash
 abbrev pub clashes : TaggedInterval → TaggedInterval → Bool
 clashes c x = not (c.is_patched && x.is_patched) && overlap precedence c.interval x.interval
@@ -48,23 +38,22 @@ abbrev pub are_clear : List TaggedInterval → Bool
 are_clear [] = true
 are_clear (c ∷ cs) = not (list_any (clashes c) cs) && are_clear cs
 
--- as `clashes`, by the order of `Version` instead of precedence: of intervals of requirements, both say the same
-abbrev pub bounds_clash : TaggedInterval → TaggedInterval → Bool
-bounds_clash c x = not (c.is_patched && x.is_patched) && overlap version_order c.interval x.interval
+-- the one of two intervals that ends later; the first one if both end at one place
+abbrev pub later : TaggedInterval → TaggedInterval → TaggedInterval
+later c x = cond (end_le x.interval.end c.interval.end) c x
 
--- no two clash by that order
-abbrev pub bounds_are_clear : List TaggedInterval → Bool
-bounds_are_clear [] = true
-bounds_are_clear (c ∷ cs) = not (list_any (bounds_clash c) cs) && bounds_are_clear cs
+-- an interval, from another start on
+abbrev pub from_start : Endpoint → TaggedInterval → TaggedInterval
+from_start s c = record { interval = record { start = s; end = c.interval.end }; is_patched = c.is_patched }
 
--- the merged intervals from one on, if no two clash
-unfoldable pub swept : TaggedInterval → List TaggedInterval → Option (List TaggedInterval)
-swept c [] = Some (c ∷ [])
-swept c (x ∷ xs) =
-    cond (overlap version_order c.interval x.interval) (cond (c.is_patched && x.is_patched) (swept (stretched_tag c x) xs) None)
-    (option_map (λ ms. c ∷ ms) (swept x xs))
+-- the merged intervals from a start on, where an interval ends last of those before; or the first two that clash
+unfoldable pub swept : Endpoint → TaggedInterval → List TaggedInterval → Result (List TaggedInterval) (TaggedInterval × TaggedInterval)
+swept s c [] = Ok (from_start s c ∷ [])
+swept s c (x ∷ xs) =
+    cond (overlap version_order c.interval x.interval) (cond (c.is_patched && x.is_patched) (swept s (later c x) xs) (Err (c, x)))
+    (result_map_both (λ ms. from_start s c ∷ ms) (λ p. p) (swept x.interval.start x xs))
 
 -- those of a whole list
-abbrev pub all_swept : List TaggedInterval → Option (List TaggedInterval)
-all_swept [] = Some []
-all_swept (c ∷ xs) = swept c xs
+abbrev pub all_swept : List TaggedInterval → Result (List TaggedInterval) (TaggedInterval × TaggedInterval)
+all_swept [] = Ok []
+all_swept (c ∷ xs) = swept c.interval.start c xs

@@ -1,14 +1,18 @@
-//! Merges overlapping intervals of patched requirements.
+//! Merges overlapping intervals of patched requirements, and finds requirements that clash.
 
-ghost use Rattle.std.specs.Prelude.{◌≡◌, ◌&&◌, IfOk, map, option_map};
+ghost use Rattle.std.specs.Prelude.{◌≡◌, ◌&&◌, ◌++◌, Err, IfErr, IfOk, IsPermutation, Ok, map, true};
+ghost use Rattle.std.specs.List.Sorted.{IsSortedByKey};
+ghost use Rattle.rustsec_versions.specs.acceptance.FirstClash.{IsFirstClash};
+ghost use Rattle.rustsec_versions.specs.acceptance.Lists.{Lists, all_admissible};
+ghost use Rattle.rustsec_versions.specs.acceptance.Sweep.{all_swept, all_tagged, later, swept};
 ghost use Rattle.rustsec_versions.specs.interval.Interval.{overlap};
+ghost use Rattle.rustsec_versions.specs.interval.StartOrder.{start_order};
 ghost use Rattle.rustsec_versions.specs.order.Precedence.{version_order};
-ghost use Rattle.rustsec_versions.specs.acceptance.Sweep.{all_swept, later_end, stretched_tag, swept};
 ghost use Rattle.rustsec_versions.specs.Views.{endpoint_of};
 
 use crate::acceptance::tagged::TaggedInterval;
 use crate::bound::Bound;
-use crate::interval::{end_le, reaches};
+use crate::interval::end_le;
 use std::alloc::{AllocError, Global};
 use std::marker::Model;
 
@@ -16,38 +20,20 @@ use std::marker::Model;
 #[derive(Drop)]
 pub(crate) struct Merged<'a> {
     start: &'a Bound,
-    end: &'a Bound,
-    is_patched: bool,
+    /// The one of the intervals that ends last.
+    last: &'a TaggedInterval<'a>,
 }
 
 impl<'a> Model for Merged<'a> {
-    ghost use Rattle.rustsec_versions.specs.acceptance.Sweep.{TaggedInterval};
-    ghost use Rattle.rustsec_versions.specs.Views.{interval_between};
+    ghost use Rattle.rustsec_versions.specs.acceptance.Sweep.{TaggedInterval, from_start};
+    ghost use Rattle.rustsec_versions.specs.Views.{endpoint_of};
 
     ghost Value = { TaggedInterval };
 
-    ghost view = { λ m. record { interval = interval_between m.start.now m.end.now; is_patched = m.is_patched } };
-}
-
-/// Returns the later one of two ends.
-fn later_end<'a>(first: &'a Bound, second: &'a Bound) -> &'a Bound
-    ensures { endpoint_of result.now ≡ later_end (endpoint_of first.now) (endpoint_of second.now) }
-{
-    if end_le(first, second) { second } else { first }
+    ghost view = { λ m. from_start (endpoint_of m.start.now) m.last.now };
 }
 
 impl<'a> Merged<'a> {
-    /// Returns the interval of one requirement.
-    fn of(one: &'a TaggedInterval) -> Merged<'a>
-        ensures { result ≡ one.now }
-    {
-        Merged {
-            start: one.interval.start(),
-            end: one.interval.end(),
-            is_patched: one.is_patched,
-        }
-    }
-
     /// Returns the start.
     pub(crate) fn start(&self) -> &'a Bound
         ensures { endpoint_of result.now ≡ self.now.interval.start }
@@ -59,68 +45,83 @@ impl<'a> Merged<'a> {
     pub(crate) fn end(&self) -> &'a Bound
         ensures { endpoint_of result.now ≡ self.now.interval.end }
     {
-        self.end
-    }
-
-    /// Returns whether each interval's start is at or below the other's end.
-    fn overlaps(&self, next: &TaggedInterval) -> bool
-        ensures { result ≡ overlap version_order self.now.interval next.now.interval }
-    {
-        reaches(self.start, next.interval.end()) && reaches(next.interval.start(), self.end)
-    }
-
-    /// Returns whether both intervals are of patched requirements.
-    fn is_patched_with(&self, next: &TaggedInterval) -> bool
-        ensures { result ≡ (self.now.is_patched && next.now.is_patched) }
-    {
-        self.is_patched && next.is_patched
-    }
-
-    /// Returns the interval with its end extended to that of the next one, if that is later.
-    fn stretched(&self, next: &'a TaggedInterval) -> Merged<'a>
-        ensures { result ≡ stretched_tag self.now next.now }
-    {
-        Merged {
-            start: self.start,
-            end: later_end(self.end, next.interval.end()),
-            is_patched: self.is_patched,
-        }
+        let last = self.last;
+        last.interval.end()
     }
 }
 
-/// Returns the merged intervals from one interval on, or none if two clash.
+/// The intervals of two requirements that clash; the first one does not start after the second one.
+pub(crate) type Clash<'a> = (&'a TaggedInterval<'a>, &'a TaggedInterval<'a>);
+
+/// Returns whether the intervals of two requirements overlap.
+fn overlap(first: &TaggedInterval, second: &TaggedInterval) -> bool
+    ensures { result ≡ overlap version_order first.now.interval second.now.interval }
+{
+    first.interval.overlaps(&second.interval)
+}
+
+/// Returns whether two requirements are both patched, so that their intervals may overlap.
+fn are_patched(first: &TaggedInterval, second: &TaggedInterval) -> bool
+    ensures { result ≡ (first.now.is_patched && second.now.is_patched) }
+{
+    first.is_patched && second.is_patched
+}
+
+/// Returns the one of two intervals that ends later; the first one if both end at one place.
+fn later<'a>(
+    first: &'a TaggedInterval<'a>,
+    second: &'a TaggedInterval<'a>,
+) -> &'a TaggedInterval<'a>
+    ensures { result.now ≡ later first.now second.now }
+{
+    if end_le(second.interval.end(), first.interval.end()) {
+        first
+    } else {
+        second
+    }
+}
+
+/// Returns the merged intervals from one interval on, or the first two that clash.
 fn sweep<'a>(
     alloc: Global,
-    first: &'a TaggedInterval,
-    others: &[&'a TaggedInterval],
-) -> std::result::Result<Option<Vec<Merged<'a>>>, AllocError>
-    ensures { IfOk result (λ o. option_map (λ v. v.items) o ≡ swept first.now (map (λ x. x.now) others.now)) }
+    first: &'a TaggedInterval<'a>,
+    others: &[&'a TaggedInterval<'a>],
+) -> std::result::Result<std::result::Result<Vec<Merged<'a>>, Clash<'a>>, AllocError>
+    ensures merged { IfOk result (λ o. IfOk o (λ v. swept first.now.interval.start first.now (map (λ x. x.now) others.now) ≡ Ok v.items)) }
+    ensures clash { IfOk result (λ o. IfErr o (λ p. swept first.now.interval.start first.now (map (λ x. x.now) others.now) ≡ Err (p.0.now, p.1.now))) }
 {
     let mut done = Vec::new(alloc);
-    let mut current = Merged::of(first);
+    let mut start = first.interval.start();
+    let mut last = first;
     for next in others {
-        if !current.overlaps(next) {
-            done.push(current).map_err(|_| AllocError)?;
-            current = Merged::of(next);
-        } else if current.is_patched_with(next) {
-            current = current.stretched(next);
+        if !overlap(last, next) {
+            done.push(Merged { start, last }).map_err(|_| AllocError)?;
+            start = next.interval.start();
+            last = next;
+        } else if are_patched(last, next) {
+            last = later(last, next);
         } else {
-            return Ok(None);
+            return Ok(Err((last, next)));
         }
     }
-    done.push(current).map_err(|_| AllocError)?;
-    Ok(Some(done))
+    done.push(Merged { start, last }).map_err(|_| AllocError)?;
+    Ok(Ok(done))
 }
 
-/// Returns the merged intervals of a list that is sorted by starts, or none if two clash.
+/// Returns the merged intervals of a list that is sorted by starts, or the first two that clash.
 pub(crate) fn merged_intervals<'a>(
     alloc: Global,
-    sorted: &[&'a TaggedInterval],
-) -> std::result::Result<Option<Vec<Merged<'a>>>, AllocError>
-    ensures { IfOk result (λ o. option_map (λ v. v.items) o ≡ all_swept (map (λ x. x.now) sorted.now)) }
+    sorted: &[&'a TaggedInterval<'a>],
+) -> std::result::Result<std::result::Result<Vec<Merged<'a>>, Clash<'a>>, AllocError>
+    ensures merged { IfOk result (λ o. IfOk o (λ v. all_swept (map (λ x. x.now) sorted.now) ≡ Ok v.items)) }
+
+    // The intervals of admissible requirements in the order of their starts.
+    ensures clash { IfOk result (λ o. IfErr o (λ p. (ls : Lists) → all_admissible (ls.patched ++ ls.unaffected) ≡ true
+        → IsPermutation (all_tagged ls) (map (λ x. x.now) sorted.now) → IsSortedByKey (λ x. x.now.interval.start) start_order sorted.now
+        → IsFirstClash (map (λ x. x.now) sorted.now) p.0.now p.1.now)) }
 {
     match sorted.split_first() {
         Some((first, others)) => sweep(alloc, first, others),
-        None => Ok(Some(Vec::new(alloc))),
+        None => Ok(Ok(Vec::new(alloc))),
     }
 }

@@ -1,18 +1,17 @@
 //! The intervals of the requirements of both lists, in the order of their starts.
 
-ghost use Rattle.std.specs.Prelude.{◌≡◌, ◌⊎◌, ◌++◌, ◌∷◌, [], IfErr, IfOk, IsPermutation, OnOk, false, map, true};
+ghost use Rattle.std.specs.Prelude.{◌≡◌, ◌++◌, ◌∷◌, [], IfErr, IfOk, IsPermutation, OnOk, false, map, true};
 ghost use Rattle.std.specs.List.Sorted.{IsSortedByKey};
-ghost use Rattle.rustsec_error.specs.Failure.{IsRefusal};
+ghost use Rattle.rustsec_values.specs.Failure.{IsRefusal};
 ghost use Rattle.rustsec_versions.specs.interval.StartOrder.{start_order};
-ghost use Rattle.rustsec_versions.specs.acceptance.Lists.{accepted, all_admissible};
-ghost use Rattle.rustsec_versions.specs.acceptance.Sweep.{all_tagged, bounds_are_clear, bounds_clash, tagged};
+ghost use Rattle.rustsec_versions.specs.acceptance.Lists.{all_admissible};
+ghost use Rattle.rustsec_versions.specs.acceptance.Sweep.{tagged};
 ghost use Rattle.rustsec_versions.specs.Views.{comparators_of, endpoint_of};
 
-use crate::acceptance::overlaps::clash_error;
 use crate::bound::Bound;
 use crate::interval::UnaffectedRange;
 use crate::requirement::requirements::Requirements;
-use rustsec_error::{ErrorKind, Result};
+use rustsec_values::{ErrorKind, Result};
 use semver::VersionReq;
 use std::alloc::{AllocError, Global};
 use std::cmp::Ordering;
@@ -34,16 +33,7 @@ impl<'a> Model for TaggedInterval<'a> {
     ghost view = { λ p. record { interval = p.interval; is_patched = p.is_patched } };
 }
 
-impl<'a> TaggedInterval<'a> {
-    /// Returns whether the two requirements clash: whether their intervals overlap and not both are patched.
-    fn clashes(&self, next: &TaggedInterval) -> bool
-        ensures { result ≡ bounds_clash self.now next.now }
-    {
-        !(self.is_patched && next.is_patched) && self.interval.overlaps(&next.interval)
-    }
-}
-
-/// Appends the interval of a requirement, unless it clashes with the last one.
+/// Appends the interval of a requirement.
 fn push_tagged<'a>(
     alloc: Global,
     requirement: &'a VersionReq,
@@ -52,8 +42,7 @@ fn push_tagged<'a>(
 ) -> Result<()>
     ensures ok { OnOk result (intervals.new.items ≡ intervals.old.items ++ tagged is_patched (comparators_of requirement.now ∷ [])) }
     ensures admissible { OnOk result (all_admissible (comparators_of requirement.now ∷ []) ≡ true) }
-    ensures err { IfErr result (IsRefusal ErrorKind.BadParam ((all_admissible (comparators_of requirement.now ∷ []) ≡ false)
-        ⊎ (bounds_are_clear (intervals.old.items ++ tagged is_patched (comparators_of requirement.now ∷ [])) ≡ false))) }
+    ensures err { IfErr result (IsRefusal ErrorKind.BadParam (all_admissible (comparators_of requirement.now ∷ []) ≡ false)) }
 {
     let interval = UnaffectedRange::from_req(alloc, requirement)?;
     let next = TaggedInterval {
@@ -61,17 +50,12 @@ fn push_tagged<'a>(
         requirement,
         is_patched,
     };
-    if let Some(last) = intervals.last() {
-        if last.clashes(&next) {
-            return Err(clash_error(alloc, last, &next));
-        }
-    }
     intervals.push(next).map_err(|_| AllocError)?;
     Ok(())
 }
 
-/// Appends the interval of each requirement of one list, unless one clashes with the one before it.
-pub(crate) fn add_tagged<'a>(
+/// Appends the interval of each requirement of one list.
+fn add_tagged<'a>(
     alloc: Global,
     reqs: &'a [VersionReq],
     is_patched: bool,
@@ -79,8 +63,7 @@ pub(crate) fn add_tagged<'a>(
 ) -> Result<()>
     ensures ok { OnOk result (intervals.new.items ≡ intervals.old.items ++ tagged is_patched (map comparators_of reqs.now)) }
     ensures admissible { OnOk result (all_admissible (map comparators_of reqs.now) ≡ true) }
-    ensures err { IfErr result (IsRefusal ErrorKind.BadParam ((all_admissible (map comparators_of reqs.now) ≡ false)
-        ⊎ (bounds_are_clear (intervals.old.items ++ tagged is_patched (map comparators_of reqs.now)) ≡ false))) }
+    ensures err { IfErr result (IsRefusal ErrorKind.BadParam (all_admissible (map comparators_of reqs.now) ≡ false)) }
 {
     for requirement in reqs {
         push_tagged(alloc, requirement, is_patched, intervals)?;
@@ -88,30 +71,28 @@ pub(crate) fn add_tagged<'a>(
     Ok(())
 }
 
-/// Returns the intervals of the requirements of both lists, unless neighbours clash: the first patched one, the
-/// unaffected ones and the other patched ones. So where the first patched and the first unaffected one clash, no other
-/// interval is made.
+/// Returns the intervals of the requirements of two lists: those of the patched ones, marked as such or not, and those
+/// of the unaffected ones.
 pub(crate) fn tagged_intervals<'a>(
     alloc: Global,
     patched: &'a Requirements,
     unaffected: &'a Requirements,
+    is_patched: bool,
 ) -> Result<Vec<TaggedInterval<'a>>>
-    ensures ok { IfOk result (λ v. IsPermutation (all_tagged (record { patched = patched.now; unaffected = unaffected.now })) v.items) }
+    ensures ok { IfOk result (λ v. v.items ≡ tagged is_patched patched.now ++ tagged false unaffected.now) }
     ensures admissible { OnOk result (all_admissible (patched.now ++ unaffected.now) ≡ true) }
-    ensures err { IfErr result (IsRefusal ErrorKind.BadParam
-        (accepted (record { patched = patched.now; unaffected = unaffected.now }) ≡ false)) }
+    ensures err { IfErr result (IsRefusal ErrorKind.BadParam (all_admissible (patched.now ++ unaffected.now) ≡ false)) }
 {
     let patched = patched.as_slice();
-    let (first, others) = patched.split_at(patched.len().min(1));
+    let unaffected = unaffected.as_slice();
     let mut intervals = Vec::new(alloc);
-    add_tagged(alloc, first, true, &mut intervals)?;
-    add_tagged(alloc, unaffected.as_slice(), false, &mut intervals)?;
-    add_tagged(alloc, others, true, &mut intervals)?;
+    add_tagged(alloc, patched, is_patched, &mut intervals)?;
+    add_tagged(alloc, unaffected, false, &mut intervals)?;
     Ok(intervals)
 }
 
 /// Compares two starts, in the order of `Version`.
-pub(crate) fn compare_starts(a: &Bound, b: &Bound) -> Ordering
+fn compare_starts(a: &Bound, b: &Bound) -> Ordering
     ensures { result ≡ start_order (endpoint_of a.now) (endpoint_of b.now) }
 {
     match (a, b) {

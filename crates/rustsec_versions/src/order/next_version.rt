@@ -4,11 +4,11 @@ ghost use Rattle.std.specs.Prelude.{◌≡◌, ◌≢◌, ◌↔◌, ◌++◌, �
 ghost use Rattle.semver.specs.Grammar.{is_pre_release};
 ghost use Rattle.semver.specs.Identifiers.{build_text, parts_of, pre_text};
 ghost use Rattle.semver.specs.Parse.{memory_error};
-ghost use Rattle.rustsec_error.specs.Failure.{IsMemory};
+ghost use Rattle.rustsec_values.specs.Failure.{IsMemory};
 ghost use Rattle.rustsec_versions.specs.order.Precedence.{IsVersion, least_of};
 ghost use Rattle.rustsec_versions.specs.order.Successor.{IsLeastAbove, successor};
 
-use rustsec_error::{Error, Result};
+use rustsec_values::{Error, Result};
 use semver::{BuildMetadata, Prerelease, Version};
 use std::alloc::{AllocError, Global};
 

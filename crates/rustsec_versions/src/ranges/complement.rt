@@ -2,7 +2,7 @@
 
 ghost use Rattle.std.specs.Prelude.{◌≡◌, ◌++◌, [], IfErr, IfOk, OnOk};
 ghost use Rattle.rustsec_versions.specs.ranges.Between.{gap_to, complement_between, opposite_bound};
-ghost use Rattle.rustsec_error.specs.Failure.{IsMemory};
+ghost use Rattle.rustsec_values.specs.Failure.{IsMemory};
 ghost use Rattle.rustsec_versions.specs.ranges.Complement.{HasValidBounds, cut};
 ghost use Rattle.rustsec_versions.specs.interval.Interval.{unbounded};
 ghost use Rattle.rustsec_versions.specs.acceptance.Sweep.{spans};
@@ -11,8 +11,7 @@ ghost use Rattle.rustsec_versions.specs.Views.{endpoint_of};
 use crate::acceptance::merge::Merged;
 use crate::bound::Bound;
 use crate::ranges::{OsvRange, lower_cut, upper_cut};
-use rustsec_error::Result;
-use rustsec_values::ExactClone;
+use rustsec_values::{ExactClone, Result};
 use std::alloc::{AllocError, Global};
 use std::marker::Model;
 

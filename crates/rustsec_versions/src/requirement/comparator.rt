@@ -3,7 +3,7 @@
 ghost use Rattle.std.specs.Prelude.{◌≡◌, ◌==◌, ◌&&◌, ◌<◌, ◌^◌, ◌+◌, IfErr, IfOk, None, OnErr, Some, [], ◌∷◌, false, length, true};
 ghost use Rattle.semver.specs.Grammar.{is_pre_release};
 ghost use Rattle.semver.specs.Identifiers.{comparator_view, parts_of, pre_text};
-ghost use Rattle.rustsec_error.specs.Failure.{IsMemory, IsOfKind, IsRefusal};
+ghost use Rattle.rustsec_values.specs.Failure.{IsMemory, IsOfKind, IsRefusal};
 ghost use Rattle.rustsec_values.specs.Reading.{only_if};
 ghost use Rattle.rustsec_versions.specs.Memory.{gives_one_bound, hold_no_text};
 ghost use Rattle.rustsec_versions.specs.requirement.Requirement.{caret_end, names_version, base_version, next_major, next_minor, next_patch, of_one, side_of, stated, tilde_end};
@@ -13,7 +13,7 @@ ghost use Rattle.rustsec_versions.specs.order.Precedence.{fits, least_of};
 use crate::bound::Bound;
 use crate::order::next_version::least_of;
 use crate::requirement::semver_texts::is_out_of_memory;
-use rustsec_error::{Error, ErrorKind, Result};
+use rustsec_values::{Error, ErrorKind, Result};
 use semver::{BuildMetadata, Comparator, Op, Prerelease, Version, VersionReq};
 use std::alloc::{AllocError, Global};
 

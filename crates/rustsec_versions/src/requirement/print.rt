@@ -2,13 +2,12 @@
 
 ghost use Rattle.std.specs.Prelude.{◌≡◌, ◌++◌, IfErr, IfOk, OnOk, string_bytes};
 ghost use Rattle.semver.specs.Identifiers.{comparator_view, marked, pre_text};
-ghost use Rattle.rustsec_error.specs.Failure.{IsMemory, IsOfKind};
+ghost use Rattle.rustsec_values.specs.Failure.{IsMemory, IsOfKind};
 ghost use Rattle.rustsec_versions.specs.requirement.RequirementText.{comparator_text, dotted, op_text, requirement_text, star};
 ghost use Rattle.rustsec_versions.specs.Views.{comparators_of};
 
 use crate::bound::Bound;
-use rustsec_error::{Error, Result, with_place};
-use rustsec_values::beginning_of;
+use rustsec_values::{Error, Result, beginning_of, with_place};
 use semver::{Comparator, Op, Prerelease, Version, VersionReq};
 use std::alloc::{AllocError, Global};
 

@@ -4,11 +4,10 @@ ghost use Rattle.std.specs.Prelude.{◌≡◌, [], ◌++◌, ◌∷◌, IfErr, I
 ghost use Rattle.std.specs.Cmp.{partial_equiv_from_equiv};
 ghost use Rattle.rustsec_versions.specs.EqualityLaws.{requirements_decides};
 ghost use Rattle.rustsec_versions.specs.Equality.{requirements_eq, requirements_equiv};
-ghost use Rattle.rustsec_error.specs.Failure.{IsMemory};
+ghost use Rattle.rustsec_values.specs.Failure.{IsMemory};
 ghost use Rattle.rustsec_versions.specs.Views.{comparators_of};
 
-use rustsec_error::{Error, Result};
-use rustsec_values::{ExactClone, ExactEq};
+use rustsec_values::{Error, ExactClone, ExactEq, Result};
 use semver::VersionReq;
 use std::alloc::{AllocError, Global};
 use std::marker::Model;

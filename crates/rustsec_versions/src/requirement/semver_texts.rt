@@ -4,11 +4,11 @@ ghost use Rattle.std.specs.Prelude.{◌≡◌, ◌≢◌, [], IfErr, IfOk, None,
 ghost use Rattle.semver.specs.Identifiers.{parts_of};
 ghost use Rattle.semver.specs.Parse.{memory_error, req_of, version_parts};
 ghost use Rattle.rustsec_values.specs.Reading.{value_of};
-ghost use Rattle.rustsec_error.specs.Failure.{IsOfKind, IsRefusal};
+ghost use Rattle.rustsec_values.specs.Failure.{IsOfKind, IsRefusal};
 ghost use Rattle.rustsec_versions.specs.Memory.{is_plain};
 ghost use Rattle.rustsec_versions.specs.Views.{comparators_of};
 
-use rustsec_error::{Error, ErrorKind, Result, text_error_with_cause};
+use rustsec_values::{Error, ErrorKind, Result, text_error_with_cause};
 use semver::{Version, VersionReq};
 use std::alloc::{AllocError, Global};
 

@@ -3,7 +3,7 @@
 ghost use Rattle.std.specs.Prelude.{◌≡◌, ◌↔◌, [], Contains, IfErr, IfOk, List, OnErr, Some, filter_map, true};
 ghost use Rattle.std.specs.List.{All, list_any};
 ghost use Rattle.semver.specs.Parse.{Parts};
-ghost use Rattle.rustsec_error.specs.Failure.{IsMemory};
+ghost use Rattle.rustsec_values.specs.Failure.{IsMemory};
 ghost use Rattle.rustsec_versions.specs.interval.Interval.{Interval};
 ghost use Rattle.rustsec_versions.specs.acceptance.Lists.{Lists, accepted_apart, affected, intervals};
 ghost use Rattle.rustsec_versions.specs.acceptance.Merged.{AreMerged, IsJoined};
@@ -15,7 +15,7 @@ ghost use Rattle.rustsec_versions.specs.order.Successor.{IsLeastAbove, successor
 
 use crate::ranges::OsvRange;
 use crate::versions::Versions;
-use rustsec_error::Result;
+use rustsec_values::Result;
 use std::alloc::Global;
 
 /// Returns the ranges of affected versions, in rising order: the gaps between the merged intervals of the

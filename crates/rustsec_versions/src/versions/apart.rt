@@ -1,54 +1,29 @@
-//! Whether requirements are accepted with each one as an unaffected one, so that no two may overlap.
+//! Whether no two requirements overlap, whichever lists they are in.
 
-ghost use Rattle.std.specs.Prelude.{◌≡◌, ◌++◌, IfErr, IfOk, OnOk, false, true};
-ghost use Rattle.rustsec_error.specs.Failure.{IsRefusal};
-ghost use Rattle.rustsec_versions.specs.acceptance.Lists.{Lists, accepted, accepted_apart, all_admissible};
-ghost use Rattle.rustsec_versions.specs.acceptance.Sweep.{all_tagged, tagged};
+ghost use Rattle.std.specs.Prelude.{◌≡◌, ◌++◌, IfOk, filter_map, true};
+ghost use Rattle.rustsec_versions.specs.acceptance.Lists.{all_admissible};
+ghost use Rattle.rustsec_versions.specs.interval.Apart.{are_apart};
+ghost use Rattle.rustsec_versions.specs.order.Precedence.{precedence};
+ghost use Rattle.rustsec_versions.specs.requirement.Requirement.{interval_of};
 
 use crate::acceptance::merge::merged_intervals;
-use crate::acceptance::tagged::{TaggedInterval, add_tagged, by_start};
-use crate::versions::Versions;
-use rustsec_error::{ErrorKind, Result};
+use crate::acceptance::tagged::{by_start, tagged_intervals};
+use crate::requirement::requirements::Requirements;
 use std::alloc::{AllocError, Global};
 
-/// Returns the intervals of the requirements of both lists, each one as that of an unaffected requirement, unless
-/// neighbours overlap.
-fn unaffected_intervals<'a>(
+/// Returns whether no two of the intervals of two lists of admissible requirements overlap.
+pub(crate) fn are_apart(
     alloc: Global,
-    versions: &'a Versions,
-) -> Result<Vec<TaggedInterval<'a>>>
-    ensures ok { IfOk result (λ v. v.items ≡ tagged false (versions.now.patched ++ versions.now.unaffected)) }
-    ensures admissible { OnOk result (all_admissible (versions.now.patched ++ versions.now.unaffected) ≡ true) }
-    ensures err { IfErr result (IsRefusal ErrorKind.BadParam (accepted_apart versions.now ≡ false)) }
-{
-    let mut intervals = Vec::new(alloc);
-    add_tagged(alloc, versions.patched(), false, &mut intervals)?;
-    add_tagged(alloc, versions.unaffected(), false, &mut intervals)?;
-    Ok(intervals)
-}
-
-/// Returns whether lists with these intervals are accepted.
-fn are_clear(alloc: Global, intervals: &[TaggedInterval]) -> std::result::Result<bool, AllocError>
-    ensures { (ls : Lists) → all_admissible (ls.patched ++ ls.unaffected) ≡ true → intervals.now ≡ all_tagged ls
-        → IfOk result (λ b. b ≡ accepted ls) }
-{
-    let sorted = by_start(alloc, intervals)?;
-    let merged = merged_intervals(alloc, &sorted)?;
-    Ok(merged.is_some())
-}
-
-/// Returns whether lists of requirements are accepted with each requirement as an unaffected one.
-pub(crate) fn accepted_as_unaffected(
-    alloc: Global,
-    versions: &Versions,
+    patched: &Requirements,
+    unaffected: &Requirements,
 ) -> std::result::Result<bool, AllocError>
-    ensures { IfOk result (λ b. b ≡ accepted_apart versions.now) }
+    ensures { IfOk result (λ b. b ≡ are_apart precedence (filter_map interval_of (patched.now ++ unaffected.now))) }
 {
-    match unaffected_intervals(alloc, versions) {
-        Ok(intervals) => are_clear(alloc, &intervals),
-        Err(e) => match e.kind() {
-            ErrorKind::BadParam => Ok(false),
-            _ => Err(AllocError),
-        },
-    }
+    let Ok(all) = tagged_intervals(alloc, patched, unaffected, false) else {
+        // Each requirement is admissible, so only a lack of memory is an error here.
+        return Err(AllocError);
+    };
+    let sorted = by_start(alloc, &all)?;
+    let merged = merged_intervals(alloc, &sorted)?;
+    Ok(merged.is_ok())
 }

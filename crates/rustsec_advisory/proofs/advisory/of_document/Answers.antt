@@ -1,5 +1,5 @@
 use Rattle.std.proofs.lemmas.Result.{err_from_is_err_and}
-use Rattle.rustsec_error.proofs.Refusals.{refused_by}
+use Rattle.rustsec_values.proofs.Refusals.{refused_by}
 use Rattle.rustsec_advisory.proofs.Documents.{no-affected, no-metadata, no-versions, no-versions-table}
 use Rattle.rustsec_advisory.proofs.advisory.of_document.Goals as goal
 

@@ -1,5 +1,5 @@
 use Rattle.std.proofs.lemmas.Result.{err_from_is_err_and}
-use Rattle.rustsec_error.proofs.Refusals.{refused_by}
+use Rattle.rustsec_values.proofs.Refusals.{refused_by}
 use Rattle.rustsec_advisory.proofs.Documents.{no-document}
 use Rattle.rustsec_advisory.proofs.advisory.read_parts.Goals as goal
 

@@ -1,5 +1,5 @@
 use Rattle.std.proofs.lemmas.Result.{err_from_is_err_and}
-use Rattle.rustsec_error.proofs.Refusals.{refused_by}
+use Rattle.rustsec_values.proofs.Refusals.{refused_by}
 use Rattle.rustsec_advisory.proofs.front_matter.metadata.Goals as goal
 
 pub returns-in_err-subject-clause-err : goal.returns-in_err-subject-clause-err

@@ -2,13 +2,13 @@
 use Rattle.std.proofs.Common.{◌≡◌, ◌≢◌, ◌∙◌, ℕ, Bool, List, None, Some, ap, inl, inr}
 use Rattle.std.specs.List.{filter}
 use Rattle.rustsec_values.specs.Reading.{read_all}
-use Rattle.rustsec_error.specs.Failure.{Failure, IsRefusal}
-use Rattle.rustsec_error.specs.declared.error.ErrorKind.TheVariants as kind
-use Rattle.rustsec_error.proofs.Refusals.{refused_by}
-use Rattle.rustsec_folders.specs.Allowed.{Allowed, AllowSame}
-use Rattle.rustsec_folders.specs.Listed.{Listed, Paths, crates_of, rust_of}
-use Rattle.rustsec_folders.specs.declared.source_file.SourceFile.{SourceFile}
-use Rattle.rustsec_folders.proofs.Same.{collection-before, fails-at-file-before, fails-below-before, files-before, there-before}
+use Rattle.rustsec_values.specs.Failure.{Failure, IsRefusal}
+use Rattle.rustsec_values.specs.declared.error.ErrorKind.TheVariants as kind
+use Rattle.rustsec_values.proofs.Refusals.{refused_by}
+use Rattle.rustsec_files.specs.Allowed.{Allowed, AllowSame}
+use Rattle.rustsec_files.specs.Listed.{Listed, Paths, crates_of, rust_of}
+use Rattle.rustsec_files.specs.declared.source_file.SourceFile.{SourceFile}
+use Rattle.rustsec_files.proofs.Same.{collection-before, fails-at-file-before, fails-below-before, files-before, there-before}
 use Rattle.rustsec_lock.specs.Lockfile.{IsLockfileAt, IsLockfileRefusal}
 use Rattle.rustsec_lock.specs.Package.{PackageValue}
 use Rattle.rustsec_texts.specs.Ids.{id_of}

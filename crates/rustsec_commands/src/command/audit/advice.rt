@@ -1,13 +1,12 @@
 //! Describes the vulnerabilities and warnings of a report to a person, with what helps against them.
 
 use rustsec_advisory::Metadata;
-use rustsec_error::Result;
+use rustsec_database::VulnerabilityRef;
 use rustsec_lock::Cvss;
 use rustsec_lock::package::Package;
-use rustsec_query::VulnerabilityRef;
 use rustsec_report::{ReportRef, WarningRef, WarningsOfKind};
-use rustsec_shown::push_shown;
 use rustsec_texts::WarningKind;
+use rustsec_values::{Result, push_shown};
 use rustsec_versions::{Versions, requirement_text};
 use std::alloc::Global;
 use std::fmt::Write as _;

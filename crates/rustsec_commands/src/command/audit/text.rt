@@ -8,7 +8,7 @@ ghost use Rattle.rustsec_commands.specs.declared.fault.Fault.TheVariants as faul
 
 use crate::fault::Fault;
 use crate::output::Output;
-use rustsec_query::VulnerabilityRef;
+use rustsec_database::VulnerabilityRef;
 use rustsec_report::{Report, ReportRef, WarningRef, WarningsOfKind};
 use rustsec_texts::WarningKind;
 use std::alloc::{AllocError, Global};

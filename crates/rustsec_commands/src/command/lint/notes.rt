@@ -4,7 +4,7 @@ use crate::command::lint::warnings::add_warnings;
 use rustsec_advisory::linter::Error;
 use rustsec_advisory::{Linter, lint_error_line, placed_errors};
 use rustsec_lint_database::lint_help;
-use rustsec_shown::push_shown;
+use rustsec_values::push_shown;
 use std::alloc::{AllocError, Global};
 use std::fmt::Write as _;
 

@@ -2,8 +2,8 @@
 //! matching reads differently.
 
 use rustsec_advisory::Advisory;
-use rustsec_lint_database::{edition_note, reading_notes, upstream_notes};
-use rustsec_shown::push_shown;
+use rustsec_lint_database::{reading_notes, upstream_notes};
+use rustsec_values::push_shown;
 use std::alloc::{AllocError, Global};
 
 /// Appends a warning, on one line.
@@ -11,14 +11,6 @@ fn add_warning(note: &mut String, words: &str) -> Result<(), AllocError> {
     note.push_str("rustsec_audit: warning: ")?;
     push_shown(note, words)?;
     note.push('\n')
-}
-
-/// Appends the warning about the first form of TOML 1.1 that the Rust crate refuses.
-fn add_edition(alloc: Global, note: &mut String, text: &str) -> Result<(), AllocError> {
-    match edition_note(alloc, text)? {
-        Some(words) => add_warning(note, words.as_str()),
-        None => Ok(()),
-    }
 }
 
 /// Appends a warning for each part of an advisory that the Rust crate refuses.
@@ -57,7 +49,6 @@ pub fn add_warnings(
     text: &str,
     advisory: &Advisory,
 ) -> Result<(), AllocError> {
-    add_edition(alloc, note, text)?;
     add_upstream(alloc, note, text, advisory)?;
     add_readings(alloc, note, text, advisory)
 }

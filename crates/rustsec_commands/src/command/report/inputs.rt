@@ -1,7 +1,7 @@
 //! Reads what `report` and `audit` look at, and generates their report.
 
 ghost use Rattle.std.specs.Prelude.{◌≡◌, IfErr, IfOk, List};
-ghost use Rattle.rustsec_folders.specs.Allowed.{AllowSame};
+ghost use Rattle.rustsec_files.specs.Allowed.{AllowSame};
 ghost use Rattle.rustsec_lock.specs.Package.{PackageValue};
 ghost use Rattle.rustsec_database.specs.Kept.{AreOpenedFor, touches_any};
 ghost use Rattle.rustsec_database.specs.Opened.{IsOpenRefusal};
@@ -10,7 +10,7 @@ ghost use Rattle.rustsec_commands.specs.command.Reports.{AreReadFrom, IsReportRe
 
 use crate::command::report::overview::{LookedAt, Paths, overview};
 use rustsec_database::{Database, KeptDatabase, Locked};
-use rustsec_folders::Folders;
+use rustsec_files::Folders;
 use rustsec_lock::Lockfile;
 use rustsec_lock::package::Package;
 use rustsec_report::{ReportRef, Settings};
@@ -44,7 +44,7 @@ impl Drop for Inputs {
 }
 
 /// Returns the packages of a lockfile that was read, or none if it was refused.
-fn packages_read(read: &rustsec_error::Result<Lockfile>) -> &[Package]
+fn packages_read(read: &rustsec_values::Result<Lockfile>) -> &[Package]
     ensures { IfOk read.now (λ l. result.now ≡ l.packages) }
 {
     match read {
@@ -58,8 +58,8 @@ fn kept_for<F: Folders>(
     alloc: Global,
     folders: &mut F,
     root: &str,
-    read: &rustsec_error::Result<Lockfile>,
-) -> rustsec_error::Result<KeptDatabase>
+    read: &rustsec_values::Result<Lockfile>,
+) -> rustsec_values::Result<KeptDatabase>
     ensures ok { IfOk result (λ k. (packages : List PackageValue) × (AreOpenedFor (F.allowed folders.old) root.now (touches_any packages) k
         × IfOk read.now (λ l. packages ≡ l.packages))) }
     ensures err { IfErr result (IsOpenRefusal (F.allowed folders.old) root.now) }
@@ -82,7 +82,7 @@ pub fn read_inputs<F: Folders>(
     folders: &mut F,
     paths: Paths<'_>,
     ignored: &[Id],
-) -> rustsec_error::Result<(Inputs, Option<String>)>
+) -> rustsec_values::Result<(Inputs, Option<String>)>
     ensures ok { IfOk result (λ r. AreReadFrom (F.allowed folders.old) paths.entry.root.now paths.entry.lock.now r.0) }
     ensures err { IfErr result (IsReportRefusal (F.allowed folders.old) paths.entry.root.now paths.entry.lock.now) }
     ensures same { AllowSame (F.allowed folders.old) (F.allowed folders.new) }

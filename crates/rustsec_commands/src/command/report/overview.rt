@@ -1,14 +1,13 @@
 //! Says what a report looked at, and warns of what makes it say less than it seems to.
 
-ghost use Rattle.rustsec_folders.specs.Allowed.{AllowSame};
+ghost use Rattle.rustsec_files.specs.Allowed.{AllowSame};
 
 use rustsec_database::KeptDatabase;
-use rustsec_error::Result;
-use rustsec_folders::Folders;
+use rustsec_files::Folders;
 use rustsec_lock::package::Package;
 use rustsec_lock::{Lockfile, SourceKind};
-use rustsec_shown::push_shown;
 use rustsec_texts::Id;
+use rustsec_values::{Result, push_shown};
 use std::alloc::Global;
 use std::fmt::Write as _;
 
@@ -166,7 +165,7 @@ fn add_unlisted<F: Folders>(
 {
     let path = format!(in alloc; "{root}/rust")?;
     if let Err(error) = folders.list(alloc, &path) {
-        let why = error.to_string(alloc)?;
+        let why = error.text_with_cause(alloc)?;
         add_warning(note, "", &why)?;
     }
     Ok(())

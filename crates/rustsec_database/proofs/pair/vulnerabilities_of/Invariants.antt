@@ -1,5 +1,5 @@
 use Rattle.std.proofs.Common.{◌≡◌, map, take}
-use Rattle.rustsec_query.specs.Pairs.{as_vulnerability}
+use Rattle.rustsec_database.specs.Pairs.{as_vulnerability}
 use Rattle.rustsec_database.proofs.pair.vulnerabilities_of.Given as goal
 
 -- the vulnerabilities so far are those of the pairs so far

@@ -1,6 +1,6 @@
 use Rattle.std.proofs.Common.{◌∙◌, ap}
 use Rattle.serde_json.specs.Written.{has_float}
-use Rattle.rustsec_commands.specs.Output.{tree_line}
+use Rattle.rustsec_json.specs.Lines.{tree_line}
 use Rattle.rustsec_database_commands.proofs.StatsPlain.{stats-plain}
 use Rattle.rustsec_database_commands.proofs.stats.stats_line.Goals as goal
 

@@ -1,4 +1,4 @@
-use Rattle.rustsec_files.proofs.Names.{named}
+use Rattle.rustsec_files.proofs.FileNames.{named}
 use Rattle.rustsec_files.proofs.path.after_stem.Goals as goal
 
 pub returns : goal.returns

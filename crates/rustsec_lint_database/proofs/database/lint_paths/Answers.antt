@@ -1,4 +1,4 @@
-use Rattle.rustsec_folders.proofs.Same.{same-trans}
+use Rattle.rustsec_files.proofs.Same.{same-trans}
 use Rattle.rustsec_lint_database.proofs.Firsts.{linted-more, table-of}
 use Rattle.rustsec_lint_database.proofs.database.lint_paths.Goals as goal
 

@@ -1,5 +1,5 @@
 use Rattle.std.proofs.Common.{take}
-use Rattle.rustsec_folders.specs.Allowed.{AllowSame}
+use Rattle.rustsec_files.specs.Allowed.{AllowSame}
 use Rattle.rustsec_lint_database.proofs.Firsts.{AreSoFar}
 use Rattle.rustsec_lint_database.proofs.database.lint_paths.Given as goal
 

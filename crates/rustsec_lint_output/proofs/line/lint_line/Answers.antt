@@ -1,6 +1,6 @@
 use Rattle.std.proofs.Common.{◌∙◌, ap}
 use Rattle.serde_json.specs.Written.{has_float}
-use Rattle.rustsec_commands.specs.Output.{tree_line}
+use Rattle.rustsec_json.specs.Lines.{tree_line}
 use Rattle.rustsec_lint_output.proofs.LintPlain.{lint-plain}
 use Rattle.rustsec_lint_output.proofs.line.lint_line.Goals as goal
 

@@ -3,7 +3,7 @@ use Rattle.std.proofs.lemmas.Iterator.{items_from_drains}
 use Rattle.std.proofs.lemmas.Iterator.Splits.{YieldsList-from_str_split}
 use denote.Ref.{Bor}
 use Rattle.rustsec_lock.specs.Cvss.{base_of, metrics_of, parts_of}
-use Rattle.rustsec_error.proofs.Refusals.{refusal}
+use Rattle.rustsec_values.proofs.Refusals.{refusal}
 use Rattle.rustsec_lock.proofs.CvssParts.{base_of_eight, base_of_other}
 use Rattle.rustsec_lock.proofs.cvss.base.Goals as goal
 use Rattle.rustsec_lock.proofs.cvss.base.Goals.{else-has_eight_parts, then-has_eight_parts+in_ok-parts+in_default}

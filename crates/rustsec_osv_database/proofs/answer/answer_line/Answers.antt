@@ -5,7 +5,7 @@ use Rattle.serde_json.specs.Data.{Data}
 use Rattle.serde_json.specs.View.{view}
 use Rattle.serde_json.specs.Written.{has_float}
 use Rattle.rustsec_report.specs.Trees.{object_of}
-use Rattle.rustsec_commands.specs.Output.{tree_line}
+use Rattle.rustsec_json.specs.Lines.{tree_line}
 use Rattle.rustsec_osv_database.proofs.Documents.{answer-plain}
 use Rattle.rustsec_osv_database.proofs.answer.answer_line.Goals as goal
 

@@ -1,9 +1,9 @@
 use Rattle.std.proofs.Common.{◌∙◌, Bor}
 use Rattle.std.proofs.lemmas.Result.{err_from_is_err_and}
 use Rattle.rustsec_advisory.specs.declared.advisory.Advisory.{Advisory}
-use Rattle.rustsec_folders.proofs.Lists.{contains-item}
+use Rattle.rustsec_files.proofs.Lists.{contains-item}
 use Rattle.rustsec_versions.proofs.lemmas.lists.Contained.{contains-map}
-use Rattle.rustsec_error.proofs.Refusals.{refused_by}
+use Rattle.rustsec_values.proofs.Refusals.{refused_by}
 use Rattle.rustsec_osv_database.proofs.Documents.{one-more-document}
 use Rattle.rustsec_osv_database.proofs.answer.documents_of.Goals as goal
 

@@ -2,7 +2,7 @@ use Rattle.std.proofs.Common.{◌≡◌, ◌∙◌, ap, false}
 use Rattle.std.proofs.lemmas.Result.{IfOk-weaker}
 use Rattle.serde_json.specs.View.{view}
 use Rattle.serde_json.specs.Written.{has_float}
-use Rattle.rustsec_commands.specs.Output.{tree_line}
+use Rattle.rustsec_json.specs.Lines.{tree_line}
 use Rattle.rustsec_commands.proofs.lemmas.command.NoFloatsOsv.{document-plain}
 use Rattle.rustsec_osv_database.proofs.lines.document_line.Goals as goal
 

@@ -1,6 +1,6 @@
 use Rattle.std.proofs.Common.{◌∙◌, sym, append_assoc, append-nil, rules}
 use Rattle.std.proofs.lemmas.Str.{IsUtf8-past_char}
-use Rattle.rustsec_shown.proofs.ShownTexts.{char-left, rest-shorter}
+use Rattle.rustsec_values.proofs.ShownTexts.{char-left, rest-shorter}
 use Rattle.rustsec_page.proofs.EscapedTexts.{escaped-empty, escaped-step}
 use Rattle.rustsec_page.proofs.escape.push_escaped.Goals as goal
 

@@ -2,7 +2,7 @@ use Rattle.std.proofs.lemmas.Result.{err_from_is_err_and}
 use Rattle.rustsec_policy.specs.Policies.{ignored_of}
 use Rattle.rustsec_toml.proofs.Arrays.{items_start, items_stop}
 use Rattle.rustsec_lock.proofs.Arrays.{array-grown}
-use Rattle.rustsec_error.proofs.Refusals.{refused_by}
+use Rattle.rustsec_values.proofs.Refusals.{refused_by}
 use Rattle.rustsec_policy.proofs.ignored.all_ignored.Goals as goal
 
 pub loop-value-init : goal.loop-value-init

@@ -1,5 +1,5 @@
 use Rattle.std.proofs.lemmas.Result.{err_from_is_err_and}
-use Rattle.rustsec_error.proofs.Refusals.{refused_by}
+use Rattle.rustsec_values.proofs.Refusals.{refused_by}
 use Rattle.rustsec_policy.proofs.Days.{ids-more, ids-none, ids-stop}
 use Rattle.rustsec_policy.proofs.ignored.ids_on.Goals as goal
 

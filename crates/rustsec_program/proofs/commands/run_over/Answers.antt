@@ -1,7 +1,7 @@
 use Rattle.std.proofs.Common.{◌≡◌, ◌∙◌, IfSome, Some, ap, map, sym}
 use Rattle.std.proofs.KnownBytes.{Keeps-refl}
 use Rattle.std.proofs.lemmas.Result.{IfErr-weaker, IfOk-weaker}
-use Rattle.rustsec_folders.proofs.Same.{same-refl}
+use Rattle.rustsec_files.proofs.Same.{same-refl}
 use Rattle.rustsec_program.proofs.Grounds.{carried-before, finished-carried, many-broken-off, many-carried, many-reads, nothing-written-before, nothing-written-for, others-unread, some-written-for, unread-input}
 use Rattle.rustsec_program.proofs.Once.{one_output}
 use Rattle.rustsec_program.proofs.commands.run_over.Goals as goal

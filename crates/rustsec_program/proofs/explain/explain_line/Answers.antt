@@ -1,7 +1,7 @@
 use Rattle.std.proofs.Common.{◌≡◌, ◌∙◌, ap, false}
 use Rattle.serde_json.specs.View.{view}
 use Rattle.serde_json.specs.Written.{has_float}
-use Rattle.rustsec_commands.specs.Output.{tree_line}
+use Rattle.rustsec_json.specs.Lines.{tree_line}
 use Rattle.rustsec_program.proofs.ExplainPlain.{explain-plain}
 use Rattle.rustsec_program.proofs.explain.explain_line.Goals as goal
 

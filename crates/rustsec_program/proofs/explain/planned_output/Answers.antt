@@ -1,7 +1,12 @@
-use Rattle.std.proofs.Common.{inr}
+use Rattle.std.proofs.Common.{inl, inr}
 use Rattle.std.proofs.lemmas.Result.{err_from_is_err_and}
 use Rattle.rustsec_program.proofs.Before.{lockfile-before, lockfile-refused-before}
 use Rattle.rustsec_program.proofs.explain.planned_output.Goals as goal
+
+pub returns-in_err-database-clause-err : goal.returns-in_err-database-clause-err
+returns-in_err-database-clause-err g c =
+    let p = err_from_is_err_and c.from_residual.result c.from_residual.ensures.1 in
+    rw (p.1, p.2) (inl c.in_err-database.ensures.err)
 
 pub returns-in_err-lockfile-clause-err : goal.returns-in_err-lockfile-clause-err
 returns-in_err-lockfile-clause-err g c =

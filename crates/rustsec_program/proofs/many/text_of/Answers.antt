@@ -2,7 +2,7 @@ use Rattle.std.proofs.Common.{◌≡◌, ℕ, List, false, inl, inr}
 use Rattle.std.proofs.lemmas.Bool.{cases_Bool}
 use Rattle.std.proofs.lemmas.Str.{IsUtf8-from_is_utf8, is_utf8-from_IsUtf8}
 use Rattle.std.specs.Str.{IsUtf8, is_utf8}
-use Rattle.rustsec_error.proofs.Refusals.{refusal}
+use Rattle.rustsec_values.proofs.Refusals.{refusal}
 use Rattle.rustsec_program.proofs.many.text_of.Goals as goal
 
 is-not : (text : List ℕ) → ¬ (IsUtf8 text) → is_utf8 text ≡ false

@@ -1,5 +1,5 @@
 use Rattle.std.proofs.lemmas.Result.{err_from_is_err_and}
-use Rattle.rustsec_folders.proofs.Same.{same-refl, same-trans}
+use Rattle.rustsec_files.proofs.Same.{same-refl, same-trans}
 use Rattle.rustsec_program.proofs.ManyLines.{all-written, first-written, none-written, written-more}
 use Rattle.rustsec_program.proofs.OptionWords.{no_word}
 use Rattle.rustsec_program.proofs.many.write_lines.Goals as goal

@@ -1,5 +1,5 @@
 use Rattle.std.proofs.Common.{map, take}
-use Rattle.rustsec_folders.specs.Allowed.{AllowSame}
+use Rattle.rustsec_files.specs.Allowed.{AllowSame}
 use Rattle.rustsec_program.proofs.ManyLines.{AreWritten}
 use Rattle.rustsec_program.proofs.many.write_lines.Given as goal
 

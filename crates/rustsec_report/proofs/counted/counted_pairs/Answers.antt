@@ -1,6 +1,6 @@
 use Rattle.std.proofs.Common.{◌∙◌, ap, map, not, rules, sym}
-use Rattle.rustsec_query.specs.Pairs.{as_vulnerability}
-use Rattle.rustsec_query.specs.declared.vulnerability.Vulnerability.{Vulnerability}
+use Rattle.rustsec_database.specs.Pairs.{as_vulnerability}
+use Rattle.rustsec_database.specs.declared.vulnerability.Vulnerability.{Vulnerability}
 use Rattle.rustsec_report.proofs.ReportLaws.{filter-map}
 use Rattle.rustsec_report.specs.Report.{is_among, without}
 use Rattle.rustsec_report.proofs.counted.counted_pairs.Goals as goal

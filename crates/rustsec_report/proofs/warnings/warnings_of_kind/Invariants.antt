@@ -1,5 +1,5 @@
 use Rattle.std.proofs.Common.{◌≡◌, ◌++◌, drop, map}
-use Rattle.rustsec_query.specs.Pairs.{as_vulnerability}
+use Rattle.rustsec_database.specs.Pairs.{as_vulnerability}
 use Rattle.rustsec_report.specs.Report.{warnings_of_kind}
 use Rattle.rustsec_report.proofs.warnings.warnings_of_kind.Given as goal
 

@@ -1,6 +1,6 @@
 use Rattle.std.proofs.Common.{◌∙◌, ap}
 use Rattle.serde_json.specs.Written.{has_float}
-use Rattle.rustsec_check_output.specs.CheckTree.{tree_line}
+use Rattle.rustsec_json.specs.Lines.{tree_line}
 use Rattle.rustsec_sarif.proofs.NoFloats.{sarif_plain}
 use Rattle.rustsec_sarif.proofs.log.sarif_text.Goals as goal
 

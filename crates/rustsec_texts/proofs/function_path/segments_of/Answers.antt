@@ -1,7 +1,7 @@
 use Rattle.std.proofs.Common.{◌∙◌, [], IsCharBoundary, IsUtf8, append-nil, subst, sym}
 use Rattle.std.proofs.lemmas.Str.{IsUtf8-drop}
 use Rattle.std.proofs.lemmas.Result.{err_from_is_err_and}
-use Rattle.rustsec_error.proofs.Refusals.{refused_by}
+use Rattle.rustsec_values.proofs.Refusals.{refused_by}
 use Rattle.rustsec_texts.proofs.Colons.{cut-found, each-more, identifier-given, last-cut, one-more, one-refused}
 use Rattle.rustsec_texts.proofs.function_path.segments_of.Goals as goal
 

@@ -1,11 +1,11 @@
 use Rattle.std.proofs.Common.{◌≡◌, Bool, Ok, Err, Some, None, true, false, refl, sym}
 use Rattle.std.specs.Prelude.{IfErr, IfOk, OnErr, OnOk, Result}
 use Rattle.rustsec_values.specs.Reading.{only_if}
-use Rattle.rustsec_error.specs.Failure.{Failure, IsRefusal}
+use Rattle.rustsec_values.specs.Failure.{Failure, IsRefusal}
 use Rattle.rustsec_versions.specs.interval.Interval.{Interval}
 use Rattle.rustsec_versions.specs.Views.{comparators_of}
-use Rattle.rustsec_error.specs.declared.error.ErrorKind.{ErrorKind}
-use Rattle.rustsec_error.proofs.Refusals.{refused_by}
+use Rattle.rustsec_values.specs.declared.error.ErrorKind.{ErrorKind}
+use Rattle.rustsec_values.proofs.Refusals.{refused_by}
 use Rattle.rustsec_versions.proofs.lemmas.requirement.Sound.{interval_of-stated}
 use Rattle.rustsec_versions.proofs.interval.admissible_interval.Goals as goal
 

@@ -276,23 +276,21 @@ any-tagged i [] = refl
 any-tagged i (j ∷ is) = ap (λ (b : Bool). overlap precedence i j || b) (any-tagged i is)
 
 -- unaffected intervals clash if they overlap
-tagged-apart : (is : List Interval) → are_clear (map (tag false) is) ≡ are_apart precedence is
+pub tagged-apart : (is : List Interval) → are_clear (map (tag false) is) ≡ are_apart precedence is
 tagged-apart [] = refl
 tagged-apart (i ∷ is) = rw (any-tagged i is, tagged-apart is) refl
 
-as-unaffected : Lists → Lists
-as-unaffected ls = record { patched = []; unaffected = ls.patched ++ ls.unaffected }
-
--- lists that are accepted with each requirement as an unaffected one have admissible requirements, and their
--- intervals do not overlap
+-- lists without two requirements that overlap have admissible requirements
 pub apart-all : (ls : Lists) → accepted_apart ls ≡ true → all_admissible (ls.patched ++ ls.unaffected) ≡ true
-unfolding accepted
 apart-all ls h = and-first _ _ h
 
 pub apart-intervals : (ls : Lists) → accepted_apart ls ≡ true → are_apart precedence (intervals ls) ≡ true
-unfolding as-unaffected
-apart-intervals ls h =
-    sym (tagged-apart (intervals ls)) ∙ sym (accepted-clear (as-unaffected ls) (apart-all ls h)) ∙ h
+apart-intervals ls h = and-second _ _ h
+
+-- no two requirements overlap if no two clash with each one as an unaffected one
+pub apart-tagged : (ls : Lists) → all_admissible (ls.patched ++ ls.unaffected) ≡ true
+    → accepted_apart ls ≡ are_clear (tagged false (ls.patched ++ ls.unaffected))
+apart-tagged ls all = rw all (sym (tagged-apart (intervals ls)))
 
 pub accepted_if_apart : (ls : Lists) → accepted_apart ls ≡ true → accepted ls ≡ true
 accepted_if_apart ls h =
@@ -366,7 +364,6 @@ few-clear (p ∷ []) us few all h =
 few-clear (p ∷ q ∷ ps) us few all h = grind arith
 
 pub apart_few : (ls : Lists) → length ls.patched ≤ 1 → accepted ls ≡ true → accepted_apart ls ≡ true
-unfolding as-unaffected
 apart_few ls few h =
     let all = accepted-all ls h in
-    accepted-clear (as-unaffected ls) all ∙ few-clear ls.patched ls.unaffected few all (sym (accepted-clear ls all) ∙ h)
+    apart-tagged ls all ∙ few-clear ls.patched ls.unaffected few all (sym (accepted-clear ls all) ∙ h)

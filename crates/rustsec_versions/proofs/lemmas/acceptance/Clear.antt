@@ -1,14 +1,15 @@
 -- Intervals that do not clash: in any order, and what an unaffected one of them overlaps.
-use Rattle.std.proofs.Common.{◌≡◌, ◌&&◌, ◌||◌, Bool, true, false, List, [], ◌∷◌, refl, sym, ap, ◌∙◌, inl, inr}
+use Rattle.std.proofs.Common.{◌≡◌, ◌&&◌, ◌||◌, ◌++◌, Bool, true, false, List, [], ◌∷◌, refl, sym, ap, ◌∙◌, inl, inr}
 use Rattle.std.specs.Prelude.{Contains, not}
 use Rattle.std.specs.List.{list_any}
+use Rattle.std.proofs.lemmas.List.Elements.{Contains-append_right}
 use Rattle.std.proofs.lemmas.List.Sorted.{list_any-IsPermutation}
 use Rattle.std.proofs.lemmas.Bool.{not-true}
 use Rattle.rustsec_versions.specs.interval.Interval.{overlap}
 use Rattle.rustsec_versions.specs.order.Precedence.{precedence}
 use Rattle.rustsec_versions.specs.acceptance.Sweep.{TaggedInterval, are_clear, clashes}
 use Rattle.rustsec_versions.proofs.lemmas.acceptance.Clashes.{overlap-sym}
-use Rattle.rustsec_versions.proofs.lemmas.lists.Contained.{any-contained, contains-cases, contains-nil}
+use Rattle.rustsec_versions.proofs.lemmas.lists.Contained.{any-contained, contains-cases, contains-here, contains-nil}
 use Rattle.rustsec_versions.proofs.lemmas.lists.Shuffled.{Shuffled, both, keep, permuted, same, turn}
 use Rattle.rustsec_versions.proofs.lemmas.requirement.Sound.{and-first, and-second}
 
@@ -62,3 +63,17 @@ clear-alone (x ∷ xs) clear c d at there own near =
             | inr later ↦ clear-alone xs (and-second _ _ clear) c d before later own near
           ]
     ]
+
+-- two that clash
+hit-false : (a r : Bool) → a ≡ true → (not a && r) ≡ false
+hit-false a r h = rw h refl
+
+miss-false : (a r : Bool) → r ≡ false → (not a && r) ≡ false
+miss-false a r h = rw h (and-swap (not a) false)
+
+pub clash-unclear : (before after : List TaggedInterval) (c x : TaggedInterval) → Contains before c → clashes c x ≡ true → are_clear (before ++ x ∷ after) ≡ false
+clash-unclear [] after c x at clash = absurd (contains-nil c at)
+clash-unclear (y ∷ ys) after c x at clash = elim (contains-cases c y ys at) [
+  | inl here ↦ hit-false _ _ (any-contained (clashes y) (ys ++ x ∷ after) x (Contains-append_right ys (x ∷ after) x (contains-here x after)) (rw here clash))
+  | inr later ↦ miss-false _ _ (clash-unclear ys after c x later clash)
+]

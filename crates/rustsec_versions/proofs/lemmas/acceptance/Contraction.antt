@@ -1,6 +1,6 @@
 -- Merged intervals stay the same if two that overlap are replaced by one, or if one that overlaps no other is added.
 use Rattle.std.proofs.Common.{◌≡◌, ◌&&◌, ◌||◌, ◌⊎◌, Bool, true, false, List, [], ◌∷◌, refl, sym, ap, ◌∙◌, inl, inr, subst}
-use Rattle.std.specs.Prelude.{Contains, not}
+use Rattle.std.specs.Prelude.{Contains}
 use Rattle.std.specs.List.{list_any}
 use Rattle.std.proofs.lemmas.Bool.{and_from, cases_Bool, not-true, or_cases, or_left, or_parts, or_right}
 use Rattle.semver.specs.Parse.{Parts}
@@ -8,8 +8,7 @@ use Rattle.rustsec_versions.specs.interval.Apart.{are_apart}
 use Rattle.rustsec_versions.specs.interval.Interval.{Endpoint, Interval, end_le, holds, is_after, is_before, overlap, reaches, start_le}
 use Rattle.rustsec_versions.specs.acceptance.Merged.{AreMerged, IsJoined, IsMergedOf, itself, onward}
 use Rattle.rustsec_versions.specs.order.Precedence.{precedence}
-use Rattle.rustsec_versions.specs.acceptance.Sweep.{later_end, stretched}
-use Rattle.rustsec_versions.proofs.lemmas.interval.Bounds.{start_le-after, start_le-reaches, start_le-self, start_le-trans, end_le-before, end_le-reaches, end_le-self, end_le-total, end_le-trans, later-first, later-is, later-second, reaches-start_le}
+use Rattle.rustsec_versions.proofs.lemmas.interval.Bounds.{start_le-after, start_le-reaches, start_le-self, start_le-trans, end_le-before, end_le-reaches, end_le-self, end_le-total, end_le-trans, later-first, later-is, later-second, later_end, reaches-start_le}
 use Rattle.rustsec_versions.proofs.lemmas.ranges.Adjacent.{AllAdmissible}
 use Rattle.rustsec_versions.proofs.lemmas.acceptance.Clashes.{overlap-sym}
 use Rattle.rustsec_versions.proofs.lemmas.ranges.Complement.{ordered}
@@ -33,12 +32,16 @@ left-out false b h k = cc (sym (h refl) ∙ k)
 
 -- ---- an interval and the one that it goes on to
 
+-- an interval with its end extended to that of another one, if that is later
+abbrev pub stretched : Interval → Interval → Interval
+stretched i j = record { start = i.start; end = later_end i.end j.end }
+
 -- a test that is monotone in ends passes the later of two ends if it passes one
 later : (test : Endpoint → Bool) → ((d e : Endpoint) → end_le d e ≡ true → test d ≡ true → test e ≡ true)
     → (d e : Endpoint) → test (later_end d e) ≡ (test d || test e)
-later test rises d e = elim (cases_Bool (end_le d e)) [
-  | inl low ↦ rw low (weaker (test d) (test e) (rises d e low))
-  | inr high ↦ rw high (stronger (test d) (test e) (rises e d (end_le-total d e high)))
+later test rises d e = elim (cases_Bool (end_le e d)) [
+  | inl low ↦ rw low (stronger (test d) (test e) (rises e d low))
+  | inr high ↦ rw high (weaker (test d) (test e) (rises d e (end_le-total e d high)))
 ]
 
 -- two tests of a start and an end, such that the second start's test passes if the first end's fails

@@ -1,25 +1,25 @@
--- The result of the sweep: the merged intervals if no two clash, and nothing if two do.
-use Rattle.std.proofs.Common.{◌≡◌, ◌&&◌, ◌||◌, Bool, true, false, cond, List, [], ◌∷◌, Option, Some, None, refl, sym, ap, ◌∙◌, subst, inl, inr}
+-- The law of the sweep: it gives the merged intervals if no two clash.
+use Rattle.std.proofs.Common.{◌≡◌, ◌&&◌, ◌||◌, Bool, true, false, cond, List, [], ◌∷◌, ◌++◌, Result, Ok, Err, refl, sym, ap, ◌∙◌, subst, inl, inr}
 use Rattle.std.specs.Prelude.{not}
 use Rattle.std.specs.BTreeMap.Comparable.{le_lt_trans}
 use Rattle.std.specs.List.{list_any}
-use Rattle.std.specs.Option.{option_map}
+use Rattle.std.specs.Result.{result_map_both}
 use Rattle.std.specs.Ordering.{is_le, is_lt, ordering_reverse}
 use Rattle.std.specs.declared.cmp.Ordering.{Ordering}
 use Rattle.std.specs.declared.cmp.Ordering.TheVariants.{Less, Equal, Greater}
-use Rattle.std.proofs.lemmas.Bool.{and_right, cases_Bool}
+use Rattle.std.proofs.lemmas.Bool.{cases_Bool}
 use Rattle.semver.specs.Parse.{Parts}
 use Rattle.rustsec_versions.specs.interval.StartOrder.{start_order, start_order_total}
 use Rattle.rustsec_versions.specs.interval.Interval.{Endpoint, Interval, end_le, holds, overlap, reaches, start_le}
 use Rattle.rustsec_versions.specs.acceptance.Merged.{AreMerged}
 use Rattle.rustsec_versions.specs.order.Precedence.{precedence, version_order}
 use Rattle.rustsec_versions.specs.requirement.Requirement.{is_admissible, end_cut_exists}
-use Rattle.rustsec_versions.specs.acceptance.Sweep.{TaggedInterval, all_swept, are_clear, clashes, later_end, spans, stretched, stretched_tag, swept}
+use Rattle.rustsec_versions.specs.acceptance.Sweep.{TaggedInterval, all_swept, are_clear, clashes, from_start, later, spans, swept, tag}
 use Rattle.rustsec_versions.proofs.lemmas.ranges.AreRanges.{AreFit}
-use Rattle.rustsec_versions.proofs.lemmas.interval.Bounds.{end_le-reaches, later-first, rises-start_le}
-use Rattle.rustsec_versions.proofs.lemmas.ranges.Adjacent.{AllAdmissible, StartsRise}
+use Rattle.rustsec_versions.proofs.lemmas.interval.Bounds.{end_le-reaches, later-first, later_end, rises-start_le}
+use Rattle.rustsec_versions.proofs.lemmas.ranges.Adjacent.{AllAdmissible, StartsRise, earlier-reaches}
 use Rattle.rustsec_versions.proofs.lemmas.acceptance.Clashes.{AllSound, none-clash}
-use Rattle.rustsec_versions.proofs.lemmas.acceptance.Contraction.{contract, extend, nothing, stretched-holds, stretched-overlap}
+use Rattle.rustsec_versions.proofs.lemmas.acceptance.Contraction.{contract, extend, nothing, stretched, stretched-holds, stretched-overlap}
 use Rattle.rustsec_versions.proofs.lemmas.acceptance.Neighbours.{beyond, over-before}
 use Rattle.rustsec_versions.proofs.lemmas.order.PrecedenceLaws.{lt-Less}
 use Rattle.rustsec_versions.proofs.lemmas.requirement.Sound.{IsSoundEnd, IsSoundInterval, admissible-end, admissible-reaches, admissible-start, and-first, and-second, overlap-plain}
@@ -27,18 +27,18 @@ use Rattle.rustsec_versions.proofs.lemmas.requirement.Sound.{IsSoundEnd, IsSound
 -- ---- an interval that goes on to the end of another
 
 later-sound : (d e : Endpoint) → IsSoundEnd d → IsSoundEnd e → IsSoundEnd (later_end d e)
-later-sound d e p q = one (end_le d e) d e p q
+later-sound d e p q = one (end_le e d) d e p q
   where
-    one : (b : Bool) (d e : Endpoint) → IsSoundEnd d → IsSoundEnd e → IsSoundEnd (cond b e d)
-    one true d e p q = q
-    one false d e p q = p
+    one : (b : Bool) (d e : Endpoint) → IsSoundEnd d → IsSoundEnd e → IsSoundEnd (cond b d e)
+    one true d e p q = p
+    one false d e p q = q
 
 later-end : (d e : Endpoint) → end_cut_exists d ≡ true → end_cut_exists e ≡ true → end_cut_exists (later_end d e) ≡ true
-later-end d e p q = one (end_le d e) d e p q
+later-end d e p q = one (end_le e d) d e p q
   where
-    one : (b : Bool) (d e : Endpoint) → end_cut_exists d ≡ true → end_cut_exists e ≡ true → end_cut_exists (cond b e d) ≡ true
-    one true d e p q = q
-    one false d e p q = p
+    one : (b : Bool) (d e : Endpoint) → end_cut_exists d ≡ true → end_cut_exists e ≡ true → end_cut_exists (cond b d e) ≡ true
+    one true d e p q = p
+    one false d e p q = q
 
 all-true : (a b c : Bool) → a ≡ true → b ≡ true → c ≡ true → (a && (b && c)) ≡ true
 all-true a b c p q r = rw (p, q, r) refl
@@ -87,12 +87,12 @@ FirstIs s [] = ⊥
 FirstIs s (m ∷ ms) = m.interval.start ≡ s
 
 -- what is known of the intervals of a sweep
-record AreReady (is : List Interval) : Type 0 where
-  sound : AllSound is
-  admissible : AllAdmissible is
-  rise : StartsRise is
+pub record AreReady (is : List Interval) : Type 0 where
+  pub sound : AllSound is
+  pub admissible : AllAdmissible is
+  pub rise : StartsRise is
 
-ready-tail : (i j : Interval) (is : List Interval) → AreReady (i ∷ j ∷ is) → AreReady (j ∷ is)
+pub ready-tail : (i j : Interval) (is : List Interval) → AreReady (i ∷ j ∷ is) → AreReady (j ∷ is)
 ready-tail i j is r = record { sound = r.sound.1; admissible = r.admissible.1; rise = r.rise.1 }
 
 ready-stretched : (i j : Interval) (is : List Interval) → AreReady (i ∷ j ∷ is) → AreReady (stretched i j ∷ is)
@@ -102,9 +102,53 @@ ready-stretched i j is r = record {
   rise = rise-skip i j (stretched i j) is refl r.rise;
 }
 
+ready-skip : (i j : Interval) (is : List Interval) → AreReady (i ∷ j ∷ is) → AreReady (i ∷ is)
+ready-skip i j is r = record {
+  sound = (r.sound.0, r.sound.1.1);
+  admissible = (r.admissible.0, r.admissible.1.1);
+  rise = rise-skip i j i is refl r.rise;
+}
+
+-- of the beginning of a list
+pub ready-part : (xs ys : List TaggedInterval) → AreReady (spans (xs ++ ys)) → AreReady (spans xs)
+ready-part xs ys r = record { sound = sound xs r.sound; admissible = admissible xs r.admissible; rise = rise xs r.rise }
+  where
+    sound : (xs : List TaggedInterval) → AllSound (spans (xs ++ ys)) → AllSound (spans xs)
+    sound [] a = tt
+    sound (x ∷ xs) a = (a.0, sound xs a.1)
+
+    admissible : (xs : List TaggedInterval) → AllAdmissible (spans (xs ++ ys)) → AllAdmissible (spans xs)
+    admissible [] a = tt
+    admissible (x ∷ xs) a = (a.0, admissible xs a.1)
+
+    rise : (xs : List TaggedInterval) → StartsRise (spans (xs ++ ys)) → StartsRise (spans xs)
+    rise [] r = tt
+    rise (x ∷ []) r = tt
+    rise (x ∷ y ∷ xs) r = (r.0, rise (y ∷ xs) r.1)
+
+-- ---- the later one of two intervals
+
+abbrev stretched_tag : TaggedInterval → TaggedInterval → TaggedInterval
+stretched_tag c x = record { interval = stretched c.interval x.interval; is_patched = c.is_patched }
+
+-- the merged interval goes on to the later end
+later-stretched : (s : Endpoint) (c x : TaggedInterval) → (c.is_patched && x.is_patched) ≡ true → from_start s (later c x) ≡ stretched_tag (from_start s c) x
+later-stretched s c x both = one (end_le x.interval.end c.interval.end)
+  where
+    one : (b : Bool) → from_start s (cond b c x) ≡ record { interval = record { start = s; end = cond b c.interval.end x.interval.end }; is_patched = c.is_patched }
+    one true = refl
+    one false = ap (λ (p : Bool). tag p (record { start = s; end = x.interval.end })) (and-second _ _ both ∙ sym (and-first _ _ both))
+
+pub ready-later : (c x : TaggedInterval) (xs : List TaggedInterval) → AreReady (spans (c ∷ x ∷ xs)) → AreReady (spans (later c x ∷ xs))
+ready-later c x xs r = one (end_le x.interval.end c.interval.end)
+  where
+    one : (b : Bool) → AreReady (spans (cond b c x ∷ xs))
+    one true = ready-skip c.interval x.interval (spans xs) r
+    one false = ready-tail c.interval x.interval (spans xs) r
+
 -- ---- an interval that does not overlap the next one
 
-far-short : (i j : Interval) (is : List Interval) → AreReady (i ∷ j ∷ is) → overlap version_order i j ≡ false → reaches precedence j.start i.end ≡ false
+pub far-short : (i j : Interval) (is : List Interval) → AreReady (i ∷ j ∷ is) → overlap version_order i j ≡ false → reaches precedence j.start i.end ≡ false
 far-short i j is r far =
     over-before i j (r.sound.0, (r.sound.1.0, tt)) (r.admissible.1.0, tt) (r.rise.0, tt) (sym (overlap-plain i j r.sound.0 r.sound.1.0) ∙ far)
 
@@ -199,14 +243,23 @@ near-step c x xs ms r near both s =
 
 -- ---- the sweep
 
-mapped : (c : TaggedInterval) (o : Option (List TaggedInterval)) (ms : List TaggedInterval) → option_map (λ l. c ∷ l) o ≡ Some ms
-    → (rest : List TaggedInterval) × ((o ≡ Some rest) × (c ∷ rest ≡ ms))
-mapped c None ms e = cc e
-mapped c (Some rest) ms e = (rest, (refl, cc e))
+abbrev pub Found : Type 0
+Found = Result (List TaggedInterval) (TaggedInterval × TaggedInterval)
 
-mapped-none : (c : TaggedInterval) (o : Option (List TaggedInterval)) → option_map (λ l. c ∷ l) o ≡ None → o ≡ None
-mapped-none c None e = refl
-mapped-none c (Some rest) e = cc e
+mapped : (m : TaggedInterval) (o : Found) (ms : List TaggedInterval) → result_map_both (λ l. m ∷ l) (λ p. p) o ≡ Ok ms
+    → (rest : List TaggedInterval) × ((o ≡ Ok rest) × (m ∷ rest ≡ ms))
+mapped m (Err p) ms e = cc e
+mapped m (Ok rest) ms e = (rest, (refl, cc e))
+
+-- the start of the one that ends last is no later than that of the next one, and so is the start of the merged interval
+near-start : (i j : Interval) (is : List Interval) → AreReady (i ∷ j ∷ is) → overlap version_order i j ≡ reaches precedence j.start i.end
+near-start i j is r =
+    let reached = earlier-reaches i.start j.start j.end r.sound.0.start r.sound.1.0.start r.rise.0 (admissible-reaches j r.admissible.1.0) in
+    overlap-plain i j r.sound.0 r.sound.1.0 ∙ rw reached refl
+
+merged-overlap : (s : Endpoint) (c x : TaggedInterval) (xs : List TaggedInterval) → AreReady (spans (c ∷ x ∷ xs)) → AreReady (spans (from_start s c ∷ x ∷ xs))
+    → overlap version_order (from_start s c).interval x.interval ≡ overlap version_order c.interval x.interval
+merged-overlap s c x xs r q = near-start (from_start s c).interval x.interval (spans xs) q ∙ sym (near-start c.interval x.interval (spans xs) r)
 
 alone : (c : TaggedInterval) → AreReady (spans (c ∷ [])) → IsSwept (c ∷ []) (c ∷ [])
 alone c r = record {
@@ -217,53 +270,41 @@ alone c r = record {
   held = λ v. refl;
 }
 
-swept-some : (c : TaggedInterval) (xs ms : List TaggedInterval) → AreReady (spans (c ∷ xs)) → swept c xs ≡ Some ms → FirstIs c.interval.start ms × IsSwept (c ∷ xs) ms
+swept-some : (s : Endpoint) (c : TaggedInterval) (xs ms : List TaggedInterval) → AreReady (spans (c ∷ xs)) → AreReady (spans (from_start s c ∷ xs))
+    → swept s c xs ≡ Ok ms → FirstIs s ms × IsSwept (from_start s c ∷ xs) ms
 unfolding swept FirstIs
-swept-some c [] ms r e =
-    let is : c ∷ [] ≡ ms = cc e in
-    subst (λ (l : List TaggedInterval). FirstIs c.interval.start l × IsSwept (c ∷ []) l) is (refl, alone c r)
-swept-some c (x ∷ xs) ms r e = elim (cases_Bool (overlap version_order c.interval x.interval)) [
-  | inr far ↦
-      let m = mapped c (swept x xs) ms (rw far at e) in
-      let (first, s) = swept-some x xs m.0 (ready-tail c.interval x.interval (spans xs) r) m.1.0 in
-      subst (λ (l : List TaggedInterval). FirstIs c.interval.start l × IsSwept (c ∷ x ∷ xs) l) m.1.1 (refl, far-step c x xs m.0 r far first s)
-  | inl near ↦
-      let meets = sym (overlap-plain c.interval x.interval r.sound.0 r.sound.1.0) ∙ near in
-      elim (cases_Bool (c.is_patched && x.is_patched)) [
-        | inl both ↦
-            let (first, s) = swept-some (stretched_tag c x) xs ms (ready-stretched c.interval x.interval (spans xs) r) (rw (near, both) at e) in
-            (first, near-step c x xs ms r meets both s)
-        | inr other ↦ let wrong = rw (near, other) at e in cc wrong
-      ]
-]
+swept-some s c [] ms r q e =
+    let is : from_start s c ∷ [] ≡ ms = cc e in
+    subst (λ (l : List TaggedInterval). FirstIs s l × IsSwept (from_start s c ∷ []) l) is (refl, alone (from_start s c) q)
+swept-some s c (x ∷ xs) ms r q e =
+    let m = from_start s c in
+    let same = merged-overlap s c x xs r q in
+    elim (cases_Bool (overlap version_order c.interval x.interval)) [
+      | inr far ↦
+          let t = mapped m (swept x.interval.start x xs) ms (rw far at e) in
+          let tail = ready-tail c.interval x.interval (spans xs) r in
+          let (first, w) = swept-some x.interval.start x xs t.0 tail tail t.1.0 in
+          subst (λ (l : List TaggedInterval). FirstIs s l × IsSwept (m ∷ x ∷ xs) l) t.1.1 (refl, far-step m x xs t.0 q (same ∙ far) first w)
+      | inl near ↦
+          let meets = sym (overlap-plain m.interval x.interval q.sound.0 q.sound.1.0) ∙ same ∙ near in
+          elim (cases_Bool (c.is_patched && x.is_patched)) [
+            | inl both ↦
+                let grown = later-stretched s c x both in
+                let stretched = ready-stretched m.interval x.interval (spans xs) q in
+                let ready = subst (λ (t : TaggedInterval). AreReady (spans (t ∷ xs))) (sym grown) stretched in
+                let (first, w) = swept-some s (later c x) xs ms (ready-later c x xs r) ready (rw (near, both) at e) in
+                (first, near-step m x xs ms q meets both (subst (λ (t : TaggedInterval). IsSwept (t ∷ xs) ms) grown w))
+            | inr other ↦ let wrong = rw (near, other) at e in cc wrong
+          ]
+    ]
 
-not-clear : (n o a b : Bool) → n ≡ false → o ≡ true → (not ((not n && o) || a) && b) ≡ false
-not-clear n o a b h k = rw (h, k) refl
+-- ---- the sweep over a whole list
 
-swept-none : (c : TaggedInterval) (xs : List TaggedInterval) → AreReady (spans (c ∷ xs)) → swept c xs ≡ None → are_clear (c ∷ xs) ≡ false
-unfolding swept
-swept-none c [] r e = cc e
-swept-none c (x ∷ xs) r e = elim (cases_Bool (overlap version_order c.interval x.interval)) [
-  | inr far ↦
-      and_right _ _ (swept-none x xs (ready-tail c.interval x.interval (spans xs) r) (mapped-none c (swept x xs) (rw far at e)))
-  | inl near ↦
-      let meets = sym (overlap-plain c.interval x.interval r.sound.0 r.sound.1.0) ∙ near in
-      elim (cases_Bool (c.is_patched && x.is_patched)) [
-        | inl both ↦
-            near-clear c x xs r meets both
-            ∙ swept-none (stretched_tag c x) xs (ready-stretched c.interval x.interval (spans xs) r) (rw (near, both) at e)
-        | inr other ↦ not-clear _ _ _ _ other meets
-      ]
-]
-
--- the sweep over a whole list
-pub all_swept-some : (cs ms : List TaggedInterval) → AllSound (spans cs) → AllAdmissible (spans cs) → StartsRise (spans cs) → all_swept cs ≡ Some ms → IsSwept cs ms
+pub all_swept-some : (cs ms : List TaggedInterval) → AllSound (spans cs) → AllAdmissible (spans cs) → StartsRise (spans cs) → all_swept cs ≡ Ok ms → IsSwept cs ms
 all_swept-some [] ms s a r e =
     let is : [] ≡ ms = cc e in
     subst (λ (l : List TaggedInterval). IsSwept [] l) is
     (record { clear = refl; merged = nothing; fit = record { sound = tt; admissible = tt; apart = refl }; rise = tt; held = λ v. refl })
-all_swept-some (c ∷ xs) ms s a r e = (swept-some c xs ms (record { sound = s; admissible = a; rise = r }) e).1
-
-pub all_swept-none : (cs : List TaggedInterval) → AllSound (spans cs) → AllAdmissible (spans cs) → StartsRise (spans cs) → all_swept cs ≡ None → are_clear cs ≡ false
-all_swept-none [] s a r e = cc e
-all_swept-none (c ∷ xs) s a r e = swept-none c xs (record { sound = s; admissible = a; rise = r }) e
+all_swept-some (c ∷ xs) ms s a r e =
+    let ready : AreReady (spans (c ∷ xs)) = record { sound = s; admissible = a; rise = r } in
+    (swept-some c.interval.start c xs ms ready ready e).1

@@ -1,12 +1,11 @@
 -- Laws of the two orders of bounds, by which starts and ends of merged intervals are compared.
-use Rattle.std.proofs.Common.{◌≡◌, ◌⊎◌, true, false, refl, sym, ap, ◌∙◌, inl, inr}
+use Rattle.std.proofs.Common.{◌≡◌, ◌⊎◌, true, false, cond, refl, sym, ap, ◌∙◌, inl, inr}
 use Rattle.std.specs.Ordering.{is_lt}
 use Rattle.std.proofs.lemmas.Bool.{cases_Bool}
 use Rattle.semver.specs.Parse.{Parts}
 use Rattle.rustsec_versions.specs.interval.StartOrder.{start_order}
 use Rattle.rustsec_versions.specs.interval.Interval.{Endpoint, end_le, exclusive, inclusive, is_after, is_before, reaches, start_le, unbounded}
 use Rattle.rustsec_versions.specs.order.Precedence.{is_at_most, precedence}
-use Rattle.rustsec_versions.specs.acceptance.Sweep.{later_end}
 use Rattle.rustsec_versions.proofs.lemmas.ranges.Adjacent.{earlier-reaches}
 use Rattle.rustsec_versions.proofs.lemmas.order.PrecedenceLaws.{at_most-below, at_most-not_below, at_most-trans, below-at_most, below-not_at_most, below-weak, not_at_most, not_below}
 use Rattle.rustsec_versions.proofs.lemmas.requirement.Sound.{IsSoundEnd}
@@ -216,23 +215,27 @@ rises-start_le (inclusive s) (exclusive t) p q h = elim (cases_Bool (is_at_most 
 
 -- ---- the later one of two ends
 
+-- the first one if both are at one place
+abbrev pub later_end : Endpoint → Endpoint → Endpoint
+later_end d e = cond (end_le e d) d e
+
 -- the first end is at or below the later one
 pub later-first : (d e : Endpoint) → end_le d (later_end d e) ≡ true
-later-first d e = elim (cases_Bool (end_le d e)) [
-  | inl low ↦ rw low low
-  | inr high ↦ rw high (end_le-self d)
+later-first d e = elim (cases_Bool (end_le e d)) [
+  | inl low ↦ rw low (end_le-self d)
+  | inr high ↦ rw high (end_le-total e d high)
 ]
 
 -- and so does the second
 pub later-second : (d e : Endpoint) → end_le e (later_end d e) ≡ true
-later-second d e = elim (cases_Bool (end_le d e)) [
-  | inl low ↦ rw low (end_le-self e)
-  | inr high ↦ rw high (end_le-total d e high)
+later-second d e = elim (cases_Bool (end_le e d)) [
+  | inl low ↦ rw low low
+  | inr high ↦ rw high (end_le-self e)
 ]
 
 -- the later one is one of the two
 pub later-is : (d e : Endpoint) → (later_end d e ≡ d) ⊎ (later_end d e ≡ e)
-later-is d e = elim (cases_Bool (end_le d e)) [
-  | inl low ↦ inr (rw low refl)
-  | inr high ↦ inl (rw high refl)
+later-is d e = elim (cases_Bool (end_le e d)) [
+  | inl low ↦ inl (rw low refl)
+  | inr high ↦ inr (rw high refl)
 ]

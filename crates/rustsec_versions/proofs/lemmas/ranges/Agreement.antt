@@ -1,5 +1,5 @@
 -- What accepted lists give: the ranges that their merged intervals leave, and what these hold.
-use Rattle.std.proofs.Common.{◌≡◌, ◌<◌, ◌+◌, ◌++◌, ◌↔◌, ℕ, zero, suc, true, false, List, [], ◌∷◌, Option, Some, None, length, get_or, map, refl, sym, ap, ◌∙◌, arith, inl, inr, IsPermutation}
+use Rattle.std.proofs.Common.{◌≡◌, ◌<◌, ◌+◌, ◌++◌, ◌↔◌, ℕ, zero, suc, true, false, List, [], ◌∷◌, Option, Some, None, Ok, Err, length, get_or, map, refl, sym, ap, ◌∙◌, arith, inl, inr, IsPermutation}
 use Rattle.std.specs.Prelude.{Contains, filter_map, is_some, not}
 use Rattle.std.specs.Borrow.{Bor}
 use Rattle.std.specs.List.{cons_option, list_any}
@@ -11,8 +11,10 @@ use Rattle.semver.specs.Parse.{Held, Parts}
 use Rattle.rustsec_versions.specs.ranges.Between.{IsComplementOf, complement_between}
 use Rattle.rustsec_versions.specs.interval.StartOrder.{start_order}
 use Rattle.rustsec_versions.specs.ranges.Complement.{cut, complement_from}
+use Rattle.rustsec_versions.specs.interval.Apart.{are_apart}
 use Rattle.rustsec_versions.specs.interval.Interval.{Endpoint, Interval, exclusive, has_bound, holds, inclusive, overlap, unbounded}
 use Rattle.rustsec_versions.specs.acceptance.Lists.{Lists, accepted, accepted_apart, affected, all_admissible, intervals}
+use Rattle.rustsec_versions.specs.acceptance.FirstClash.{IsFirstClash}
 use Rattle.rustsec_versions.specs.acceptance.Merged.{AreMerged, IsJoined}
 use Rattle.rustsec_versions.specs.order.Precedence.{IsVersion, precedence}
 use Rattle.rustsec_versions.specs.ranges.Ranges.{AreRanges, HasCuts, Range, SameInEachList, SameRequirements, affects, in_ranges, lower_cut, upper_cut, whole}
@@ -21,8 +23,9 @@ use Rattle.rustsec_versions.specs.ranges.AcceptedRanges.{AreMergedRanges, AreRan
 use Rattle.rustsec_versions.specs.acceptance.Sweep.{TaggedInterval, all_swept, are_clear, tag, tagged, all_tagged, spans}
 use Rattle.rustsec_versions.proofs.lemmas.ranges.AreRanges.{AreRanges-IsPermutation, admissible_shuffled, complement-AreRanges, sound_shuffled}
 use Rattle.rustsec_versions.proofs.lemmas.ranges.Adjacent.{AllAdmissible, StartsRise}
-use Rattle.rustsec_versions.proofs.lemmas.acceptance.Clashes.{AllSound, accepted-all, accepted-clear, accepted-refused, apart-intervals, intervals-sound, spans-all_tagged}
-use Rattle.rustsec_versions.proofs.lemmas.acceptance.Clear.{clear-alone, clear_shuffled}
+use Rattle.rustsec_versions.proofs.lemmas.acceptance.Clashes.{AllSound, accepted-all, accepted-clear, accepted-refused, apart-intervals, intervals-sound, spans-all_tagged, tagged-apart}
+use Rattle.rustsec_versions.proofs.lemmas.acceptance.FirstClash.{all_swept-clash}
+use Rattle.rustsec_versions.proofs.lemmas.acceptance.Clear.{clash-unclear, clear-alone, clear_shuffled}
 use Rattle.rustsec_versions.proofs.lemmas.ranges.Complement.{AllFit, IsRow, fit-held, fit-valid, from-nothing, complement-cut, complement-fit, complement-hold, complement-in_turn, row}
 use Rattle.rustsec_versions.proofs.lemmas.lists.Contained.{contains-from_map, contains-here, contains-map}
 use Rattle.rustsec_versions.proofs.lemmas.acceptance.Contraction.{apart-merged}
@@ -34,7 +37,7 @@ use Rattle.rustsec_versions.proofs.lemmas.ranges.RangeEnds.{list_all-IsPermutati
 use Rattle.rustsec_versions.proofs.lemmas.lists.Shuffled.{IsPermutation-filter_map, shuffled}
 use Rattle.rustsec_versions.proofs.lemmas.requirement.Sound.{admissible-end, admissible-start, interval_of-admissible}
 use Rattle.rustsec_versions.proofs.lemmas.ranges.Unique.{AreRanges-unique}
-use Rattle.rustsec_versions.proofs.lemmas.acceptance.Swept.{IsSwept, all_swept-none, all_swept-some}
+use Rattle.rustsec_versions.proofs.lemmas.acceptance.Swept.{IsSwept, all_swept-some}
 
 -- ---- the intervals of requirements are admissible
 
@@ -74,6 +77,15 @@ starts-rise (x ∷ y ∷ xs) h = (
   starts-rise (y ∷ xs) (λ k d low high. let e : suc k + 1 ≡ suc (k + 1) = omega arith in rw e at (h (suc k) d (omega arith) (omega arith))),
 )
 
+-- two of a list clash
+pub first-unclear : {cs : List TaggedInterval} {c x : TaggedInterval} → IsFirstClash cs c x → are_clear cs ≡ false
+first-unclear {c = c} {x = x} f = rw f.parts (clash-unclear f.before f.after c x f.earlier f.clash)
+
+-- no two intervals of requirements overlap if, in any order, no two clash with each one as that of an unaffected one
+pub apart-sorted : (rs : List (List Held)) (xs : List (Bor TaggedInterval)) → IsPermutation (tagged false rs) (map (λ x. x.now) xs)
+    → are_apart precedence (filter_map interval_of rs) ≡ are_clear (map (λ x. x.now) xs)
+apart-sorted rs xs same = sym (tagged-apart (filter_map interval_of rs)) ∙ clear_shuffled (shuffled _ _ same)
+
 -- the intervals of lists in the order of their starts
 module _ (ls : Lists) (all : all_admissible (ls.patched ++ ls.unaffected) ≡ true) (xs : List (Bor TaggedInterval))
     (same : IsPermutation (all_tagged ls) (map (λ x. x.now) xs)) (sorted : IsSortedByKey (λ x. x.now.interval.start) start_order xs) where
@@ -89,11 +101,14 @@ module _ (ls : Lists) (all : all_admissible (ls.patched ++ ls.unaffected) ≡ tr
   same-clear : accepted ls ≡ are_clear (map (λ x. x.now) xs)
   same-clear = accepted-clear ls all ∙ clear_shuffled (shuffled _ _ same)
 
-  -- if the sweep finds two that clash
-  pub sweep-refused : all_swept (map (λ x. x.now) xs) ≡ None → accepted ls ≡ false
-  sweep-refused none = same-clear ∙ all_swept-none _ spans-sound spans-admissible (starts-rise xs sorted) none
+  -- the sweep finds the first two that clash
+  pub sweep-clash : (c x : TaggedInterval) → all_swept (map (λ x. x.now) xs) ≡ Err (c, x) → IsFirstClash (map (λ x. x.now) xs) c x
+  sweep-clash c x = all_swept-clash _ c x spans-sound spans-admissible (starts-rise xs sorted)
 
-  module _ (ms : List TaggedInterval) (is : all_swept (map (λ x. x.now) xs) ≡ Some ms) where
+  pub clash-refused : {c x : TaggedInterval} → IsFirstClash (map (λ x. x.now) xs) c x → accepted ls ≡ false
+  clash-refused {c} {x} f = same-clear ∙ first-unclear f
+
+  module _ (ms : List TaggedInterval) (is : all_swept (map (λ x. x.now) xs) ≡ Ok ms) where
     walk-swept : IsSwept (map (λ x. x.now) xs) ms
     walk-swept = all_swept-some _ ms spans-sound spans-admissible (starts-rise xs sorted) is
 
@@ -140,13 +155,8 @@ module _ (ls : Lists) (all : all_admissible (ls.patched ++ ls.unaffected) ≡ tr
       in_turn = complement-in_turn _ walk-row;
     }
 
-  -- the sweep finds no two that clash exactly if the lists are accepted
-  pub sweep-accepted : is_some (all_swept (map (λ x. x.now) xs)) ≡ accepted ls
-  sweep-accepted = decided (all_swept (map (λ x. x.now) xs)) refl
-    where
-      decided : (o : Option (List TaggedInterval)) → all_swept (map (λ x. x.now) xs) ≡ o → is_some o ≡ accepted ls
-      decided None e = sym (sweep-refused e)
-      decided (Some ms) e = sym (same-clear ∙ (walk-swept ms e).clear)
+    pub walk-clear : are_clear (map (λ x. x.now) xs) ≡ true
+    walk-clear = walk-swept.clear
 
 -- ---- what the ranges of accepted lists give
 

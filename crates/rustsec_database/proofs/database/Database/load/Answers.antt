@@ -1,7 +1,7 @@
 use Rattle.std.proofs.Common.{◌∙◌, List, subst, sym}
 use Rattle.std.proofs.lemmas.List.{take_all}
 use Rattle.std.proofs.lemmas.Result.{err_from_is_err_and}
-use Rattle.rustsec_folders.specs.declared.source_file.SourceFile.{SourceFile}
+use Rattle.rustsec_files.specs.declared.source_file.SourceFile.{SourceFile}
 use Rattle.rustsec_database.specs.Loaded.{AreLoaded, IsAdded, IsFault}
 use Rattle.rustsec_database.proofs.Files.{at-file, first-fault, loaded-step}
 use Rattle.rustsec_database.proofs.Once.{fault-excludes, loaded-once}

@@ -1,6 +1,6 @@
 use Rattle.std.proofs.Common.{Some, ap, refl, rules}
 use Rattle.rustsec_lock.specs.Package.{PackageValue}
-use Rattle.rustsec_query.specs.Query.{of_package}
+use Rattle.rustsec_database.specs.Query.{of_package}
 use Rattle.rustsec_database.proofs.Tables.{selected-affecting, selected-of}
 use Rattle.rustsec_database.proofs.database.Database.query_of_package.Goals as goal
 

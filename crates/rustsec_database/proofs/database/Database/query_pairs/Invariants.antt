@@ -1,5 +1,5 @@
 use Rattle.std.proofs.Common.{◌≡◌, take}
-use Rattle.rustsec_query.specs.Pairs.{pairs}
+use Rattle.rustsec_database.specs.Pairs.{pairs}
 use Rattle.rustsec_database.proofs.database.Database.query_pairs.Given as goal
 
 -- the pairs so far are those of the packages so far

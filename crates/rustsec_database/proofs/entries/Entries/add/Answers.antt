@@ -1,7 +1,7 @@
 use Rattle.std.proofs.Common.{◌≡◌, ◌⊎◌, ◌∙◌, IfErr, rules, sym, true}
 use Rattle.std.proofs.lemmas.Result.{IfErr-weaker}
-use Rattle.rustsec_error.specs.Failure.{IsMemory, IsOfKind}
-use Rattle.rustsec_error.specs.declared.error.ErrorKind.TheVariants as kind
+use Rattle.rustsec_values.specs.Failure.{IsMemory, IsOfKind}
+use Rattle.rustsec_values.specs.declared.error.ErrorKind.TheVariants as kind
 use Rattle.rustsec_database.specs.Loaded.{is_known}
 use Rattle.rustsec_database.proofs.Files.{not-false, refused-fault}
 use Rattle.rustsec_database.proofs.entries.Entries.add.Goals as goal

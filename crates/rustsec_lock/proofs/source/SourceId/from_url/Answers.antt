@@ -1,6 +1,6 @@
 use Rattle.std.proofs.Common.{◌≡◌, ◌∙◌, None, rules, sym}
 use Rattle.std.specs.List.{before_first}
-use Rattle.rustsec_error.proofs.Refusals.{refusal}
+use Rattle.rustsec_values.proofs.Refusals.{refusal}
 use Rattle.rustsec_lock.specs.Source.{is_plus, kind_of}
 use Rattle.rustsec_lock.proofs.Sources.{source_id_of-no_kind}
 use Rattle.rustsec_lock.proofs.source.SourceId.from_url.Goals as goal

@@ -1,7 +1,7 @@
 use Rattle.std.proofs.Common.{◌≡◌, [], None, codes, refl}
 use Rattle.std.proofs.lemmas.Result.{err_from_is_err_and}
 use Rattle.serde_json.specs.View.{members_view, view}
-use Rattle.rustsec_error.proofs.Refusals.{refused_by}
+use Rattle.rustsec_values.proofs.Refusals.{refused_by}
 use Rattle.rustsec_json.specs.Fields.{defaulted, every}
 use Rattle.rustsec_osv.specs.DocumentCodec.{read_document, reference_codec}
 use Rattle.rustsec_osv.proofs.document.OsvAdvisory.from_value.Goals as goal

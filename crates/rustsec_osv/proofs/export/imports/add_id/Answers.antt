@@ -1,6 +1,6 @@
 use Rattle.std.proofs.Common.{◌≡◌, ◌∙◌, ◌∷◌, [], append-nil, false, sym, true}
 use Rattle.std.proofs.lemmas.Result.{err_from_is_err_and}
-use Rattle.rustsec_error.proofs.Refusals.{refused_by}
+use Rattle.rustsec_values.proofs.Refusals.{refused_by}
 use Rattle.rustsec_osv.specs.Imports.{is_page}
 use Rattle.rustsec_osv.proofs.Links.{linked-other, linked-page, linked-refused}
 use Rattle.rustsec_osv.proofs.export.imports.add_id.Goals as goal

@@ -1,5 +1,5 @@
 use Rattle.std.proofs.lemmas.Result.{err_from_is_err_and}
-use Rattle.rustsec_error.proofs.Refusals.{refused_by}
+use Rattle.rustsec_values.proofs.Refusals.{refused_by}
 use Rattle.rustsec_osv.proofs.Links.{linked-more, linked-nil, linked-stop}
 use Rattle.rustsec_osv.proofs.export.imports.linked_ids.Goals as goal
 

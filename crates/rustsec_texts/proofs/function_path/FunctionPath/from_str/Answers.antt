@@ -1,6 +1,6 @@
 use Rattle.std.proofs.Common.{◌<◌, ap, arith, length}
 use Rattle.std.proofs.lemmas.Result.{err_from_is_err_and}
-use Rattle.rustsec_error.proofs.Refusals.{refusal, refused_by}
+use Rattle.rustsec_values.proofs.Refusals.{refusal, refused_by}
 use Rattle.rustsec_texts.specs.Paths.{between_colons}
 use Rattle.rustsec_texts.proofs.Colons.{bad-no-path, path-joined, short-no-path}
 use Rattle.rustsec_texts.proofs.function_path.FunctionPath.from_str.Goals as goal

@@ -1,16 +1,14 @@
 use Rattle.std.proofs.Common.{◌∙◌, append_assoc, refl}
 use Rattle.std.proofs.lemmas.Result.{err_from_is_err_and}
-use Rattle.rustsec_versions.proofs.lemmas.acceptance.Admission.{all_admissible-more, refused-stop, tagged-more}
-use Rattle.rustsec_error.proofs.Refusals.{refused_by}
+use Rattle.rustsec_versions.proofs.lemmas.acceptance.Admission.{all_admissible-more, all_admissible-stop, tagged-more}
+use Rattle.rustsec_values.proofs.Refusals.{refused_by}
 use Rattle.rustsec_versions.proofs.acceptance.tagged.add_tagged.Goals as goal
 
 pub returns-in_err-push_tagged-clause-err : goal.returns-in_err-push_tagged-clause-err
 returns-in_err-push_tagged-clause-err c =
     let p = err_from_is_err_and c.from_residual.result c.from_residual.ensures.1 in
-    let stop = refused-stop c.args.intervals.now.items c.args.is_patched c.args.reqs.now c.loop-requirement.requirement-index c.requirement-item.result
-    c.loop-requirement-test.true c.requirement-item.is in
-    let bad = rw c.loop-requirement.invariant.added at c.in_err-push_tagged.ensures.err in
-    rw (p.1, p.2) (refused_by _ c.in_err-push_tagged.field-0.0 stop bad)
+    let stop = all_admissible-stop c.args.reqs.now c.loop-requirement.requirement-index c.requirement-item.result c.loop-requirement-test.true c.requirement-item.is in
+    rw (p.1, p.2) (refused_by _ c.in_err-push_tagged.field-0.0 stop c.in_err-push_tagged.ensures.err)
 
 pub loop-requirement-preserved : goal.loop-requirement-preserved
 loop-requirement-preserved c =

@@ -1,5 +1,5 @@
 use Rattle.std.proofs.Common.{◌≤◌, length, arith}
-use Rattle.rustsec_error.proofs.Refusals.{refusal}
+use Rattle.rustsec_values.proofs.Refusals.{refusal}
 use Rattle.rustsec_versions.proofs.lemmas.requirement.Stated.{stated_more}
 use Rattle.std.proofs.lemmas.Grind.{common_steps}
 use Rattle.rustsec_versions.specs.Views.{comparators_of}

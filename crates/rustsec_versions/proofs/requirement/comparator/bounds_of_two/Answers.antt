@@ -5,7 +5,7 @@ use Rattle.rustsec_versions.specs.Views.{side_view}
 use Rattle.rustsec_versions.specs.declared.bound.Bound.{Bound}
 use Rattle.rustsec_versions.specs.declared.requirement.comparator.Side.{Side}
 use Rattle.rustsec_versions.specs.declared.requirement.comparator.Side.TheVariants.{Lower, Upper, Neither}
-use Rattle.rustsec_error.proofs.Refusals.{refusal}
+use Rattle.rustsec_values.proofs.Refusals.{refusal}
 use Rattle.rustsec_versions.proofs.lemmas.requirement.Stated.{stated_two}
 use Rattle.rustsec_versions.proofs.requirement.comparator.bounds_of_two.Goals as goal
 use Rattle.rustsec_versions.proofs.requirement.comparator.bounds_of_two.Goals.{in_default-via-in-Lower+in_default, in_default-via-in-Upper+in_default, in_default-via-in_default}

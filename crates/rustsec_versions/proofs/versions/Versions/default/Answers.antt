@@ -1,7 +1,7 @@
 use Rattle.std.proofs.Common.{◌∙◌, sym}
 use Rattle.std.proofs.lemmas.Bool.{false≢true}
 use Rattle.rustsec_versions.proofs.lemmas.acceptance.Clashes.{accepted-none}
-use Rattle.rustsec_error.proofs.Refusals.{only_memory}
+use Rattle.rustsec_values.proofs.Refusals.{only_memory}
 use Rattle.rustsec_versions.proofs.versions.Versions.default.Goals as goal
 
 pub returns-clause-err : goal.returns-clause-err

@@ -1,6 +1,0 @@
-pub mod InOrder
-pub mod ListFailures
-pub mod Lists
-pub mod Once
-pub mod Same
-pub mod Shown

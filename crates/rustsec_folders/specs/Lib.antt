@@ -1,4 +1,0 @@
-pub mod Allowed
-pub mod Entries
-pub mod Listed
-pub mod Names

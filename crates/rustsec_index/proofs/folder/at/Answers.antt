@@ -1,6 +1,0 @@
-use Rattle.std.proofs.Common.{◌∙◌}
-use Rattle.rustsec_registry.proofs.Entries.{at_is}
-use Rattle.rustsec_index.proofs.folder.at.Goals as goal
-
-pub returns : goal.returns
-returns c = c.get.ensures ∙ at_is c.args.answers.now c.args.name.now

@@ -1,7 +1,0 @@
-use Rattle.std.proofs.Common.{◌≡◌, string_bytes, take}
-use Rattle.rustsec_index.specs.IndexPath.{below}
-use Rattle.rustsec_index.proofs.folder.below.Given as goal
-
--- the path so far has the names so far
-abbrev pub invariant-loop-name : goal.invariant-loop-name
-invariant-loop-name l = string_bytes l.path ≡ below l.folder (take l.name-index l.names)

@@ -1,9 +1,0 @@
-pub mod Agreement
-pub mod Found
-pub mod Law
-pub mod Read
-pub mod Releases
-pub mod Requirements
-pub mod Sides
-pub mod Single
-pub mod Zeros

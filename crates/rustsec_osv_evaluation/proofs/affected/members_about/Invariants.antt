@@ -1,9 +1,0 @@
-use Rattle.std.proofs.Common.{◌≡◌, map, take}
-use Rattle.std.specs.List.{filter}
-use Rattle.rustsec_osv_evaluation.specs.Document.{is_about}
-use Rattle.rustsec_osv_evaluation.proofs.affected.members_about.Given as goal
-
--- those of the members so far
-abbrev pub invariant-loop-member : goal.invariant-loop-member
-invariant-loop-member l =
-    map (λ m. m.now) l.about.items ≡ filter (is_about l.question.ecosystem.now l.question.name.now) (take l.member-index l.members)

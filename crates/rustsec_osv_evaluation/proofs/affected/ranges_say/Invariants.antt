@@ -1,9 +1,0 @@
-use Rattle.std.proofs.Common.{take}
-use Rattle.semver.specs.Identifiers.{parts_of}
-use Rattle.rustsec_osv_evaluation.specs.Document.{IsRangeOfAnswer}
-use Rattle.rustsec_osv_evaluation.proofs.Sorted.{AreSoFar}
-use Rattle.rustsec_osv_evaluation.proofs.affected.ranges_say.Given as goal
-
--- the answers of the ranges so far
-abbrev pub invariant-loop-range : goal.invariant-loop-range
-invariant-loop-range l = AreSoFar (IsRangeOfAnswer (parts_of l.version)) (take l.range-index l.ranges) l.affected

@@ -1,8 +1,0 @@
-use Rattle.std.proofs.Common.{◌≡◌, map, take}
-use Rattle.rustsec_osv.specs.DocumentEvents.{event_of}
-use Rattle.rustsec_osv_evaluation.specs.Event.{event_view, seen}
-use Rattle.rustsec_osv_evaluation.proofs.event.events_of.Given as goal
-
--- the events so far
-abbrev pub invariant-loop-event : goal.invariant-loop-event
-invariant-loop-event l = map event_view l.all.items ≡ map seen (map event_of (take l.event-index l.events))

@@ -1,8 +1,0 @@
-use Rattle.std.proofs.Common.{◌≡◌, drop}
-use Rattle.std.specs.List.{list_all}
-use Rattle.rustsec_osv_evaluation.specs.Order.{is_ordered_member}
-use Rattle.rustsec_osv_evaluation.proofs.order.are_ordered_members.Given as goal
-
--- the members that are left say whether all are ordered
-abbrev pub invariant-loop-member : goal.invariant-loop-member
-invariant-loop-member l = list_all is_ordered_member (drop l.member-index l.members) ≡ list_all is_ordered_member l.members

@@ -1,7 +1,0 @@
-use Rattle.std.proofs.Common.{◌≡◌, map, take}
-use Rattle.rustsec_osv_evaluation.specs.Pairs.{normalized_range}
-use Rattle.rustsec_osv_evaluation.proofs.pairs.normalized_ranges.Given as goal
-
--- the ranges so far
-abbrev pub invariant-loop-range : goal.invariant-loop-range
-invariant-loop-range l = l.all ≡ map normalized_range (take l.range-index l.ranges)

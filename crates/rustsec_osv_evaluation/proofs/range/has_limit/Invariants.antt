@@ -1,9 +1,0 @@
-use Rattle.std.proofs.Common.{◌≡◌, false, map, take}
-use Rattle.std.specs.List.{list_any}
-use Rattle.rustsec_osv_evaluation.specs.Event.{event_view}
-use Rattle.rustsec_osv_evaluation.specs.Range.{is_limit}
-use Rattle.rustsec_osv_evaluation.proofs.range.has_limit.Given as goal
-
--- none of the events so far is a limit
-abbrev pub invariant-loop-event : goal.invariant-loop-event
-invariant-loop-event l = list_any is_limit (map event_view (take l.event-index l.events)) ≡ false

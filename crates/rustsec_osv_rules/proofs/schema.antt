@@ -1,0 +1,16 @@
+pub mod EntryKeys
+pub mod ExportedDocuments
+pub mod ExportedLists
+pub mod ExportedVectors
+pub mod FieldLists
+pub mod Fields
+pub mod FieldsInOrder
+pub mod Folds
+pub mod MetricRows
+pub mod NoonTimes
+pub mod Parts
+pub mod Rules
+pub mod TimeForms
+pub mod Times
+pub mod VectorForms
+pub mod Views

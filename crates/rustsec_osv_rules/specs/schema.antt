@@ -1,0 +1,12 @@
+pub mod Exports
+pub mod Groups
+pub mod Metrics
+pub mod Names
+pub mod Rows
+pub mod Schema
+pub mod Texts
+pub mod TimeScan
+pub mod Times
+pub mod Values
+pub mod VectorScan
+pub mod Vectors

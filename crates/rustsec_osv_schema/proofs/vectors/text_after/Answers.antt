@@ -1,5 +1,0 @@
-use Rattle.rustsec_osv_schema.proofs.MetricRows.{after_from_strip}
-use Rattle.rustsec_osv_schema.proofs.vectors.text_after.Goals as goal
-
-pub returns : goal.returns
-returns c = after_from_strip c.args.prefix.now c.args.text.now c.strip_prefix.result c.strip_prefix.ensures.cases

@@ -1,9 +1,0 @@
-use Rattle.std.proofs.Common.{arith, false}
-use Rattle.std.proofs.lemmas.Bool.Decides.{nat_tests}
-use Rattle.toml_parser.specs.Strings.{is_plain}
-use Rattle.toml_parser.proofs.LexicalLemmas.{IsCharBoundary-wide_run}
-use Rattle.rustsec_plain.proofs.strings.split_plain.Goals as goal
-
-pub split_at-requires : goal.split_at-requires
-split_at-requires c =
-    rw (c.plain_len.ensures, c.as_bytes.ensures.value) (IsCharBoundary-wide_run (is_plain 34 false) c.args.text.now (λ b e. grind (arith, nat_tests)))

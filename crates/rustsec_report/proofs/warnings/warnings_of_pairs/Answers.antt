@@ -1,8 +1,0 @@
-use Rattle.std.proofs.Common.{map}
-use Rattle.rustsec_query.specs.Pairs.{as_vulnerability}
-use Rattle.rustsec_report.proofs.ByKind.{finished_list}
-use Rattle.rustsec_report.proofs.warnings.warnings_of_pairs.Goals as goal
-
-pub returns : goal.returns
-returns c =
-    finished_list c.args.settings.now (map as_vulnerability c.args.pairs.now) _ _ c.loop-kind.kind-index c.loop-kind-test.false c.all-kind-items.ensures c.loop-kind.invariant
