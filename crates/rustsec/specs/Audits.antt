@@ -44,8 +44,8 @@ pub record IsExportRefusal (files : List SourceFile) (lockfile : List ℕ) (e : 
   pub are_packages : lockfile_of lockfile ≡ Some packages
   pub first : IsFirstWithoutExport advisories e
 
--- why there is no audit: the first file at fault; else the lockfile; else the first advisory without an export; or out
--- of memory
+-- the reason for a refusal: the first file at fault; else the lockfile; else the first advisory without an export; or
+-- out of memory
 abbrev pub IsAuditRefusal : List SourceFile → List ℕ → Failure → Type 0
 IsAuditRefusal files lockfile e =
     IsFileRefusal files e

@@ -8,7 +8,7 @@ use Rattle.rustsec_values.specs.Reading.{read_all}
 use Rattle.rustsec_osv.specs.DocumentEvents.{Event}
 use Rattle.rustsec_osv.specs.EventCodec.{read_event}
 
--- the items of the array at a key of an object, none if there is no array
+-- the items of the array at a key of an object; the empty list for any other value
 abbrev pub items_at : List ℕ → Data → List Data
 items_at key d = unwrap_or (option_map list_of (option_and_then as_array (get key d))) []
 

@@ -25,7 +25,7 @@ fn fault_of(error: &io::Error) -> Fault
 ///
 /// # Errors
 ///
-/// `Memory` if there is no memory for the bytes, or if the reader's error says that memory ran out. Else `Read`: for any
+/// `Memory` if the bytes do not fit in memory, or if the reader's error says that memory ran out. Else `Read`: for any
 /// other error of the reader, or if it has not ended after the last read.
 pub fn read_all<R: Read>(alloc: Global, input: &mut R) -> Result<Vec<u8>, Fault>
     ensures all { IfOk result (λ v. IfSome (R.remaining input.old) (λ bytes. v.items ≡ bytes)) }

@@ -251,7 +251,7 @@ mapped : (m : TaggedInterval) (o : Found) (ms : List TaggedInterval) → result_
 mapped m (Err p) ms e = cc e
 mapped m (Ok rest) ms e = (rest, (refl, cc e))
 
--- the start of the one that ends last is no later than that of the next one, and so is the start of the merged interval
+-- the one that ends last starts before the next one or with it, and so does the merged interval
 near-start : (i j : Interval) (is : List Interval) → AreReady (i ∷ j ∷ is) → overlap version_order i j ≡ reaches precedence j.start i.end
 near-start i j is r =
     let reached = earlier-reaches i.start j.start j.end r.sound.0.start r.sound.1.0.start r.rise.0 (admissible-reaches j r.admissible.1.0) in
