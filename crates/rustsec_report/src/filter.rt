@@ -1,6 +1,6 @@
 //! Filters a report by binary format.
 
-ghost use Rattle.std.specs.Prelude.{◌≡◌, length};
+ghost use Rattle.std.specs.Prelude.{◌≡◌, length, map};
 ghost use Rattle.std.specs.List.{filter, list_any};
 ghost use Rattle.rustsec_report.specs.Filter.{applicable, apple, filtered, is_one_of, no_system, runs, windows};
 ghost use Rattle.rustsec_report.specs.Report.{info_of};
@@ -12,7 +12,8 @@ use crate::warning::Warning;
 use rustsec_advisory::Affected;
 use rustsec_database::Vulnerability;
 use rustsec_lock::platforms::OS;
-use rustsec_values::Predicate;
+use rustsec_texts::WarningKind;
+use rustsec_values::{Items, Predicate, SortedMap};
 
 /// Returns whether a system is Windows.
 fn is_windows(os: OS) -> bool
@@ -100,8 +101,17 @@ fn filter_vulnerabilities(info: &mut VulnerabilityInfo, test: &Applicable)
     info.found = !info.list.is_empty();
 }
 
-/// Removes from a report what does not apply to programs of a format: an advisory applies if it lists no system, or
-/// one
+/// Keeps the warnings that apply to programs of a format, and each kind, even if its list becomes empty.
+fn filter_warnings(warnings: &mut SortedMap<WarningKind, Items<Warning>>, test: &Applicable)
+    ensures { warnings.new ≡ map (λ e. (e.0, filter (λ w. applicable test.now.format w.affected) e.1)) warnings.old }
+{
+    warnings.retain(|_, list| {
+        list.retain(test);
+        true
+    });
+}
+
+/// Removes from a report what does not apply to programs of a format: an advisory applies if it lists no system, or one
 /// that runs such programs. The number of vulnerabilities, and whether there are any, are updated. A kind of warnings
 /// stays, even if its list becomes empty. This takes no memory.
 ///
@@ -118,5 +128,5 @@ pub fn filter_report_by_binary_type(binary_type: &BinaryFormat, report: &mut Rep
         format: *binary_type,
     };
     filter_vulnerabilities(&mut report.vulnerabilities, &test);
-    report.warnings.retain_in_each(&test);
+    filter_warnings(&mut report.warnings, &test);
 }

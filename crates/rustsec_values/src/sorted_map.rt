@@ -7,6 +7,7 @@ ghost use Rattle.std.specs.Cmp.Lexicographic.{lists_equiv, lists_per, pointwise,
 ghost use Rattle.std.specs.List.Sorted.{IsStrictlySortedBy};
 ghost use Rattle.std.specs.BTreeMap.{IsOrdered};
 ghost use Rattle.std.specs.Map.{keys_of, lookup};
+ghost use Rattle.std.specs.Map.Calls.{CalledAtPair, CallableOnEachPair, RetainsPairs, TakesPair};
 ghost use Rattle.std.specs.Map.Iter.{ShowsInOrder, deref_pair};
 ghost use Rattle.std.specs.Option.{option_copied};
 ghost use Rattle.rustsec_values.specs.Equality.{pair_decides};
@@ -95,6 +96,14 @@ impl<'a, K: Ord, V> IntoIterator for &'a SortedMap<K, V> {
 }
 
 impl<K: Ord + Drop, V: Drop> SortedMap<K, V> {
+    /// Keeps the entries for which a function answers true. It may change the value of each entry. This takes no memory.
+    pub fn retain<F: FnMut(&K, &mut V) -> bool>(&mut self, keeps: F)
+        requires { CallableOnEachPair (CalledAtPair F.FnMut) (TakesPair F.FnMut) keeps self.old }
+        ensures { RetainsPairs (CalledAtPair F.FnMut) keeps self.old self.new }
+    {
+        self.map.retain(keeps);
+    }
+
     /// Sets the value at a key.
     ///
     /// # Errors
