@@ -1,10 +1,12 @@
-//! Worked examples of calls: reports, readers and writers of commands, folders that fail, graphs, policies, indexes,
-//! listings, OSV documents with their evaluation and schema, explanations, stats, and pieces of written forms. Expected
-//! values are worked by hand or come from a public standard.
+//! Worked examples of calls: audits of texts, reports, readers and writers of commands, folders that fail, graphs,
+//! policies, indexes, listings, OSV documents with their evaluation and schema, explanations, stats, and pieces of written
+//! forms. Expected values are worked by hand or come from a public standard.
 #![tactic(auto)]
 
 #[cfg(test)]
 mod ample_memory;
+#[cfg(test)]
+mod audits;
 #[cfg(test)]
 mod command_paths;
 #[cfg(test)]
