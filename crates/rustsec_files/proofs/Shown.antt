@@ -4,6 +4,7 @@ use Rattle.std.specs.Prelude.{Err, IfOk, Ok, Result}
 use Rattle.rustsec_files.specs.Allowed.{Allowed, every_answer}
 use Rattle.rustsec_files.specs.Listed.{ShowsFiles}
 use Rattle.rustsec_files.specs.Names.{AreInOrder, AreNames, is_shown, is_shown_name, names_of, shown}
+use Rattle.rustsec_files.specs.Seen.{listed_from}
 use Rattle.rustsec_files.specs.declared.entry.FolderEntry.{FolderEntry}
 
 shown-head : (b : Bool) (e : FolderEntry) (es : List FolderEntry) (names : List (List ℕ)) → names ≡ names_of es
@@ -15,10 +16,10 @@ shown-names : (entries : List FolderEntry) → filter is_shown_name (names_of en
 shown-names [] = refl
 shown-names (e ∷ es) = shown-head (is_shown e) e (filter is_shown es) (filter is_shown_name (names_of es)) (shown-names es)
 
-pub shows-names : (allowed : Allowed) (folder : List ℕ) (names ordered : List (List ℕ)) → AreNames allowed folder names
-    → AreInOrder (filter is_shown_name names) ordered → ShowsFiles allowed folder ordered
-shows-names allowed folder names ordered h order =
-    (h.0, h.1, subst (λ ns. AreInOrder ns ordered) (ap (filter is_shown_name) h.2 ∙ shown-names h.0) order)
+pub shows-names : (l : List (List ℕ) → Type 0) (allowed : Allowed) (folder : List ℕ) (names ordered : List (List ℕ)) → AreNames allowed folder names
+    → l names → AreInOrder (filter is_shown_name names) ordered → ShowsFiles (listed_from l allowed) folder ordered
+shows-names l allowed folder names ordered h listed order =
+    (h.0, (h.1, subst l h.2 listed), subst (λ ns. AreInOrder ns ordered) (ap (filter is_shown_name) h.2 ∙ shown-names h.0) order)
 
 -- any names are those of some entries
 entry_of : List ℕ → FolderEntry

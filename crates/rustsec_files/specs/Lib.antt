@@ -4,3 +4,4 @@ pub mod Listed
 pub mod Names
 pub mod Paths
 pub mod ReadFailures
+pub mod Seen

@@ -2,7 +2,7 @@
 
 ghost use Rattle.std.specs.Prelude.{ℕ, ⊤, IfErr, IfOk, List, None, Some};
 ghost use Rattle.rustsec_files.specs.Allowed.{Allowed, AllowSame};
-ghost use Rattle.rustsec_files.specs.Names.{AreNames};
+ghost use Rattle.rustsec_files.specs.Names.{AreNames, names_of};
 ghost use Rattle.rustsec_values.specs.Failure.{Failure, IsRefusal};
 
 use crate::entry::FolderEntry;
@@ -19,6 +19,9 @@ pub trait Folders {
     /// Which errors may be the answer where the file at a path cannot be read: any, unless folders say more.
     ghost refuses: { Self → List ℕ → Failure → Type 0 } = { λ _ _ _. ⊤ };
 
+    /// Which names a folder that was listed here may have had: any, unless folders say more.
+    ghost listed: { List (List ℕ) → Type 0 } = { λ _. ⊤ };
+
     /// Which texts a file that was opened here may have had: any, unless folders say more.
     ghost opened: { List ℕ → Type 0 } = { λ _. ⊤ };
 
@@ -30,7 +33,8 @@ pub trait Folders {
     fn list(&mut self, alloc: Global, path: &str) -> Result<Items<FolderEntry>>
         ensures ok { IfOk result (λ entries. (allowed self.old).lists path.now (Some entries)) }
         ensures err { IfErr result (IsRefusal ErrorKind.Io ((allowed self.old).lists path.now None)) }
-        ensures same { AllowSame (allowed self.old) (allowed self.new) };
+        ensures same { AllowSame (allowed self.old) (allowed self.new) }
+        ensures listed { IfOk result (λ entries. listed (names_of entries)) };
 
     /// Returns the names of a folder's entries, in any order, where nobody asks which of them are folders.
     ///
@@ -41,6 +45,7 @@ pub trait Folders {
         ensures ok { IfOk result (AreNames (allowed self.old) path.now) }
         ensures err { IfErr result (IsRefusal ErrorKind.Io ((allowed self.old).lists path.now None)) }
         ensures same { AllowSame (allowed self.old) (allowed self.new) }
+        ensures listed { IfOk result listed }
     {
         let entries = self.list(alloc, path)?;
         let names = names_of(alloc, entries)?;

@@ -1,9 +1,10 @@
 //! The source files under a root, over any folders.
 
-ghost use Rattle.std.specs.Prelude.{◌≡◌, ◌⊎◌, IfErr, IfOk, None, Some, map};
+ghost use Rattle.std.specs.Prelude.{◌≡◌, ◌⊎◌, IfErr, IfOk, MatchResult, None, Some, map};
 ghost use Rattle.rustsec_files.specs.Allowed.{AllowSame};
 ghost use Rattle.rustsec_files.specs.Listed.{AreFolders, FailsAtFile, FailsAtFolder, FailsBelow, IsCollection, IsCollectionIfThere, IsFile, IsFolder, Listed, Pairwise, Paths, crates_of, rust_of};
 ghost use Rattle.rustsec_files.specs.Names.{under};
+ghost use Rattle.rustsec_files.specs.Seen.{listed_from};
 ghost use Rattle.rustsec_values.specs.Failure.{IsRefusal};
 
 use crate::folders::Folders;
@@ -30,8 +31,8 @@ fn paths_under(
 
 /// Returns the paths of the files of a package's folder.
 fn paths_in<F: Folders>(alloc: Global, folders: &mut F, folder: &str) -> Result<Vec<Text>>
-    ensures ok { IfOk result (λ v. IsFolder (F.allowed folders.old) folder.now v.items) }
-    ensures err { IfErr result (IsRefusal ErrorKind.Io ((F.allowed folders.old).lists folder.now None)) }
+    ensures ok { IfOk result (λ v. IsFolder (listed_from F.listed (F.allowed folders.old)) folder.now v.items) }
+    ensures err { IfErr result (IsRefusal ErrorKind.Io ((listed_from F.listed (F.allowed folders.old)).lists folder.now None)) }
     ensures same { AllowSame (F.allowed folders.old) (F.allowed folders.new) }
 {
     let names = names_in(alloc, folders, folder)?;
@@ -46,8 +47,8 @@ fn paths_of_package<F: Folders>(
     collection: &str,
     name: &str,
 ) -> Result<Vec<Text>>
-    ensures ok { IfOk result (λ v. IsFolder (F.allowed folders.old) (under collection.now name.now) v.items) }
-    ensures err { IfErr result (IsRefusal ErrorKind.Io ((F.allowed folders.old).lists (under collection.now name.now) None)) }
+    ensures ok { IfOk result (λ v. IsFolder (listed_from F.listed (F.allowed folders.old)) (under collection.now name.now) v.items) }
+    ensures err { IfErr result (IsRefusal ErrorKind.Io ((listed_from F.listed (F.allowed folders.old)).lists (under collection.now name.now) None)) }
     ensures same { AllowSame (F.allowed folders.old) (F.allowed folders.new) }
 {
     let path = joined(alloc, collection, name)?;
@@ -61,8 +62,8 @@ fn paths_of_packages<F: Folders>(
     collection: &str,
     names: &[Text],
 ) -> Result<Vec<Text>>
-    ensures ok { IfOk result (λ v. AreFolders (F.allowed folders.old) collection.now names.now v.items) }
-    ensures err { IfErr result (IsRefusal ErrorKind.Io (FailsAtFolder (F.allowed folders.old) collection.now names.now)) }
+    ensures ok { IfOk result (λ v. AreFolders (listed_from F.listed (F.allowed folders.old)) collection.now names.now v.items) }
+    ensures err { IfErr result (IsRefusal ErrorKind.Io (FailsAtFolder (listed_from F.listed (F.allowed folders.old)) collection.now names.now)) }
     ensures same { AllowSame (F.allowed folders.old) (F.allowed folders.new) }
 {
     let mut paths = Vec::new(alloc);
@@ -79,9 +80,9 @@ fn paths_of_collection<F: Folders>(
     folders: &mut F,
     collection: &str,
 ) -> Result<Vec<Text>>
-    ensures ok { IfOk result (λ v. IsCollection (F.allowed folders.old) collection.now v.items) }
-    ensures err { IfErr result (IsRefusal ErrorKind.Io ((F.allowed folders.old).lists collection.now None
-        ⊎ FailsBelow (F.allowed folders.old) collection.now)) }
+    ensures ok { IfOk result (λ v. IsCollection (listed_from F.listed (F.allowed folders.old)) collection.now v.items) }
+    ensures err { IfErr result (IsRefusal ErrorKind.Io ((listed_from F.listed (F.allowed folders.old)).lists collection.now None
+        ⊎ FailsBelow (listed_from F.listed (F.allowed folders.old)) collection.now)) }
     ensures same { AllowSame (F.allowed folders.old) (F.allowed folders.new) }
 {
     let names = folders_in(alloc, folders, collection)?;
@@ -90,8 +91,8 @@ fn paths_of_collection<F: Folders>(
 
 /// Returns the paths of the files of a collection, or none where it cannot be listed.
 fn paths_if_there<F: Folders>(alloc: Global, folders: &mut F, collection: &str) -> Result<Vec<Text>>
-    ensures ok { IfOk result (λ v. IsCollectionIfThere (F.allowed folders.old) collection.now v.items) }
-    ensures err { IfErr result (IsRefusal ErrorKind.Io (FailsBelow (F.allowed folders.old) collection.now)) }
+    ensures ok { IfOk result (λ v. IsCollectionIfThere (listed_from F.listed (F.allowed folders.old)) collection.now v.items) }
+    ensures err { IfErr result (IsRefusal ErrorKind.Io (FailsBelow (listed_from F.listed (F.allowed folders.old)) collection.now)) }
     ensures same { AllowSame (F.allowed folders.old) (F.allowed folders.new) }
 {
     match folders_in(alloc, folders, collection) {
@@ -108,9 +109,9 @@ fn paths_if_there<F: Folders>(alloc: Global, folders: &mut F, collection: &str) 
 
 /// Returns the paths of the files of the collection `crates` of a root.
 fn paths_of_crates<F: Folders>(alloc: Global, folders: &mut F, root: &str) -> Result<Vec<Text>>
-    ensures ok { IfOk result (λ v. IsCollection (F.allowed folders.old) (crates_of root.now) v.items) }
-    ensures err { IfErr result (IsRefusal ErrorKind.Io ((F.allowed folders.old).lists (crates_of root.now) None
-        ⊎ FailsBelow (F.allowed folders.old) (crates_of root.now))) }
+    ensures ok { IfOk result (λ v. IsCollection (listed_from F.listed (F.allowed folders.old)) (crates_of root.now) v.items) }
+    ensures err { IfErr result (IsRefusal ErrorKind.Io ((listed_from F.listed (F.allowed folders.old)).lists (crates_of root.now) None
+        ⊎ FailsBelow (listed_from F.listed (F.allowed folders.old)) (crates_of root.now))) }
     ensures same { AllowSame (F.allowed folders.old) (F.allowed folders.new) }
 {
     let path = joined(alloc, root, "crates")?;
@@ -119,8 +120,8 @@ fn paths_of_crates<F: Folders>(alloc: Global, folders: &mut F, root: &str) -> Re
 
 /// Returns the paths of the files of the collection `rust` of a root, or none where it cannot be listed.
 fn paths_of_rust<F: Folders>(alloc: Global, folders: &mut F, root: &str) -> Result<Vec<Text>>
-    ensures ok { IfOk result (λ v. IsCollectionIfThere (F.allowed folders.old) (rust_of root.now) v.items) }
-    ensures err { IfErr result (IsRefusal ErrorKind.Io (FailsBelow (F.allowed folders.old) (rust_of root.now))) }
+    ensures ok { IfOk result (λ v. IsCollectionIfThere (listed_from F.listed (F.allowed folders.old)) (rust_of root.now) v.items) }
+    ensures err { IfErr result (IsRefusal ErrorKind.Io (FailsBelow (listed_from F.listed (F.allowed folders.old)) (rust_of root.now))) }
     ensures same { AllowSame (F.allowed folders.old) (F.allowed folders.new) }
 {
     let path = joined(alloc, root, "rust")?;
@@ -142,6 +143,9 @@ pub fn source_paths<F: Folders>(alloc: Global, folders: &mut F, root: &str) -> R
     ensures ok { IfOk result (λ paths. Paths (F.allowed folders.old) root.now (Some paths)) }
     ensures err { IfErr result (IsRefusal ErrorKind.Io (Paths (F.allowed folders.old) root.now None)) }
     ensures same { AllowSame (F.allowed folders.old) (F.allowed folders.new) }
+    ensures listed { MatchResult result
+        (λ paths. Paths (listed_from F.listed (F.allowed folders.old)) root.now (Some paths))
+        (IsRefusal ErrorKind.Io (Paths (listed_from F.listed (F.allowed folders.old)) root.now None)) }
 {
     let mut paths = paths_of_crates(alloc, folders, root)?;
     let mut rust = paths_of_rust(alloc, folders, root)?;

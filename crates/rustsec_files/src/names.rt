@@ -4,6 +4,7 @@ ghost use Rattle.std.specs.Prelude.{◌≡◌, IfErr, IfOk, None, filter, string
 ghost use Rattle.rustsec_files.specs.Allowed.{AllowSame};
 ghost use Rattle.rustsec_files.specs.Listed.{ShowsFiles, ShowsFolders};
 ghost use Rattle.rustsec_files.specs.Names.{AreInOrder, begins_with_dot, is_shown_name, names_of, under};
+ghost use Rattle.rustsec_files.specs.Seen.{listed_from};
 ghost use Rattle.rustsec_values.specs.Failure.{IsRefusal};
 
 use crate::entry::FolderEntry;
@@ -111,8 +112,8 @@ pub(crate) fn names_in<F: Folders>(
     folders: &mut F,
     folder: &str,
 ) -> Result<Vec<Text>>
-    ensures ok { IfOk result (λ v. ShowsFiles (F.allowed folders.old) folder.now v.items) }
-    ensures err { IfErr result (IsRefusal ErrorKind.Io ((F.allowed folders.old).lists folder.now None)) }
+    ensures ok { IfOk result (λ v. ShowsFiles (listed_from F.listed (F.allowed folders.old)) folder.now v.items) }
+    ensures err { IfErr result (IsRefusal ErrorKind.Io ((listed_from F.listed (F.allowed folders.old)).lists folder.now None)) }
     ensures same { AllowSame (F.allowed folders.old) (F.allowed folders.new) }
 {
     let names = folders.names(alloc, folder)?;
@@ -126,8 +127,8 @@ pub(crate) fn folders_in<F: Folders>(
     folders: &mut F,
     collection: &str,
 ) -> Result<Vec<Text>>
-    ensures ok { IfOk result (λ v. ShowsFolders (F.allowed folders.old) collection.now v.items) }
-    ensures err { IfErr result (IsRefusal ErrorKind.Io ((F.allowed folders.old).lists collection.now None)) }
+    ensures ok { IfOk result (λ v. ShowsFolders (listed_from F.listed (F.allowed folders.old)) collection.now v.items) }
+    ensures err { IfErr result (IsRefusal ErrorKind.Io ((listed_from F.listed (F.allowed folders.old)).lists collection.now None)) }
     ensures same { AllowSame (F.allowed folders.old) (F.allowed folders.new) }
 {
     let mut entries = folders.list(alloc, collection)?;

@@ -4,8 +4,9 @@ ghost use Rattle.std.specs.Prelude.{◌≡◌, ◌↔◌, IfErr, IfOk, IsOkAnd, 
 ghost use Rattle.std.specs.Fs.{IsDir, file_type};
 ghost use Rattle.rustsec_files.specs.ReadFailures.{IsIoFailure, IsReadFailure, KeepsMemory, open_message};
 ghost use Rattle.rustsec_files.specs.Allowed.{AllowSame, IsTextOfFile, every_answer};
-ghost use Rattle.rustsec_files.specs.Entries.{IsListFailure, ListsNames};
+ghost use Rattle.rustsec_files.specs.Entries.{IsListFailure};
 ghost use Rattle.rustsec_files.specs.Names.{AreNames, names_of};
+ghost use Rattle.rustsec_files.specs.Seen.{AreNamesOfListing};
 ghost use Rattle.rustsec_values.specs.Failure.{IsOfKind, IsRefusal};
 
 use crate::entry::FolderEntry;
@@ -28,7 +29,7 @@ fn open_folder<R: Files>(rt: &R, alloc: Global, path: &str) -> io::Result<R::Dir
 
 /// Returns the names of a folder's entries.
 fn names<R: Files>(rt: &R, alloc: Global, path: &str) -> Result<Items<Text>>
-    ensures ok { IfOk result (λ names. (listing : R.Dir) × ListsNames (R.Dir.remaining listing) names) }
+    ensures ok { IfOk result (AreNamesOfListing R.Dir.remaining) }
     ensures kind { IfErr result (IsOfKind ErrorKind.Io) }
     ensures names { IfErr result (IsReadFailure path.now) }
 {
@@ -85,7 +86,7 @@ fn entries_of<R: Files>(
 
 /// Returns the entries of a folder.
 fn entries<R: Files>(rt: &R, alloc: Global, path: &str) -> Result<Items<FolderEntry>>
-    ensures ok { IfOk result (λ entries. (listing : R.Dir) × ListsNames (R.Dir.remaining listing) (names_of entries)) }
+    ensures ok { IfOk result (λ entries. AreNamesOfListing R.Dir.remaining (names_of entries)) }
     ensures kind { IfErr result (IsOfKind ErrorKind.Io) }
     ensures names { IfErr result (IsListFailure path.now) }
 {
@@ -117,10 +118,13 @@ impl<'a, R: Files> RealFolders<'a, R> {
 impl<'a, R: Files> Folders for RealFolders<'a, R> {
     ghost use Rattle.rustsec_files.specs.ReadFailures.{IsReadFailure};
     ghost use Rattle.rustsec_files.specs.Allowed.{IsTextOfFile, every_answer};
+    ghost use Rattle.rustsec_files.specs.Seen.{AreNamesOfListing};
 
     ghost allowed = { λ _. every_answer };
 
     ghost refuses = { λ _ path e. IsReadFailure path e };
+
+    ghost listed = { AreNamesOfListing R.Dir.remaining };
 
     ghost opened = { IsTextOfFile R.File.remaining };
 
@@ -128,7 +132,7 @@ impl<'a, R: Files> Folders for RealFolders<'a, R> {
         ensures ok { IfOk result (λ entries. every_answer.lists path.now (Some entries)) }
         ensures err { IfErr result (IsRefusal ErrorKind.Io (every_answer.lists path.now None)) }
         ensures same { AllowSame every_answer every_answer }
-        ensures listed { IfOk result (λ entries. (listing : R.Dir) × ListsNames (R.Dir.remaining listing) (names_of entries)) }
+        ensures listed { IfOk result (λ entries. AreNamesOfListing R.Dir.remaining (names_of entries)) }
         ensures names { IfErr result (IsListFailure path.now) }
     {
         entries(self.files, alloc, path)
@@ -139,7 +143,7 @@ impl<'a, R: Files> Folders for RealFolders<'a, R> {
         ensures ok { IfOk result (AreNames every_answer path.now) }
         ensures err { IfErr result (IsRefusal ErrorKind.Io (every_answer.lists path.now None)) }
         ensures same { AllowSame every_answer every_answer }
-        ensures listed { IfOk result (λ names. (listing : R.Dir) × ListsNames (R.Dir.remaining listing) names) }
+        ensures listed { IfOk result (AreNamesOfListing R.Dir.remaining) }
         ensures names { IfErr result (IsReadFailure path.now) }
     {
         names(self.files, alloc, path)
