@@ -14,8 +14,7 @@ fn bare_name(table: &str) -> Option<&str> {
 
 /// Returns the place of a key of a table in words.
 fn words_at(alloc: Global, table: TablePlace<'_>, key: &str) -> Result<String, AllocError> {
-    let part = table.rest_from(alloc, key)?;
-    table.place_of(part).in_words(alloc)
+    table.place_of_key(alloc, key)?.in_words(alloc)
 }
 
 /// Returns the place of what is refused in words: of a key, of an element of the array there, or of a key of that element.

@@ -1,5 +1,5 @@
 -- Places in a text, and where the packages of a lockfile begin in its text.
-use Rattle.std.specs.Prelude.{◌≡◌, ◌+◌, ◌-◌, ◌==◌, ◌&&◌, ◌||◌, ◌++◌, ◌↔◌, ℕ, zero, suc, Bool, not, if◌then◌else◌, List, [], ◌∷◌, Some, None, codes, count_by, drop, length, map, min, nat_eq, nat_lt, reverse, take, Contains, IsTrue}
+use Rattle.std.specs.Prelude.{◌≡◌, ◌≢◌, ◌+◌, ◌-◌, ◌==◌, ◌&&◌, ◌||◌, ◌++◌, ◌↔◌, ℕ, zero, suc, Bool, not, if◌then◌else◌, List, [], ◌∷◌, Some, None, codes, count_by, drop, length, map, min, nat_eq, nat_lt, reverse, take, Contains, IsTrue}
 use Rattle.std.specs.Int.{is_in_range}
 use Rattle.std.specs.List.{list_all, starts_with, take_while}
 use Rattle.std.specs.List.Sorted.{IsStrictlyIncreasing}
@@ -40,6 +40,17 @@ beginning = record { line = 1; column = 1 }
 abbrev pub from_line : ℕ → Place → Place
 from_line line p = record p { line = min (p.line + (line - 1)) 0xFFFF_FFFF_FFFF_FFFF }
 
+-- a place of a text: that after a front of it
+pub record IsPlaceOf (text : List ℕ) (place : Place) : Type 0 where
+  pub before : List ℕ
+  pub after : List ℕ
+  pub whole : text ≡ before ++ after
+  pub shown : place ≡ place_past before
+
+-- a line of a file in which a place of a text is; the text begins in the first of these lines
+abbrev pub IsLineOf : ℕ → List ℕ → ℕ → Type 0
+IsLineOf first text line = (p : Place) × IsPlaceOf text p × (line ≡ (from_line first p).line)
+
 abbrev pub place_words : Place → List ℕ
 place_words p = codes "line " ++ (decimal p.line ++ (codes ", column " ++ decimal p.column))
 
@@ -78,6 +89,12 @@ up_to rest text = take (length text - length rest) text
 unfoldable pub from_token : List ℕ → ℕ → List ℕ
 from_token text zero = skip_blank text
 from_token text (suc n) = next_token (from_token text n)
+
+-- ---- keys
+
+-- a key begins there, dotted or not (TOML 1.0.0, "Keys")
+abbrev pub StartsKey : List ℕ → Type 0
+StartsKey text = key text ≢ None
 
 -- ---- headers
 

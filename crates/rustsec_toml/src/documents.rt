@@ -1,10 +1,10 @@
 //! The document of a text, and where its tables and keys are.
 
-ghost use Rattle.std.specs.Prelude.{◌≡◌, ◌≤◌, ◌++◌, ℕ, IfErr, IfOk, IfSome, List, None, Some, [], length};
+ghost use Rattle.std.specs.Prelude.{◌≡◌, ◌≤◌, ◌++◌, ◌↔◌, ℕ, IfErr, IfOk, IfSome, List, None, Some, [], length};
 ghost use Rattle.toml.specs.Parse.{parse_document};
 ghost use Rattle.toml.specs.View.{table_view};
 ghost use Rattle.rustsec_values.specs.Failure.{IsMemory, IsOfKind, IsRefusal};
-ghost use Rattle.rustsec_toml.specs.Places.{beginning, from_line, place_past};
+ghost use Rattle.rustsec_toml.specs.Places.{IsLineOf, IsPlaceOf, beginning, from_line, place_past};
 ghost use Rattle.rustsec_toml.specs.Fields.{unmarked};
 
 use crate::lines::shown_line;
@@ -187,17 +187,28 @@ impl<'a> TablePlace<'a> {
     pub fn place_of(self, part: &str) -> Place
         ensures inside { (before : List ℕ) → unmarked self.entry.line self.entry.text.now ≡ before ++ part.now → result ≡ place_past before }
         ensures whole { length (unmarked self.entry.line self.entry.text.now) ≤ length part.now → result ≡ beginning }
+        ensures within { IsPlaceOf (unmarked self.entry.line self.entry.text.now) result }
     {
         Place::of_end(self.unmarked(), part)
     }
 
-    /// Returns the text from a key of the table on, or from an element of the array at the key on. It is the text from the
-    /// table on if that part is not found, and the whole text if the table is not found either.
+    /// Returns the place in the text of a key of the table, or of an element of the array at the key: its line and column,
+    /// each from 1 on. It is that of the table if that part is not found, and the beginning of the text if the table is not
+    /// found either.
     ///
     /// # Errors
     ///
     /// `AllocError` alone.
-    pub fn rest_from(self, alloc: Global, key: &str) -> std::result::Result<&'a str, AllocError> {
+    pub fn place_of_key(self, alloc: Global, key: &str) -> std::result::Result<Place, AllocError>
+        ensures { IfOk result (IsPlaceOf (unmarked self.entry.line self.entry.text.now)) }
+    {
+        let part = self.rest_from(alloc, key)?;
+        Ok(self.place_of(part))
+    }
+
+    /// Returns the text from a key of the table on, or from an element of the array at the key on. It is the text from the
+    /// table on if that part is not found, and the whole text if the table is not found either.
+    fn rest_from(self, alloc: Global, key: &str) -> std::result::Result<&'a str, AllocError> {
         let found = self.from_key(alloc, key)?;
         match self.element {
             Some(index) => Ok(element_at(alloc, found, index)?.unwrap_or(found)),
@@ -239,11 +250,10 @@ impl<'a> TablePlace<'a> {
     /// # Errors
     ///
     /// `AllocError` alone.
-    pub fn line_of(
-        self,
-        alloc: Global,
-        key: &str,
-    ) -> std::result::Result<Option<usize>, AllocError> {
+    pub fn line_of(self, alloc: Global, key: &str) -> std::result::Result<Option<usize>, AllocError>
+        ensures none { IfOk result (λ line. (line ≡ None) ↔ (self.entry.text.now ≡ [])) }
+        ensures line { IfOk result (λ line. IfSome line (IsLineOf self.entry.line (unmarked self.entry.line self.entry.text.now))) }
+    {
         if self.text.is_empty() {
             return Ok(None);
         }

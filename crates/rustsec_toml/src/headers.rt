@@ -44,7 +44,7 @@ pub fn skip_mark(text: &str) -> &str
 ///
 /// `AllocError` alone.
 #[tactic(auto, unfolding(crate::specs::Places::after_token))]
-pub fn after_token(alloc: Global, text: &str) -> std::result::Result<&str, AllocError>
+fn after_token(alloc: Global, text: &str) -> std::result::Result<&str, AllocError>
     ensures value { IfOk result (λ rest. rest.now ≡ after_token text.now) }
     ensures within { IfOk result (λ rest. length rest.now ≤ length text.now) }
     ensures shorter { IfOk result (λ rest. 0 < length text.now → length rest.now < length text.now) }
@@ -77,7 +77,7 @@ fn next_token(alloc: Global, text: &str) -> std::result::Result<&str, AllocError
 }
 
 /// Returns the front of a text, up to the rest of it; no bytes where the rest is not shorter.
-pub fn up_to<'a>(rest: &str, text: &'a str) -> &'a [u8]
+fn up_to<'a>(rest: &str, text: &'a str) -> &'a [u8]
     ensures value { result.now ≡ up_to rest.now text.now }
     ensures len { length rest.now ≤ length text.now → length result.now + length rest.now ≡ length text.now }
 {

@@ -13,7 +13,7 @@ mod statements;
 mod tests;
 
 pub use crate::documents::{TablePlace, document};
-pub use crate::headers::{after_token, package_places, skip_mark, up_to};
+pub use crate::headers::{package_places, skip_mark};
 pub use crate::place::Place;
 pub use crate::section::Section;
 pub use crate::statements::key_at;

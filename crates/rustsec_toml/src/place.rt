@@ -2,7 +2,7 @@
 
 ghost use Rattle.std.specs.Prelude.{◌≡◌, ◌≤◌, ◌<◌, ◌+◌, ◌-◌, ◌^◌, ◌++◌, ◌∷◌, ◌⊎◌, [], ℕ, IfOk, List, length, string_bytes};
 ghost use Rattle.rustsec_values.specs.Beginnings.{IsBeginning};
-ghost use Rattle.rustsec_toml.specs.Places.{IsEnd, beginning, from_line, goes_on, place_past, place_words};
+ghost use Rattle.rustsec_toml.specs.Places.{IsEnd, IsPlaceOf, beginning, from_line, goes_on, place_past, place_words};
 
 use rustsec_values::beginning_of;
 use std::alloc::{AllocError, Global};
@@ -75,6 +75,7 @@ impl Place {
     pub fn of_end(text: &str, end: &str) -> Place
         ensures inside { (before : List ℕ) → text.now ≡ before ++ end.now → result ≡ place_past before }
         ensures whole { length text.now ≤ length end.now → result ≡ beginning }
+        ensures within { IsPlaceOf text.now result }
     {
         Place::of_offset(text, text.len().saturating_sub(end.len()))
     }

@@ -1,5 +1,8 @@
 //! Where the keys of a document are. The document was read before, so it is known to be TOML.
 
+ghost use Rattle.std.specs.Prelude.{◌≢◌, IfOk, IfSome, None};
+ghost use Rattle.rustsec_toml.specs.Places.{StartsKey};
+
 use crate::skip_mark;
 use std::alloc::{AllocError, Global};
 use toml_parser::text::{first, skip_blank, skip_ws};
@@ -112,7 +115,9 @@ fn agrees(key: &Key, path: &[&str], from: usize) -> bool {
 }
 
 /// Returns how far a path goes with the dotted key at the beginning of a text, if they agree from an index on.
-fn reach(alloc: Global, text: &str, path: &[&str], from: Option<usize>) -> Found<usize> {
+fn reach(alloc: Global, text: &str, path: &[&str], from: Option<usize>) -> Found<usize>
+    ensures { IfOk result (λ reached. IfSome reached (λ n. StartsKey text.now)) }
+{
     let Some(from) = from else {
         return Ok(None);
     };
@@ -132,7 +137,9 @@ fn key_inside<'a>(
     inside: &'a str,
     path: &[&str],
     from: usize,
-) -> Found<(&'a str, usize)> {
+) -> Found<(&'a str, usize)>
+    ensures { IfOk result (λ found. IfSome found (λ f. StartsKey f.0.now)) }
+{
     let mut rest = inside;
     for _ in inside.bytes() {
         let start = skip_blank(rest, true);
@@ -154,7 +161,9 @@ fn key_within<'a>(
     key: &'a str,
     path: &[&str],
     from: usize,
-) -> Found<(&'a str, usize)> {
+) -> Found<(&'a str, usize)>
+    ensures { IfOk result (λ found. IfSome found (λ f. StartsKey f.0.now)) }
+{
     match within_value(alloc, key, b'{')? {
         Some(inside) => key_inside(alloc, inside, path, from),
         None => Ok(None),
@@ -168,7 +177,9 @@ fn key_below<'a>(
     key: &'a str,
     path: &[&str],
     reached: Option<usize>,
-) -> Found<&'a str> {
+) -> Found<&'a str>
+    ensures { (reached ≢ None → StartsKey key.now) → IfOk result (λ found. IfSome found (λ k. StartsKey k.now)) }
+{
     let Some(mut reached) = reached else {
         return Ok(None);
     };
@@ -195,7 +206,9 @@ pub fn key_at<'a>(
     alloc: Global,
     document: &'a str,
     path: &[&str],
-) -> Result<Option<&'a str>, AllocError> {
+) -> Result<Option<&'a str>, AllocError>
+    ensures { IfOk result (λ found. IfSome found (λ rest. StartsKey rest.now)) }
+{
     let mut header = Some(0);
     let mut rest = skip_mark(document);
     for _ in document.bytes() {
