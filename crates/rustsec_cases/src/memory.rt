@@ -1,11 +1,10 @@
 //! The files of a case, as a runtime that has them in memory.
 
-ghost use Rattle.std.specs.Prelude.{◌≤◌, length};
-
+use rustsec_fixtures::{OpenBytes, copied, metadata_of, unsupported};
 use std::alloc::{Allocator, Global};
-use std::fs::{Metadata, OpenFile, OpenOptions};
+use std::fs::{Metadata, OpenOptions};
 use std::io;
-use std::io::{Read, Seek, SeekFrom, Write};
+use std::io::Read;
 use std::rt::Files;
 
 /// A file of a case, or a folder if it has no contents.
@@ -113,10 +112,8 @@ impl<'a> MemoryFiles<'a> {
 
     /// Returns what the system answers about a path.
     fn answer(&self, path: &str) -> io::Result<Metadata> {
-        match self.kind(path)? {
-            Kind::File(_) => Ok(Metadata::of_file(0)),
-            Kind::Folder => Ok(Metadata::of_dir()),
-        }
+        let is_folder = matches!(self.kind(path)?, Kind::Folder);
+        Ok(metadata_of(is_folder))
     }
 
     /// Returns the names of a folder, each once.
@@ -130,69 +127,6 @@ impl<'a> MemoryFiles<'a> {
             }
         }
         Ok(names)
-    }
-}
-
-/// Returns the answer of a call that reading doesn't make.
-fn unsupported() -> io::Error {
-    io::Error::from(io::ErrorKind::Unsupported)
-}
-
-/// Copies the bytes that fit from the beginning of some bytes, and returns how many, and those after them.
-fn copied<'a>(bytes: &'a [u8], buf: &mut [u8]) -> (usize, &'a [u8])
-    ensures { result.0 ≤ length buf.new }
-{
-    let count = bytes.len().min(buf.len());
-    let (now, later) = bytes.split_at(count);
-    buf[..count].copy_from_slice(now);
-    (count, later)
-}
-
-/// An open file: the bytes that are left.
-#[derive(Drop)]
-pub struct Opened<'a> {
-    rest: &'a [u8],
-}
-
-impl<'a> OpenFile for Opened<'a> {
-    fn metadata(&self) -> io::Result<Metadata> {
-        Ok(Metadata::of_file(0))
-    }
-
-    fn set_len(&self, _size: u64) -> io::Result<()> {
-        Err(unsupported())
-    }
-
-    fn sync_all(&self) -> io::Result<()> {
-        Err(unsupported())
-    }
-
-    fn sync_data(&self) -> io::Result<()> {
-        Err(unsupported())
-    }
-}
-
-impl<'a> Read for Opened<'a> {
-    fn read(&mut self, buf: &mut [u8]) -> io::Result<usize> {
-        let (count, rest) = copied(self.rest, buf);
-        self.rest = rest;
-        Ok(count)
-    }
-}
-
-impl<'a> Write for Opened<'a> {
-    fn write(&mut self, _buf: &[u8]) -> io::Result<usize> {
-        Err(unsupported())
-    }
-
-    fn flush(&mut self) -> io::Result<()> {
-        Err(unsupported())
-    }
-}
-
-impl<'a> Seek for Opened<'a> {
-    fn seek(&mut self, _to: SeekFrom) -> io::Result<u64> {
-        Err(unsupported())
     }
 }
 
@@ -217,13 +151,16 @@ impl<'a> Read for Listing<'a> {
 }
 
 impl<'a> Files for MemoryFiles<'a> {
-    type File = Opened<'a>;
+    type File = OpenBytes<'a>;
 
     type Dir = Listing<'a>;
 
-    fn open_file(&self, _how: &OpenOptions, path: &str) -> io::Result<Opened<'a>> {
+    fn open_file(&self, _how: &OpenOptions, path: &str) -> io::Result<OpenBytes<'a>> {
         match self.kind(path)? {
-            Kind::File(rest) => Ok(Opened { rest }),
+            Kind::File(rest) => Ok(OpenBytes {
+                is_folder: false,
+                rest,
+            }),
             Kind::Folder => Err(unsupported()),
         }
     }

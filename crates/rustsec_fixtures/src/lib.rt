@@ -1,12 +1,14 @@
-//! Fixtures of tests: parsed versions and requirements, advisory files, CVSS vectors, roots of databases, folders in
-//! memory, readers and writers that fail.
+//! Fixtures of tests: parsed versions and requirements, advisory files, CVSS vectors, roots of databases, folders and
+//! files in memory, readers and writers that fail, and the fields of rows.
 #![tactic(auto)]
 
 mod advisory_texts;
 mod cvss;
 mod fakes;
 mod folders_in_memory;
+mod open_bytes;
 mod roots;
+mod rows;
 mod values;
 
 pub use crate::advisory_texts::{
@@ -15,5 +17,7 @@ pub use crate::advisory_texts::{
 pub use crate::cvss::{base_of, is_printed, prints, score};
 pub use crate::fakes::{ByteReader, ByteWriter, TextWriter};
 pub use crate::folders_in_memory::{Failing, Holds, MemoryFolders, Paths};
+pub use crate::open_bytes::{OpenBytes, copied, metadata_of, unsupported};
 pub use crate::roots::{ADVISORIES, FOUR_PACKAGES, UNMAINTAINED, VULNERABLE, WITHDRAWN, make_root};
+pub use crate::rows::{exact_field, field};
 pub use crate::values::{interval, kind_of, lists, requirements, some_affects, version};

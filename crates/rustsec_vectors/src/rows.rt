@@ -1,20 +1,11 @@
-//! Rows of tables, and what values of each type do. A row is a line, and has bars between its fields.
+//! The fields of rows, and what values of each type do.
 
+pub(crate) use rustsec_fixtures::{exact_field, field};
 use rustsec_values::{Error, ErrorKind, FromText};
 use std::alloc::Global;
 use std::cmp::Ordering;
 use std::fmt::Display;
 use std::test::Fail;
-
-/// Returns a field of a row, without the blanks around it. It is empty if the row has fewer fields.
-pub(crate) fn field(row: &str, place: usize) -> &str {
-    row.split('|').nth(place).unwrap_or("").trim()
-}
-
-/// Returns a field of a row that has ` | ` between its fields, with its own white space.
-pub(crate) fn exact_field(row: &str, place: usize) -> &str {
-    row.split(" | ").nth(place).unwrap_or("")
-}
 
 /// Returns whether a value prints as a text.
 pub(crate) fn prints<T: Display>(alloc: Global, value: &T, text: &str) -> Result<bool, Fail> {

@@ -1,9 +1,8 @@
 //! Audits of texts: the report, and for each advisory the verdicts, the ranges and the events.
 
-use crate::rows::exact_field;
 use rustsec::{Audit, AuditedAdvisory, audited};
 use rustsec_files::SourceFile;
-use rustsec_fixtures::{FOUR_PACKAGES, SHORT, changed, version};
+use rustsec_fixtures::{FOUR_PACKAGES, SHORT, changed, exact_field, version};
 use rustsec_osv::OsvTimelineEvent;
 use rustsec_report::Settings;
 use rustsec_values::{Error, Text};

@@ -2,10 +2,10 @@
 //! ID, and requirements that an advisory does not have. The words are those that the doc comment of `Reason::text`
 //! states.
 
-use crate::rows::exact_field;
 use rustsec_advisory::Advisory;
 use rustsec_explain::{Explained, Reason, reasons};
 use rustsec_explain_output::{Rules, explain_text, explain_tree};
+use rustsec_fixtures::exact_field;
 use rustsec_lock::SourceId;
 use rustsec_lock::package::{Name, Package};
 use rustsec_report::Settings;

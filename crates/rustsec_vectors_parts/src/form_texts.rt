@@ -1,6 +1,6 @@
 //! Addresses that no advisory has, and long texts.
 
-use crate::rows::exact_field;
+use rustsec_fixtures::exact_field;
 use rustsec_markdown::markdown_escaped;
 use rustsec_page::push_linked;
 use std::alloc::Global;

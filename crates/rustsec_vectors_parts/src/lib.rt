@@ -46,6 +46,4 @@ mod readings;
 #[cfg(test)]
 mod report_calls;
 #[cfg(test)]
-mod rows;
-#[cfg(test)]
 mod stats;

@@ -2,10 +2,9 @@
 //! shows which files were read. `bench/roots` has pipes, sockets and large folders too.
 
 use crate::report_calls::BASE;
-use crate::rows::exact_field;
 use rustsec_advisory::Advisory;
 use rustsec_commands::run;
-use rustsec_fixtures::{VALID, VULNERABLE, changed, make_root};
+use rustsec_fixtures::{VALID, VULNERABLE, changed, exact_field, make_root};
 use std::alloc::Global;
 use std::fmt::Write as _;
 use std::fs;

@@ -1,8 +1,7 @@
 //! Lint errors by the library's calls. The command `lint` is in the cases of `rustsec_cases`.
 
-use crate::rows::exact_field;
 use rustsec_advisory::linter::{self, ErrorKind, Linter};
-use rustsec_fixtures::{INVALID, INVALID_ERRORS, VALID, changed};
+use rustsec_fixtures::{INVALID, INVALID_ERRORS, VALID, changed, exact_field};
 use std::alloc::Global;
 use std::fs;
 use std::test::Fail;

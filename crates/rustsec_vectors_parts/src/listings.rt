@@ -1,7 +1,7 @@
 //! The names in a folder's listing, from its bytes and from the folders of a runtime: all of them are listed, in their
 //! order, a name that is not UTF-8 is refused, and an error of memory stays that.
 
-use crate::fake_files::{FakeFiles, Kind};
+use crate::fake_files::FakeFiles;
 use rustsec_files::reading::text_of_file;
 use rustsec_files::{Folders, RealFolders, entry_names, listed_names};
 use rustsec_fixtures::{ByteReader, kind_of};
@@ -68,8 +68,8 @@ fn names_of_long_listings(rt: HostRuntime) -> Result<(), Fail> {
 /// Returns a file system whose folders have this listing, or answer this failure.
 fn files(listing: &[u8], failure: Option<io::ErrorKind>) -> FakeFiles<'_> {
     FakeFiles {
-        asked: Kind::Folder,
-        opened: Kind::Folder,
+        is_folder: true,
+        opens_folder: true,
         listing,
         failure,
     }

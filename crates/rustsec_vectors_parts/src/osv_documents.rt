@@ -1,9 +1,8 @@
 //! OSV documents: trees that are read and printed again, those that are refused, copies, and what a document names.
 //! Cases of `osv` have the documents of advisories.
 
-use crate::rows::exact_field;
 use rustsec_advisory::Advisory;
-use rustsec_fixtures::{SHORT, SHORT_DOCUMENT, VALID, changed, kind_of};
+use rustsec_fixtures::{SHORT, SHORT_DOCUMENT, VALID, changed, exact_field, kind_of};
 use rustsec_osv::{OsvAdvisory, OsvAffected, OsvEcosystemSpecific, OsvJsonRange};
 use rustsec_values::{Error, ErrorKind};
 use serde_json::Value;

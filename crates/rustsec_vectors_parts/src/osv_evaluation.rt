@@ -1,7 +1,7 @@
 //! OSV's evaluation of documents, by the page of its schema ("Evaluation"), worked by hand.
 
 use crate::osv_documents::{text_of, with_lists};
-use crate::rows::field;
+use rustsec_fixtures::field;
 use rustsec_osv::OsvAdvisory;
 use rustsec_osv_rules::{
     Event, PackageVersion, has_ordered_events, is_affected, normalized, says_affected,

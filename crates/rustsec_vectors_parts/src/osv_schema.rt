@@ -1,7 +1,6 @@
 //! Documents that keep or break each rule of the OSV schema, by `validation/schema.json`.
 
-use crate::rows::field;
-use rustsec_fixtures::changed;
+use rustsec_fixtures::{changed, field};
 use rustsec_osv_rules::is_osv_schema;
 use serde_json::Value;
 use std::alloc::Global;

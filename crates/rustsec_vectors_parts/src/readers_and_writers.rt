@@ -1,8 +1,7 @@
 //! The commands over readers and writers that take one byte a call, that fail, and that hold much.
 
-use crate::rows::exact_field;
 use rustsec_commands::{Fault, answer, answer_ranges, read_all, run, run_with_notes, write_audit};
-use rustsec_fixtures::{ByteReader, ByteWriter};
+use rustsec_fixtures::{ByteReader, ByteWriter, exact_field};
 use rustsec_lock::Lockfile;
 use rustsec_report::{LockfileInfo, Report, Settings, VulnerabilityInfo, Warning, WarningInfo};
 use rustsec_texts::WarningKind;

@@ -2,7 +2,7 @@
 //! and the opening: what is opened and is not a regular file is not read, and what was not a regular file is not
 //! opened.
 
-use crate::fake_files::{FakeFiles, Kind};
+use crate::fake_files::FakeFiles;
 use rustsec_files::reading;
 use rustsec_fixtures::ByteReader;
 use rustsec_values::ErrorKind;
@@ -94,10 +94,10 @@ fn texts_of_readers(rt: HostRuntime) {
 }
 
 /// Returns whether the empty text is read, or refused for the reason that the file is not a regular one.
-fn is_read(alloc: Global, asked: Kind, opened: Kind, wanted: bool) -> bool {
+fn is_read(alloc: Global, is_folder: bool, opens_folder: bool, wanted: bool) -> bool {
     let files = FakeFiles {
-        asked,
-        opened,
+        is_folder,
+        opens_folder,
         listing: b"",
         failure: None,
     };
@@ -114,12 +114,12 @@ fn is_read(alloc: Global, asked: Kind, opened: Kind, wanted: bool) -> bool {
 
 #[test]
 fn swapped_files(rt: HostRuntime) {
-    for (asked, opened, wanted) in &[
-        (Kind::File, Kind::File, true),
-        (Kind::File, Kind::Folder, false),
-        (Kind::Folder, Kind::File, false),
-        (Kind::Folder, Kind::Folder, false),
+    for (is_folder, opens_folder, wanted) in &[
+        (false, false, true),
+        (false, true, false),
+        (true, false, false),
+        (true, true, false),
     ] {
-        assert!(rt; is_read(rt.alloc(), *asked, *opened, *wanted));
+        assert!(rt; is_read(rt.alloc(), *is_folder, *opens_folder, *wanted));
     }
 }

@@ -1,10 +1,10 @@
 //! Reports by the library's calls: which pairs they list for the settings, and what of them applies to compiled
 //! programs.
 
-use crate::rows::exact_field;
 use rustsec_advisory::Affected;
 use rustsec_commands::write_audit;
 use rustsec_database::{Database, SourceFile};
+use rustsec_fixtures::exact_field;
 use rustsec_lock::platforms::OS;
 use rustsec_lock::{Lockfile, Severity};
 use rustsec_report::{
