@@ -1,5 +1,6 @@
 //! CVSS vectors: their scores, and how they print.
 
+use crate::rows::prints;
 use rustsec_lock::{Base, Cvss, Severity};
 use std::alloc::Global;
 use std::test::Fail;
@@ -21,12 +22,6 @@ pub fn score(alloc: Global, text: &str) -> Result<(Option<u8>, Option<Severity>)
         None => None,
     };
     Ok((tenths, vector.severity()))
-}
-
-/// Returns whether a vector prints as a text.
-pub fn prints(alloc: Global, vector: &Cvss, printed: &str) -> Result<bool, Fail> {
-    let found = vector.to_string(alloc)?;
-    Ok(found.as_str() == printed)
 }
 
 /// Returns whether a text's vector prints as another text.

@@ -14,10 +14,10 @@ mod values;
 pub use crate::advisory_texts::{
     INVALID, INVALID_ERRORS, SHORT, SHORT_DOCUMENT, VALID, acceptance, acceptance_with, changed,
 };
-pub use crate::cvss::{base_of, is_printed, prints, score};
+pub use crate::cvss::{base_of, is_printed, score};
 pub use crate::fakes::{ByteReader, ByteWriter, TextWriter};
 pub use crate::folders_in_memory::{Failing, Holds, MemoryFolders, Paths};
 pub use crate::open_bytes::{OpenBytes, copied, metadata_of, unsupported};
 pub use crate::roots::{ADVISORIES, FOUR_PACKAGES, UNMAINTAINED, VULNERABLE, WITHDRAWN, make_root};
-pub use crate::rows::{exact_field, field};
+pub use crate::rows::{exact_field, field, is_copied, is_kept, prints};
 pub use crate::values::{interval, kind_of, lists, requirements, some_affects, version};

@@ -89,8 +89,7 @@ fn errors_of_each_kind(rt: HostRuntime) -> Result<(), Fail> {
 }
 
 fn prints_as_error<E: error::Error>(alloc: Global, error: &E, text: &str) -> Result<bool, Fail> {
-    let printed = error.to_string(alloc)?;
-    Ok(printed.as_str() == text)
+    prints(alloc, error, text)
 }
 
 #[test]

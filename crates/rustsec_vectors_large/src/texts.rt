@@ -5,7 +5,7 @@ use crate::numbers::{LONG, long};
 use rustsec::database::{Database, Query};
 use rustsec_advisory::{Linter, linter};
 use rustsec_files::{FolderEntry, SourceFile};
-use rustsec_fixtures::{VALID, changed, interval, kind_of, requirements};
+use rustsec_fixtures::{VALID, changed, interval, kind_of, prints, requirements};
 use rustsec_lock::package::{Name, Package};
 use rustsec_lock::platforms::{Arch, OS};
 use rustsec_lock::{Cvss, Lockfile, SourceId};
@@ -26,23 +26,14 @@ use std::alloc::Global;
 use std::fmt::Display;
 use std::test::Fail;
 
-/// Returns whether a value prints as a text.
-fn prints<T: Display>(alloc: Global, value: &T, text: &str) -> Result<bool, Fail> {
-    let printed = value.to_string(alloc)?;
-    Ok(printed.as_str() == text)
-}
-
-/// Returns whether a long text is read, and the value and an equal copy of it print as the text; or whether it is
-/// refused with `Parse`.
+/// Returns whether a long text is read as a value that prints as the text, and is copied; or whether it is refused with
+/// `Parse`.
 fn is_kept<T: FromText + Clone + Display + PartialEq>(
     alloc: Global,
     front: &str,
     filler: &str,
 ) -> Result<bool, Fail> {
-    let text = long(alloc, front, filler)?;
-    let value = T::from_text(alloc, &text)?;
-    let copy = value.clone()?;
-    Ok(copy == value && prints(alloc, &value, &text)? && prints(alloc, &copy, &text)?)
+    rustsec_fixtures::is_kept::<T>(alloc, &long(alloc, front, filler)?)
 }
 
 fn is_refused<T: FromText>(alloc: Global, front: &str, filler: &str) -> Result<bool, Fail> {

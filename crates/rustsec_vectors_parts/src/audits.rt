@@ -12,26 +12,19 @@ use std::alloc::Global;
 use std::fmt::Write;
 use std::test::Fail;
 
-/// The patched and the unaffected requirements of an advisory, versions, and what is answered: a verdict on each version
-/// (`+` if it is affected), the ranges, the events (`+` introduces, `-` fixes), and how many packages are vulnerable.
+/// The patched and the unaffected requirements of an advisory, versions, and what is answered: whether each version is
+/// affected, the ranges, the events (`+` introduces, `-` fixes), and how many packages are vulnerable.
 const ANSWERED: &str = r#"
-">= 1.2.3" |  | 1.2.2 1.2.3-alpha 1.2.3 1.2.3+b 1.2.4-alpha | ++--- ..1.2.3 +0.0.0-0 -1.2.3; 1
-"> 1.0.0" | "< 1.0.0" | 1.0.0 1.0.1-0 | +- 1.0.0..1.0.1-0 +1.0.0 -1.0.1-0; 1
- |  | 0.0.0-0 | + .. +0.0.0-0; 1
-">= 1.0.0" |  | 0.9.9 1.0.0 | +- ..1.0.0 +0.0.0-0 -1.0.0; 0
-"=1.2.3", "> 1.2.3" |  | 1.2.2 1.2.3 1.2.4-0 | +-- ..1.2.3 1.2.4-0..1.2.4-0 +0.0.0-0 -1.2.3 +1.2.4-0 -1.2.4-0; 1
-"^1.2", ">= 2.1.0" | "< 1.0.0" | 0.9.0 1.1.0 1.9.0 2.0.0-alpha1 | -+-+ 1.0.0..1.2.0 2.0.0-0..2.1.0 +1.0.0 -1.2.0 +2.0.0-0 -2.1.0; 1
+">= 1.2.3" |  | 1.2.2 1.2.3-alpha 1.2.3 1.2.3+b 1.2.4-alpha | [true, true, false, false, false] ..1.2.3 +0.0.0-0 -1.2.3; 1
+"> 1.0.0" | "< 1.0.0" | 1.0.0 1.0.1-0 | [true, false] 1.0.0..1.0.1-0 +1.0.0 -1.0.1-0; 1
+ |  | 0.0.0-0 | [true] .. +0.0.0-0; 1
+">= 1.0.0" |  | 0.9.9 1.0.0 | [true, false] ..1.0.0 +0.0.0-0 -1.0.0; 0
+"=1.2.3", "> 1.2.3" |  | 1.2.2 1.2.3 1.2.4-0 | [true, false, false] ..1.2.3 1.2.4-0..1.2.4-0 +0.0.0-0 -1.2.3 +1.2.4-0 -1.2.4-0; 1
+"^1.2", ">= 2.1.0" | "< 1.0.0" | 0.9.0 1.1.0 1.9.0 2.0.0-alpha1 | [false, true, false, true] 1.0.0..1.2.0 2.0.0-0..2.1.0 +1.0.0 -1.2.0 +2.0.0-0 -2.1.0; 1
 "^1.2" | "^1" | 1.0.0 | parse error
 "1.*" |  | 1.0.0 | parse error
 "*" |  | 1.0.0 | bad parameter
 "#;
-
-fn add_verdicts(text: &mut String, verdicts: &[bool]) -> Result<(), Fail> {
-    for affected in verdicts {
-        text.push(if *affected { '+' } else { '-' })?;
-    }
-    Ok(())
-}
 
 fn add_version(text: &mut String, version: &Option<Version>) -> Result<(), Fail> {
     if let Some(version) = version {
@@ -63,7 +56,7 @@ fn add_events(text: &mut String, events: &[OsvTimelineEvent]) -> Result<(), Fail
 
 fn add_answers(text: &mut String, advisories: &[AuditedAdvisory]) -> Result<(), Fail> {
     for answer in advisories {
-        add_verdicts(text, &answer.verdicts)?;
+        write!(text, "{:?}", answer.verdicts)?;
         add_ranges(text, &answer.ranges)?;
         add_events(text, &answer.events)?;
     }

@@ -1,7 +1,7 @@
 //! Lint errors by the library's calls. The command `lint` is in the cases of `rustsec_cases`.
 
 use rustsec_advisory::linter::{self, ErrorKind, Linter};
-use rustsec_fixtures::{INVALID, INVALID_ERRORS, VALID, changed, exact_field};
+use rustsec_fixtures::{INVALID, INVALID_ERRORS, VALID, changed, exact_field, prints};
 use std::alloc::Global;
 use std::fs;
 use std::test::Fail;
@@ -19,12 +19,6 @@ const EXAMPLES: &[&str] = &[
     "placeholder_lint | RUSTSEC-2001-2101 | RUSTSEC-0000-0000 | unknown | ",
     "placeholder_lint | RUSTSEC-2001-2101 | RUSTSEC-0000-0000 | no draft | invalid value `\"RUSTSEC-0000-0000\"` for key `id` in [advisory]: advisory ID draft status does not match file name",
 ];
-
-/// Returns whether a lint error prints as a text.
-fn prints(alloc: Global, error: &linter::Error, text: &str) -> Result<bool, Fail> {
-    let printed = error.to_string(alloc)?;
-    Ok(printed.as_str() == text)
-}
 
 /// Returns whether a text has these lint errors.
 fn has(alloc: Global, text: &str, draft: Option<bool>, errors: &[&str]) -> Result<bool, Fail> {

@@ -20,15 +20,11 @@ collections
   no-collection              1  ########################################
 ";
 
-/// Returns whether the JSON of stats is that of the advisory.
-fn has_json(alloc: Global, stats: &Stats) -> Result<bool, Fail> {
-    let tree = stats_tree(alloc, stats)?;
-    Ok(tree.to_string(alloc)?.as_str() == JSON)
-}
-
+/// Returns whether the JSON and the text of stats are those of the advisory.
 fn are_written(alloc: Global, stats: &Stats) -> Result<bool, Fail> {
+    let json = stats_tree(alloc, stats)?.to_string(alloc)?;
     let text = stats_text(alloc, stats)?;
-    Ok(text.as_str().starts_with(TEXT) && has_json(alloc, stats)?)
+    Ok(text.as_str().starts_with(TEXT) && json.as_str() == JSON)
 }
 
 #[test]
