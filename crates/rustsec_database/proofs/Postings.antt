@@ -1,24 +1,20 @@
 -- Postings of lists of advisories.
-use Rattle.std.proofs.Common.{◌≡◌, ◌∙◌, ◌+◌, ◌%◌, ◌<◌, ◌++◌, ◌==◌, ℕ, Bool, true, false, cond, List, [], ◌∷◌, Option, None, Some, get_or, length, map, take, refl, subst, sym, ap, append_assoc, arith, length-append}
+use Rattle.std.proofs.Common.{◌≡◌, ◌∙◌, ◌+◌, ◌%◌, ◌<◌, ◌++◌, ◌==◌, ℕ, Bool, true, false, cond, List, [], ◌∷◌, Option, None, Some, get_or, length, map, nat_eq, take, refl, subst, sym, ap, append_assoc, arith, length-append}
 use Rattle.std.specs.Prelude.{slice_get, slice_index_or}
-use Rattle.std.specs.Cmp.{first_so, second_so}
-use Rattle.std.specs.Cmp.Lexicographic.{bytes_decides}
+use Rattle.std.specs.Cmp.Lexicographic.{bytes_decides, pointwise}
 use Rattle.std.specs.List.{All, filter}
-use Rattle.std.specs.Option.{option_eq}
-use Rattle.std.proofs.lemmas.Bool.{and_from, and_left, and_right}
+use Rattle.std.proofs.lemmas.Bool.{and_from}
 use Rattle.std.proofs.lemmas.Bool.Decides.{nat_tests}
 use Rattle.std.proofs.lemmas.List.{get_or-map, length-map, length-take-le, take_more}
 use Rattle.std.proofs.lemmas.List.Elements.{All-cons}
-use denote.Enum.Bare.{sameb}
+use Rattle.std.proofs.lemmas.Nat.{mod_below}
 use Rattle.semver.specs.Parse.{Parts}
 use Rattle.rustsec_versions.specs.acceptance.Lists.{affected}
 use Rattle.rustsec_versions.specs.ranges.Ranges.{Range, in_range}
-use Rattle.rustsec_texts.specs.contracts.collection.Collection.{the_type as collection}
-use Rattle.rustsec_texts.specs.declared.collection.Collection.{Collection}
 use Rattle.rustsec_advisory.specs.declared.advisory.Advisory.{Advisory}
 use Rattle.rustsec_database.specs.Selects.{if_there}
-use Rattle.rustsec_database.specs.Places.{at_places, is_under, places_from}
-use Rattle.rustsec_database.specs.Postings.{AreListed, HaveListed, IsPostingAmong, digest, is_listed, is_near, posting_of, postings_from}
+use Rattle.rustsec_database.specs.Places.{at_places, places_from}
+use Rattle.rustsec_database.specs.Postings.{AreListed, HaveListed, IsIndexOf, IsPostingAmong, digest, is_listed, is_near, posting_of, postings_from}
 use Rattle.rustsec_database.specs.Spans.{span_of}
 use Rattle.rustsec_database.proofs.Places.{got-last, narrow, taken}
 use Rattle.rustsec_database.proofs.Spans.{in-span}
@@ -52,45 +48,38 @@ postings-out : (test : Advisory → Bool) (i : ℕ) (xs : List Advisory) (x : Ad
 postings-out test i [] x fails = rw fails refl
 postings-out test i (y ∷ ys) x fails = same (test y) (posting_of i y) _ _ (postings-out test (i + 1) ys x fails)
 
-one-list : (c : Collection) (before : List Advisory) (a : Advisory) (slot count place : ℕ) (xs : List Posting) (b : Bool)
-    → (digest a.metadata.«package» % count == place) ≡ b → option_eq (sameb collection) (Some c) a.metadata.collection ≡ true
-    → slot ≡ length before → xs ≡ postings_from (is_listed c count place) 0 before
-    → cond b (xs ++ posting_of slot a ∷ []) xs ≡ postings_from (is_listed c count place) 0 (before ++ a ∷ [])
-one-list c before a slot count place xs true is under at have =
-    let here : is_listed c count place a ≡ true = and_from _ _ under is in
+one-list : (before : List Advisory) (a : Advisory) (slot count place : ℕ) (xs : List Posting) (b : Bool) → (digest a.metadata.«package» % count == place) ≡ b
+    → slot ≡ length before → xs ≡ postings_from (is_listed count place) 0 before
+    → cond b (xs ++ posting_of slot a ∷ []) xs ≡ postings_from (is_listed count place) 0 (before ++ a ∷ [])
+one-list before a slot count place xs true is at have =
     let turn : slot ≡ 0 + length before = omega (arith, at) in
-    (λ i. have i ++ posting_of (turn i) a ∷ []) ∙ sym (postings-in (is_listed c count place) 0 before a here)
-one-list c before a slot count place xs false is under at have =
-    have ∙ sym (postings-out (is_listed c count place) 0 before a (and_right _ _ is))
+    (λ i. have i ++ posting_of (turn i) a ∷ []) ∙ sym (postings-in (is_listed count place) 0 before a is)
+one-list before a slot count place xs false is at have = have ∙ sym (postings-out (is_listed count place) 0 before a is)
 
--- lists after the posting of an advisory of the collection is in its list
-pub inserted : (c : Collection) (before : List Advisory) (a : Advisory) (slot : ℕ) (p : Posting) (old new : List (List Posting))
-    → option_eq (sameb collection) (Some c) a.metadata.collection ≡ true → p ≡ posting_of slot a → length new ≡ length old
+-- lists after the posting of an advisory is in its list
+inserted : (before : List Advisory) (a : Advisory) (slot : ℕ) (p : Posting) (old new : List (List Posting)) → p ≡ posting_of slot a
+    → length new ≡ length old
     → ((place : ℕ) → place < length old → slice_index_or new place []
     ≡ cond (p.0 % length old == place) (slice_index_or old place [] ++ p ∷ []) (slice_index_or old place []))
-    → slot ≡ length before → HaveListed c before old → HaveListed c (before ++ a ∷ []) new
-inserted c before a slot p old new under is len put at have place l =
+    → slot ≡ length before → HaveListed before old → HaveListed (before ++ a ∷ []) new
+inserted before a slot p old new is len put at have place l =
     let within : place < length old = omega (arith, len, l) in
     let xs = slice_index_or old place [] in
     put place within
     ∙ (ap (λ (q : Posting). cond (q.0 % length old == place) (xs ++ q ∷ []) xs) is
-    ∙ (one-list c before a slot (length old) place xs (digest a.metadata.«package» % length old == place) refl under at (have place within)
-    ∙ ap (λ n. postings_from (is_listed c n place) 0 (before ++ a ∷ [])) (sym len)))
-
--- lists after an advisory of no collection, or of another one
-pub passed-by : (c : Collection) (before : List Advisory) (a : Advisory) (old : List (List Posting))
-    → option_eq (sameb collection) (Some c) a.metadata.collection ≡ false → HaveListed c before old → HaveListed c (before ++ a ∷ []) old
-passed-by c before a old under have place l =
-    have place l ∙ sym (postings-out (is_listed c (length old) place) 0 before a (and_left _ _ under))
+    ∙ (one-list before a slot (length old) place xs (digest a.metadata.«package» % length old == place) refl at (have place within)
+    ∙ ap (λ n. postings_from (is_listed n place) 0 (before ++ a ∷ [])) (sym len)))
 
 -- the lists of the first advisories, with one more
-pub listed-more : (c : Collection) (all : List Advisory) (i : ℕ) (a : Advisory) (slot : ℕ) (old new : List (List Posting)) → i < length all
-    → a ≡ get_or all i a → slot ≡ i
-    → ((before : List Advisory) → slot ≡ length before → HaveListed c before old → HaveListed c (before ++ a ∷ []) new)
-    → HaveListed c (take i all) old → HaveListed c (take (i + 1) all) new
-listed-more c all i a slot old new l is at put have =
+pub listed-more : (all : List Advisory) (i : ℕ) (a : Advisory) (slot : ℕ) (p : Posting) (old new : List (List Posting)) → i < length all
+    → a ≡ get_or all i a → slot ≡ i → p ≡ posting_of slot a → length new ≡ length old
+    → ((place : ℕ) → place < length old → slice_index_or new place []
+    ≡ cond (p.0 % length old == place) (slice_index_or old place [] ++ p ∷ []) (slice_index_or old place []))
+    → HaveListed (take i all) old → HaveListed (take (i + 1) all) new
+listed-more all i a slot p old new l is at of len put have =
     let below : slot ≡ length (take i all) = at ∙ sym (length-take-le i all (omega (arith, l))) in
-    subst (λ (b : List Advisory). HaveListed c b new) (ap (λ x. take i all ++ x ∷ []) is ∙ sym (take_more all i a l)) (put (take i all) below have)
+    subst (λ (b : List Advisory). HaveListed b new) (ap (λ x. take i all ++ x ∷ []) is ∙ sym (take_more all i a l))
+    (inserted (take i all) a slot p old new of len put below have)
 
 -- ---- the places of postings
 
@@ -126,32 +115,33 @@ among-from test zs (x ∷ xs) ys n is len =
     all-step (IsPostingAmong ys) (test x) (posting_of n x) _ (there ys n x at)
     (among-from test (zs ++ x ∷ []) xs ys (n + 1) (is ∙ sym (append_assoc zs (x ∷ []) xs)) longer)
 
-pub among : (c : Collection) (number : ℕ) (advisories : List Advisory) (postings : List Posting) → AreListed c number advisories postings
+pub among : (number : ℕ) (advisories : List Advisory) (postings : List Posting) → AreListed number advisories postings
     → All (IsPostingAmong advisories) postings
-among c number advisories postings are =
+among number advisories postings are =
     subst (λ ps. All (IsPostingAmong advisories) ps) (sym are.1)
-    (among-from (is_listed c are.0 (number % are.0)) [] advisories advisories 0 refl refl)
+    (among-from (is_listed are.0 (number % are.0)) [] advisories advisories 0 refl refl)
 
 -- ---- what is found by a digest
 
-same-name : (c : Collection) (name : List ℕ) (a : Advisory) → is_under c name a ≡ true → name ≡ a.metadata.«package»
-same-name c name a h = (bytes_decides name a.metadata.«package»).0 (second_so _ _ h)
+-- the list for a digest
+pub listed-at : (number : ℕ) (advisories : List Advisory) (lists : List (List Posting)) (postings : List Posting)
+    → postings ≡ slice_index_or lists (number % length lists) [] → IsIndexOf advisories lists → AreListed number advisories postings
+listed-at number advisories lists postings is index = (length lists, is ∙ index.1 (number % length lists) (mod_below number (length lists) index.0))
 
-listed : (c : Collection) (count : ℕ) (name : List ℕ) (a : Advisory) → is_under c name a ≡ true → is_listed c count (digest name % count) a ≡ true
-listed c count name a h =
-    let equal : (digest a.metadata.«package» % count == digest name % count) ≡ true =
-    ap (λ n. digest a.metadata.«package» % count == digest n % count) (same-name c name a h) ∙ itself (digest a.metadata.«package» % count) in
-    and_from _ _ (first_so _ _ h) equal
+-- a name that is that of an advisory has its digest
+same-digest : (name : List ℕ) (a : Advisory) → pointwise nat_eq name a.metadata.«package» ≡ true → digest a.metadata.«package» ≡ digest name
+same-digest name a h = ap digest (sym ((bytes_decides name a.metadata.«package»).0 h))
 
--- the postings of a digest are enough for a test that only advisories of the collection and the name pass
-pub by-digest : (test : Advisory → Bool) (c : Collection) (name : List ℕ) (advisories : List Advisory) (postings : List Posting)
-    → ((a : Advisory) → test a ≡ true → is_under c name a ≡ true) → AreListed c (digest name) advisories postings
+-- the postings of a digest are enough for a test that only advisories of the name pass
+pub by-digest : (test : Advisory → Bool) (name : List ℕ) (advisories : List Advisory) (postings : List Posting)
+    → ((a : Advisory) → test a ≡ true → pointwise nat_eq name a.metadata.«package» ≡ true) → AreListed (digest name) advisories postings
     → filter test (at_places (map (λ (q : Posting). q.1) postings) advisories) ≡ filter test advisories
-by-digest test c name advisories postings under are =
-    let p = is_listed c are.0 (digest name % are.0) in
+by-digest test name advisories postings named are =
+    let p = is_listed are.0 (digest name % are.0) in
     ap (λ ps. filter test (at_places (map (λ (q : Posting). q.1) ps) advisories)) are.1
     ∙ (ap (λ ns. filter test (at_places ns advisories)) (places-are p 0 advisories)
-    ∙ (ap (filter test) (taken p advisories) ∙ narrow p test (λ a h. listed c are.0 name a (under a h)) advisories))
+    ∙ (ap (filter test) (taken p advisories)
+    ∙ narrow p test (λ a h. ap (λ n. n % are.0 == digest name % are.0) (same-digest name a (named a h)) ∙ itself (digest name % are.0)) advisories))
 
 in-version : (version : Option Parts) (a : Advisory) → if_there (affected a.versions) version ≡ true
     → if_there (λ v. in_range (span_of a.versions) v) version ≡ true
@@ -159,9 +149,12 @@ in-version None a h = refl
 in-version (Some v) a h = in-span a.versions v h
 
 -- an advisory of the name that affects the version is near
-pub near : (c : Collection) (name : List ℕ) (version : Option Parts) (place : ℕ) (a : Advisory) → is_under c name a ≡ true
+near : (name : List ℕ) (version : Option Parts) (place : ℕ) (a : Advisory) → pointwise nat_eq name a.metadata.«package» ≡ true
     → if_there (affected a.versions) version ≡ true → is_near (digest name) version (posting_of place a) ≡ true
-near c name version place a under h =
-    let equal : (digest a.metadata.«package» == digest name) ≡ true =
-    ap (λ n. digest a.metadata.«package» == digest n) (same-name c name a under) ∙ itself (digest a.metadata.«package») in
-    and_from _ _ equal (in-version version a h)
+near name version place a named h =
+    and_from _ _ (ap (λ n. n == digest name) (same-digest name a named) ∙ itself (digest name)) (in-version version a h)
+
+pub near-by : (number : ℕ) (name : List ℕ) (version : Option Parts) (place : ℕ) (p : Posting) (a : Advisory) → number ≡ digest name
+    → p ≡ posting_of place a → pointwise nat_eq name a.metadata.«package» ≡ true → if_there (affected a.versions) version ≡ true
+    → is_near number version p ≡ true
+near-by number name version place p a same is named h = (λ i. is_near (same i) version (is i)) ∙ near name version place a named h

@@ -5,21 +5,15 @@ use Rattle.std.specs.Cmp.Lexicographic.{bytes_decides, pointwise}
 use Rattle.std.specs.HashMap as hash
 use Rattle.std.specs.HashMap.{HashMap, Updates}
 use Rattle.std.specs.List.{find, list_any, position_from}
-use Rattle.std.specs.Option.{option_eq}
-use Rattle.std.proofs.lemmas.Bool.{and_from}
-use denote.Enum.Bare.{sameb}
 use Rattle.semver.specs.Parse.{Parts}
 use Rattle.rustsec_versions.specs.acceptance.Lists.{affected}
 use Rattle.rustsec_texts.specs.IdOrder.{id_decides, id_eq}
 use Rattle.rustsec_texts.specs.Ids.{IdValue}
-use Rattle.rustsec_texts.specs.contracts.collection.Collection.{the_type as collection}
-use Rattle.rustsec_texts.specs.declared.collection.Collection.{Collection}
 use Rattle.rustsec_advisory.specs.declared.advisory.Advisory.{Advisory}
-use Rattle.rustsec_lock.specs.Package.{PackageValue}
-use Rattle.rustsec_database.specs.Query.{Asked, of_package}
+use Rattle.rustsec_database.specs.Query.{Asked}
 use Rattle.rustsec_database.specs.Selects.{as_informational, as_withdrawn, has_name, has_source, has_version, if_there, in_collection, is_severe, of_year, on_arch, on_os, selects}
 use Rattle.rustsec_database.specs.Loaded.{has_id, is_known}
-use Rattle.rustsec_database.specs.Places.{IsTableOf, is_under}
+use Rattle.rustsec_database.specs.Places.{IsTableOf}
 use Rattle.rustsec_database.proofs.Places.{find-any, first-last, first-other, is-false, none-at}
 
 -- ---- the table of IDs
@@ -75,21 +69,15 @@ name-back a b h = is-false (pointwise nat_eq b a) (λ t. cc (sym h ∙ (bytes_de
 
 -- ---- queries
 
--- an advisory that a query selects passes the first two of the ten tests
-first-two : (q : Asked) (a : Advisory) → selects q a ≡ true → (in_collection q a && has_name q a) ≡ true
+-- an advisory that a query selects is of the package that the query asks for
+pub selected-named : (q : Asked) (name : List ℕ) (a : Advisory) → Some name ≡ q.package_name → selects q a ≡ true
+    → pointwise nat_eq name a.metadata.«package» ≡ true
 unfolding selects
-first-two q a h =
-    first_so _ (has_version q a) (first_so _ (has_source q a) (first_so _ (is_severe q a) (first_so _ (on_arch q a) (first_so _ (on_os q a)
-    (first_so _ (of_year q a) (first_so _ (as_withdrawn q a) (first_so _ (as_informational q a) h)))))))
-
--- an advisory that a query selects is of the collection and the package that the query asks for
-pub selected-under : (q : Asked) (c : Collection) (name : List ℕ) (a : Advisory) → Some c ≡ q.collection → Some name ≡ q.package_name
-    → selects q a ≡ true → is_under c name a ≡ true
-selected-under q c name a of named h =
-    let two = first-two q a h in
-    and_from _ _
-    (subst (λ o. if_there (λ c. option_eq (sameb collection) (Some c) a.metadata.collection) o ≡ true) (sym of) (first_so (in_collection q a) (has_name q a) two))
-    (subst (λ o. if_there (λ n. pointwise nat_eq n a.metadata.«package») o ≡ true) (sym named) (second_so (in_collection q a) (has_name q a) two))
+selected-named q name a named h =
+    let asked : has_name q a ≡ true =
+    second_so (in_collection q a) (has_name q a) (first_so _ (has_version q a) (first_so _ (has_source q a) (first_so _ (is_severe q a)
+    (first_so _ (on_arch q a) (first_so _ (on_os q a) (first_so _ (of_year q a) (first_so _ (as_withdrawn q a) (first_so _ (as_informational q a) h)))))))) in
+    subst (λ o. if_there (λ n. pointwise nat_eq n a.metadata.«package») o ≡ true) (sym named) asked
 
 -- an advisory that a query selects affects the version that the query asks for
 pub selected-affecting : (q : Asked) (version : Option Parts) (a : Advisory) → version ≡ q.package_version → selects q a ≡ true
@@ -100,8 +88,3 @@ selected-affecting q version a at h =
     second_so (in_collection q a && has_name q a) (has_version q a) (first_so _ (has_source q a) (first_so _ (is_severe q a) (first_so _ (on_arch q a)
     (first_so _ (on_os q a) (first_so _ (of_year q a) (first_so _ (as_withdrawn q a) (first_so _ (as_informational q a) h))))))) in
     subst (λ o. if_there (affected a.versions) o ≡ true) (sym at) asked
-
--- an advisory that a query selects for a package is of the query's collection and the package's name
-pub selected-of : (q : Asked) (p : PackageValue) (c : Collection) (a : Advisory) → q.collection ≡ Some c → selects (of_package q p) a ≡ true
-    → is_under c p.name a ≡ true
-selected-of q p c a of h = selected-under (of_package q p) c p.name a (sym of) refl h

@@ -1,20 +1,15 @@
 -- Places in a list of advisories, which the tables of a database hold. No public contract depends on these definitions.
-use Rattle.std.specs.Prelude.{◌≡◌, ◌&&◌, ◌+◌, ℕ, Bool, false, List, [], ◌∷◌, None, Option, Some, if◌then◌else◌, nat_eq, slice_get}
+use Rattle.std.specs.Prelude.{◌≡◌, ◌+◌, ℕ, Bool, false, List, [], ◌∷◌, None, Option, Some, if◌then◌else◌, nat_eq, slice_get}
 use Rattle.std.specs.Cmp.Lexicographic.{pointwise}
 use Rattle.std.specs.HashMap as hash
 use Rattle.std.specs.HashMap.{HashMap}
 use Rattle.std.specs.List.{filter_map, position_from}
-use Rattle.std.specs.Option.{option_eq}
-use denote.Enum.Bare.{sameb}
 use Rattle.semver.specs.Parse.{Parts}
 use Rattle.rustsec_versions.specs.acceptance.Lists.{Lists, affected}
 use Rattle.rustsec_versions.specs.ranges.Ranges.{is_until}
 use Rattle.rustsec_lock.specs.Package.{PackageValue}
 use Rattle.rustsec_texts.specs.IdOrder.{id_eq}
 use Rattle.rustsec_texts.specs.Ids.{IdValue}
-use Rattle.rustsec_texts.specs.contracts.collection.Collection.{the_type as collection}
-use Rattle.rustsec_texts.specs.declared.collection.Collection.{Collection}
-use Rattle.rustsec_texts.specs.declared.collection.Collection.TheVariants as kind
 use Rattle.rustsec_advisory.specs.declared.advisory.Advisory.{Advisory}
 use Rattle.rustsec_database.specs.Loaded.{has_id}
 use Rattle.rustsec_database.specs.Slots.{slots_at}
@@ -27,10 +22,6 @@ places_from test i (x ∷ xs) = if test x then i ∷ places_from test (i + 1) xs
 -- the elements at some places; a place out of range gives none
 abbrev pub at_places : {A : Type 0} → List ℕ → List A → List A
 at_places places xs = filter_map (slice_get xs) places
-
--- whether an advisory is of this collection and this package
-abbrev pub is_under : Collection → List ℕ → Advisory → Bool
-is_under c name a = option_eq (sameb collection) (Some c) a.metadata.collection && pointwise nat_eq name a.metadata.«package»
 
 -- the table of IDs: it maps each ID to the place of its advisory
 abbrev pub IsTableOf : {S : Type 0} → List Advisory → HashMap IdValue ℕ S → Type 0

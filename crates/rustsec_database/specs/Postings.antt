@@ -1,13 +1,8 @@
--- Postings: the entries of a database's indexes for its advisories. No public contract depends on these definitions.
+-- Postings: the entries of a database's index for its advisories. No public contract depends on these definitions.
 use Rattle.std.specs.Prelude.{◌≡◌, ◌&&◌, ◌==◌, ◌+◌, ◌%◌, ◌<◌, ℕ, Bool, List, [], ◌∷◌, Option, Some, if◌then◌else◌, length, slice_get, slice_index_or}
-use Rattle.std.specs.Option.{option_eq}
 use Rattle.std.specs.Hash.FoldHasher as folding
-use denote.Enum.Bare.{sameb}
 use Rattle.semver.specs.Parse.{Parts}
 use Rattle.rustsec_versions.specs.ranges.Ranges.{Range, in_range}
-use Rattle.rustsec_texts.specs.contracts.collection.Collection.{the_type as collection}
-use Rattle.rustsec_texts.specs.declared.collection.Collection.{Collection}
-use Rattle.rustsec_texts.specs.declared.collection.Collection.TheVariants as kind
 use Rattle.rustsec_advisory.specs.declared.advisory.Advisory.{Advisory}
 use Rattle.rustsec_database.specs.Selects.{if_there}
 use Rattle.rustsec_database.specs.Spans.{span_of}
@@ -29,27 +24,22 @@ postings_from test i (a ∷ rest) = if test a then posting_of i a ∷ postings_f
 abbrev pub is_near : ℕ → Option Parts → ℕ × ℕ × Range → Bool
 is_near number version p = p.0 == number && if_there (λ v. in_range p.2 v) version
 
--- whether an advisory is of this collection, and its digest has this remainder by the number of lists
-abbrev pub is_listed : Collection → ℕ → ℕ → Advisory → Bool
-is_listed c count place a = option_eq (sameb collection) (Some c) a.metadata.collection && digest a.metadata.«package» % count == place
+-- whether the digest of an advisory's name has this remainder by the number of lists
+abbrev pub is_listed : ℕ → ℕ → Advisory → Bool
+is_listed count place a = digest a.metadata.«package» % count == place
 
--- each of these lists has the postings of the advisories of a collection whose digests have its place as their remainder
-abbrev pub HaveListed : Collection → List Advisory → List (List (ℕ × ℕ × Range)) → Type 0
-HaveListed c advisories lists =
-    (place : ℕ) → place < length lists → slice_index_or lists place [] ≡ postings_from (is_listed c (length lists) place) 0 advisories
+-- each of these lists has the postings of the advisories whose digests have its place as their remainder
+abbrev pub HaveListed : List Advisory → List (List (ℕ × ℕ × Range)) → Type 0
+HaveListed advisories lists =
+    (place : ℕ) → place < length lists → slice_index_or lists place [] ≡ postings_from (is_listed (length lists) place) 0 advisories
 
--- the index of a collection: one or more such lists
-abbrev pub IsIndexOf : Collection → List Advisory → List (List (ℕ × ℕ × Range)) → Type 0
-IsIndexOf c advisories lists = (0 < length lists) × HaveListed c advisories lists
+-- the index of some advisories: one or more such lists
+abbrev pub IsIndexOf : List Advisory → List (List (ℕ × ℕ × Range)) → Type 0
+IsIndexOf advisories lists = (0 < length lists) × HaveListed advisories lists
 
--- the indexes of both collections
-abbrev pub AreIndexesOf : List Advisory → List (List (ℕ × ℕ × Range)) → List (List (ℕ × ℕ × Range)) → Type 0
-AreIndexesOf advisories crates rust = IsIndexOf kind.Crates advisories crates × IsIndexOf kind.Rust advisories rust
-
--- the postings of a collection whose digests have the remainder of this digest by some number
-abbrev pub AreListed : Collection → ℕ → List Advisory → List (ℕ × ℕ × Range) → Type 0
-AreListed c number advisories postings =
-    (count : ℕ) × (postings ≡ postings_from (is_listed c count (number % count)) 0 advisories)
+-- the postings whose digests have the remainder of this digest by some number
+abbrev pub AreListed : ℕ → List Advisory → List (ℕ × ℕ × Range) → Type 0
+AreListed number advisories postings = (count : ℕ) × (postings ≡ postings_from (is_listed count (number % count)) 0 advisories)
 
 -- a posting is that of the advisory at its place, if any
 abbrev pub IsPostingAmong : List Advisory → ℕ × ℕ × Range → Type 0

@@ -1,6 +1,7 @@
 //! The database: advisories loaded from files, with indexes by ID and by package.
 
-ghost use Rattle.std.specs.Prelude.{◌≡◌, ◌++◌, ◌⊎◌, ◌<◌, ◌^◌, ℕ, IfErr, IfOk, IfSome, List, OnOk, Some, length, map, option_map, slice_get, true};
+ghost use Rattle.std.specs.Prelude.{◌≡◌, ◌++◌, ◌⊎◌, ◌<◌, ◌^◌, ℕ, IfErr, IfOk, IfSome, List, OnOk, Some, length, map, nat_eq, option_map, true};
+ghost use Rattle.std.specs.Cmp.Lexicographic.{pointwise};
 ghost use Rattle.std.specs.Iterator.Adapters.{IterYieldsInOrder};
 ghost use Rattle.std.specs.List.{All, filter, find};
 ghost use Rattle.std.specs.Option.{option_copied};
@@ -13,19 +14,17 @@ ghost use Rattle.rustsec_database.specs.Pairs.{as_vulnerability, is_audited, pai
 ghost use Rattle.rustsec_database.specs.Query.{crate_scope, of_package};
 ghost use Rattle.rustsec_database.specs.Selects.{if_there, selects};
 ghost use Rattle.rustsec_database.specs.Loaded.{AreLoaded, IsFirstFault, IsOnlyWithId, has_id};
-ghost use Rattle.rustsec_database.specs.Places.{at_places, is_under};
-ghost use Rattle.rustsec_database.specs.Postings.{AreListed, IsPostingAmong, is_near, posting_of};
 
 use crate::entries::Entries;
-use crate::indexes::Indexes;
+use crate::name_index::NameIndex;
 use crate::pair::{Pair, push_pairs, vulnerabilities_of};
-use crate::posting::{Posting, digest};
+use crate::posting::digest;
 use crate::{Matches, MatchesPackage, Query, Vulnerability};
 use rustsec_advisory::Advisory;
 use rustsec_files::SourceFile;
 use rustsec_lock::Lockfile;
 use rustsec_lock::package::{Name, Package};
-use rustsec_texts::{Collection, Id};
+use rustsec_texts::Id;
 use rustsec_values::{Predicate, Result};
 use semver::Version;
 use std::alloc::{AllocError, Global};
@@ -39,79 +38,19 @@ pub type Iter<'a> = slice::Iter<'a, Advisory>;
 #[derive(Debug, Drop)]
 pub struct Database {
     entries: Entries,
-    indexes: Indexes,
+    index: NameIndex,
 }
 
 impl Model for Database {
     ghost use Rattle.std.specs.Prelude.{List};
     ghost use Rattle.rustsec_advisory.specs.declared.advisory.Advisory as given;
-    ghost use Rattle.rustsec_database.specs.Postings.{AreIndexesOf};
+    ghost use Rattle.rustsec_database.specs.Postings.{IsIndexOf};
 
     ghost Value = { List given.Advisory };
 
     ghost view = { λ d. d.entries };
 
-    ghost invariant = { λ d. AreIndexesOf d.entries d.indexes.crates d.indexes.rust };
-}
-
-/// What the index is asked for: a collection and a name, and a version, if any.
-#[derive(Clone, Copy)]
-struct Sought<'a> {
-    collection: Collection,
-    name: &'a Name,
-    version: Option<&'a Version>,
-}
-
-/// The digest of a name that is asked for, and a version, if any.
-#[derive(Drop)]
-struct Screen<'a> {
-    digest: usize,
-    version: Option<&'a Version>,
-}
-
-impl<'a> Model for Screen<'a> {
-    ghost use Rattle.std.specs.Prelude.{ℕ, Option, option_map};
-    ghost use Rattle.semver.specs.Identifiers.{parts_of};
-    ghost use Rattle.semver.specs.Parse.{Parts};
-
-    ghost Value = { ℕ × Option Parts };
-
-    ghost view = { λ s. (s.digest, option_map (λ v. parts_of v.now) s.version) };
-}
-
-impl<'a> Screen<'a> {
-    /// Returns whether a posting has the digest, and its span holds the version, if any. The advisory itself is not read.
-    fn lets(&self, posting: &Posting) -> bool
-        ensures { result ≡ is_near self.now.0 self.now.1 posting.now }
-    {
-        posting.is_near(self.digest, self.version)
-    }
-}
-
-/// Returns the advisories of some postings that pass a test, in their order. Only those whose posting has the digest of the
-/// screen, and a span that holds its version, may pass.
-fn matching<'a, T: Predicate<Advisory>>(
-    alloc: Global,
-    entries: &'a Entries,
-    screen: &Screen<'_>,
-    postings: &[Posting],
-    test: &T,
-) -> std::result::Result<Vec<&'a Advisory>, AllocError>
-    requires near { (place : ℕ) (a : given.Advisory) → T.holds test.now a ≡ true → is_near screen.now.0 screen.now.1 (posting_of place a) ≡ true }
-    requires among { All (IsPostingAmong entries.now) postings.now }
-    ensures { IfOk result (λ v. map (λ a. a.now) v.items ≡ filter (T.holds test.now) (at_places (map (λ p. p.1) postings.now) entries.now)) }
-{
-    let mut found = Vec::new(alloc);
-    for posting in postings {
-        if screen.lets(posting) {
-            if let Some(advisory) = entries.get(posting.slot()) {
-                if test.holds(advisory) {
-                    found.push(advisory)?;
-                }
-            }
-        }
-    }
-    Ok(found)
+    ghost invariant = { λ d. IsIndexOf d.entries d.index };
 }
 
 /// Returns the advisories that pass a test, in the order in which they were loaded.
@@ -149,8 +88,8 @@ impl Database {
         ensures ok { IfOk result (λ d. d ≡ entries) }
         ensures err { IfErr result IsMemory }
     {
-        let indexes = Indexes::of(alloc, entries.as_slice())?;
-        Ok(Database { entries, indexes })
+        let index = NameIndex::of(alloc, entries.as_slice())?;
+        Ok(Database { entries, index })
     }
 
     /// Loads the database of some files. Advisories whose ID is the placeholder are left out.
@@ -192,37 +131,38 @@ impl Database {
         self.entries.iter()
     }
 
-    /// Returns the postings of a collection among which are all those of names with a digest.
-    fn postings(&self, collection: Collection, digest: usize) -> &[Posting]
-        ensures { AreListed collection digest self.now result.now }
-    {
-        self.indexes.postings(collection, digest)
-    }
-
     /// Uses the index to find the advisories that pass a test, in the order in which they were loaded. Only advisories of
-    /// this collection and this package name that affect this version may pass the test.
+    /// this package name that affect this version, if any, may pass the test. An advisory is read only if its posting has
+    /// the digest of the name, and a span that holds the version.
     fn indexed<T: Predicate<Advisory>>(
         &self,
         alloc: Global,
-        sought: Sought<'_>,
+        name: &Name,
+        version: Option<&Version>,
         test: &T,
     ) -> std::result::Result<Vec<&Advisory>, AllocError>
-        requires under { (a : given.Advisory) → T.holds test.now a ≡ true → is_under sought.collection sought.name.now a ≡ true }
+        requires named { (a : given.Advisory) → T.holds test.now a ≡ true → pointwise nat_eq name.now a.metadata.«package» ≡ true }
         requires affects { (a : given.Advisory) → T.holds test.now a ≡ true
-            → if_there (affected a.versions) (option_map (λ v. parts_of v.now) sought.version) ≡ true }
+            → if_there (affected a.versions) (option_map (λ v. parts_of v.now) version) ≡ true }
         ensures { IfOk result (λ v. map (λ a. a.now) v.items ≡ filter (T.holds test.now) self.now) }
     {
-        let digest = digest(sought.name);
-        let screen = Screen {
-            digest,
-            version: sought.version,
-        };
-        let postings = self.postings(sought.collection, digest);
-        matching(alloc, &self.entries, &screen, postings, test)
+        let digest = digest(name);
+        let postings = self.index.postings(digest);
+        let mut found = Vec::new(alloc);
+        for posting in postings {
+            if posting.is_near(digest, version) {
+                if let Some(advisory) = self.entries.get(posting.slot()) {
+                    if test.holds(advisory) {
+                        found.push(advisory)?;
+                    }
+                }
+            }
+        }
+        Ok(found)
     }
 
     /// Returns the advisories that match a query, in the order in which they were loaded. If the query asks
-    /// for a collection and a name, only the advisories of that collection and that name are looked at.
+    /// for a name, only the advisories of that name are looked at.
     ///
     /// # Errors
     ///
@@ -231,17 +171,10 @@ impl Database {
         ensures ok { IfOk result (λ v. map (λ a. a.now) v.items ≡ filter (selects query.now) self.now) }
         ensures err { IfErr result IsMemory }
     {
-        if let Some(collection) = query.asked_collection() {
-            if let Some(name) = query.asked_name() {
-                let version = query.asked_version();
-                let sought = Sought {
-                    collection,
-                    name,
-                    version,
-                };
-                let found = self.indexed(alloc, sought, &Matches { query })?;
-                return Ok(found);
-            }
+        if let Some(name) = query.asked_name() {
+            let version = query.asked_version();
+            let found = self.indexed(alloc, name, version, &Matches { query })?;
+            return Ok(found);
         }
         let found = all_matching(alloc, &self.entries, &Matches { query })?;
         Ok(found)
@@ -262,15 +195,7 @@ impl Database {
         ensures { IfOk result (λ v. map (λ a. a.now) v.items ≡ filter (selects (of_package query.now «package».now)) self.now) }
     {
         let test = MatchesPackage { query, package };
-        let Some(collection) = query.asked_collection() else {
-            return all_matching(alloc, &self.entries, &test);
-        };
-        let sought = Sought {
-            collection,
-            name: &package.name,
-            version: Some(&package.version),
-        };
-        self.indexed(alloc, sought, &test)
+        self.indexed(alloc, &package.name, Some(&package.version), &test)
     }
 
     /// Appends one pair for each advisory that a query finds for a package. A package that is not audited adds
@@ -365,10 +290,7 @@ impl IntoIterator for Database {
 
     /// Returns an iterator over the advisories by value, in the order in which they were loaded.
     fn into_iter(self) -> vec::IntoIter<Advisory> {
-        let Database {
-            entries,
-            indexes: _,
-        } = self;
+        let Database { entries, index: _ } = self;
         entries.into_iter()
     }
 }

@@ -5,7 +5,6 @@ mod database;
 mod entries;
 mod functions;
 mod index;
-mod indexes;
 mod keeping;
 mod kept;
 mod locked;

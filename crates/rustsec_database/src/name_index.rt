@@ -1,14 +1,12 @@
-//! An index of the advisories of a collection by the names of their packages.
+//! An index of advisories by the names of their packages.
 
-ghost use Rattle.std.specs.Prelude.{◌≡◌, ◌++◌, ◌%◌, ◌<◌, ◌==◌, ◌∷◌, [], if◌then◌else◌, ℕ, IfErr, IfOk, List, OnOk, length, slice_index_or};
+ghost use Rattle.std.specs.Prelude.{◌≡◌, ◌++◌, ◌%◌, ◌<◌, ◌==◌, ◌∷◌, [], if◌then◌else◌, ℕ, IfErr, IfOk, OnOk, length, slice_index_or};
 ghost use Rattle.rustsec_values.specs.Failure.{IsMemory};
-ghost use Rattle.rustsec_advisory.specs.declared.advisory.Advisory as given;
-ghost use Rattle.rustsec_database.specs.Postings.{HaveListed, IsIndexOf};
+ghost use Rattle.rustsec_database.specs.Postings.{IsIndexOf};
 
 use crate::posting::Posting;
 use crate::slot::Slot;
 use rustsec_advisory::Advisory;
-use rustsec_texts::Collection;
 use rustsec_values::{Items, Result};
 use std::alloc::{AllocError, Global};
 use std::marker::Model;
@@ -28,18 +26,6 @@ impl Model for NameIndex {
     ghost view = { λ i. i.lists.items };
 }
 
-/// Returns the number of lists for the advisories of a collection: two for each, so that most have one posting at most, and
-/// one more, so that there is one.
-fn list_count(collection: Collection, advisories: &[Advisory]) -> usize
-    ensures { 0 < result }
-{
-    let listed = advisories
-        .iter()
-        .filter(|advisory| Some(collection) == advisory.metadata.collection)
-        .count();
-    listed.saturating_mul(2).saturating_add(1)
-}
-
 /// Returns the given number of empty lists.
 fn empty_lists(alloc: Global, count: usize) -> std::result::Result<Vec<Items<Posting>>, AllocError>
     ensures len { IfOk result (λ v. length v.items ≡ count) }
@@ -52,16 +38,8 @@ fn empty_lists(alloc: Global, count: usize) -> std::result::Result<Vec<Items<Pos
     Ok(lists)
 }
 
-/// Returns a list of one posting, with room for one: most lists have no other, and a search has less memory to look at.
-fn list_of(alloc: Global, posting: Posting) -> std::result::Result<Items<Posting>, AllocError>
-    ensures { IfOk result (λ l. l ≡ posting ∷ []) }
-{
-    let mut list = Vec::with_capacity(alloc, 1)?;
-    list.push(posting).map_err(|_| AllocError)?;
-    Ok(Items::from(list))
-}
-
-/// Appends a posting to the list at a place, if any.
+/// Appends a posting to the list at a place, if any. The first one gets room for one: most lists have no other, and a search
+/// has less memory to look at.
 fn push_at(
     alloc: Global,
     lists: &mut Vec<Items<Posting>>,
@@ -74,7 +52,9 @@ fn push_at(
 {
     if at < lists.len() {
         if lists[at].is_empty() {
-            lists[at] = list_of(alloc, posting)?;
+            let mut list = Vec::with_capacity(alloc, 1)?;
+            list.push(posting).map_err(|_| AllocError)?;
+            lists[at] = Items::from(list);
         } else {
             lists[at].push(posting)?;
         }
@@ -99,41 +79,23 @@ fn insert(
     }
 }
 
-/// Inserts the posting of the advisory in a slot, if the advisory is of a collection.
-fn insert_in(
-    alloc: Global,
-    lists: &mut Vec<Items<Posting>>,
-    collection: Collection,
-    advisory: &Advisory,
-    slot: Slot,
-) -> std::result::Result<(), AllocError>
-    ensures len { length lists.new.items ≡ length lists.old.items }
-    ensures ok { OnOk result ((before : List given.Advisory) → slot ≡ length before → HaveListed collection before lists.old.items
-        → HaveListed collection (before ++ advisory.now ∷ []) lists.new.items) }
-{
-    if Some(collection) == advisory.metadata.collection {
-        insert(alloc, lists, Posting::new(advisory, slot))?;
-    }
-    Ok(())
-}
-
 impl NameIndex {
-    /// Returns the index of those of some advisories that are of a collection. The slot of each is its place among them.
+    /// Returns the index of some advisories. The slot of each is its place among them. There are two lists for each, so that
+    /// most have one posting at most, and one more, so that there is one.
     ///
     /// # Errors
     ///
     /// `OutOfMemory` alone.
-    pub(crate) fn of(
-        alloc: Global,
-        collection: Collection,
-        advisories: &[Advisory],
-    ) -> Result<NameIndex>
-        ensures ok { IfOk result (IsIndexOf collection advisories.now) }
+    pub(crate) fn of(alloc: Global, advisories: &[Advisory]) -> Result<NameIndex>
+        ensures ok { IfOk result (IsIndexOf advisories.now) }
         ensures err { IfErr result IsMemory }
     {
-        let mut lists = empty_lists(alloc, list_count(collection, advisories))?;
+        let count = advisories.len().saturating_mul(2).saturating_add(1);
+        let mut lists = empty_lists(alloc, count)?;
         for (place, advisory) in advisories.iter().enumerate() {
-            insert_in(alloc, &mut lists, collection, advisory, Slot::new(place))?;
+            let slot = Slot::new(place);
+            let posting = Posting::new(advisory, slot);
+            insert(alloc, &mut lists, posting)?;
         }
         Ok(NameIndex { lists })
     }

@@ -1,13 +1,13 @@
 //! The ten tests of a query, one by one. If a field is not set, every advisory passes its test.
 
-ghost use Rattle.std.specs.Prelude.{◌≡◌, ◌==◌, ◌||◌, ◌&&◌, length, option_map};
+ghost use Rattle.std.specs.Prelude.{◌≡◌, ◌&&◌, option_map};
 ghost use Rattle.std.specs.List.{list_any};
 ghost use denote.Enum.Bare.{sameb};
 ghost use Rattle.semver.specs.Identifiers.{parts_of};
 ghost use Rattle.rustsec_lock.specs.contracts.platforms.Arch.{the_type as arch_type};
 ghost use Rattle.rustsec_lock.specs.contracts.platforms.OS.{the_type as os_type};
 ghost use Rattle.rustsec_database.specs.Query.{unset};
-ghost use Rattle.rustsec_database.specs.Selects.{as_informational, as_withdrawn, has_name, has_source, has_version, in_collection, is_place, is_severe, of_year, on_arch, on_os, shares_arch, shares_os, source_of};
+ghost use Rattle.rustsec_database.specs.Selects.{as_informational, as_withdrawn, has_name, has_source, has_version, in_collection, is_place, is_severe, of_year, on_arch, on_os, source_of};
 
 use rustsec_advisory::Advisory;
 use rustsec_lock::package::Name;
@@ -120,13 +120,6 @@ fn lists_some_arch(listed: &[Arch], asked: &[Arch]) -> bool
     asked.iter().any(|arch| lists_arch(listed, *arch))
 }
 
-/// Returns whether some asked architecture is listed, or either list is empty.
-fn shares_arch(asked: &[Arch], listed: &[Arch]) -> bool
-    ensures { result ≡ shares_arch asked.now listed.now }
-{
-    asked.is_empty() || listed.is_empty() || lists_some_arch(listed, asked)
-}
-
 /// Returns whether some asked system is listed.
 fn lists_some_os(listed: &[OS], asked: &[OS]) -> bool
     ensures { result ≡ list_any (λ x. list_any (sameb os_type x) listed.now) asked.now }
@@ -134,19 +127,15 @@ fn lists_some_os(listed: &[OS], asked: &[OS]) -> bool
     asked.iter().any(|os| lists_os(listed, *os))
 }
 
-/// Returns whether some asked system is listed, or either list is empty.
-fn shares_os(asked: &[OS], listed: &[OS]) -> bool
-    ensures { result ≡ shares_os asked.now listed.now }
-{
-    asked.is_empty() || listed.is_empty() || lists_some_os(listed, asked)
-}
-
 /// Returns whether an asked architecture is affected.
 pub(crate) fn on_arch(asked: &[Arch], advisory: &Advisory) -> bool
     ensures { result ≡ on_arch (record unset { target_arch = asked.now }) advisory.now }
 {
     match &advisory.affected {
-        Some(affected) => shares_arch(asked, affected.arch.as_slice()),
+        Some(affected) => {
+            let listed = affected.arch.as_slice();
+            asked.is_empty() || listed.is_empty() || lists_some_arch(listed, asked)
+        }
         None => true,
     }
 }
@@ -156,7 +145,10 @@ pub(crate) fn on_os(asked: &[OS], advisory: &Advisory) -> bool
     ensures { result ≡ on_os (record unset { target_os = asked.now }) advisory.now }
 {
     match &advisory.affected {
-        Some(affected) => shares_os(asked, affected.os.as_slice()),
+        Some(affected) => {
+            let listed = affected.os.as_slice();
+            asked.is_empty() || listed.is_empty() || lists_some_os(listed, asked)
+        }
         None => true,
     }
 }

@@ -6,5 +6,5 @@ use Rattle.rustsec_database.proofs.name_index.NameIndex.of.Given as goal
 abbrev pub invariant-loop-place : goal.invariant-loop-place
 invariant-loop-place l = record {
   some : 0 < length l.lists.items;
-  have : HaveListed l.collection (take l.place l.advisories) l.lists.items;
+  have : HaveListed (take l.place l.advisories) l.lists.items;
 }
