@@ -1,14 +1,17 @@
 -- The advisory of a text.
 use Rattle.std.specs.Prelude.{◌≡◌, ◌++◌, ℕ, List, [], Option, Some, None, true, codes, nat_eq, if◌then◌else◌}
 use Rattle.std.specs.List.{starts_with}
+use Rattle.std.specs.Str.{trim_start}
 use Rattle.toml.specs.Data.{Data, Members, as_table, get_member}
 use Rattle.toml.specs.Parse.{parse_document}
 use Rattle.rustsec_versions.specs.acceptance.Lists.{Lists, accepted}
-use Rattle.rustsec_texts.specs.Parts.{FileParts, parts_of}
+use Rattle.rustsec_texts.specs.Parts.{FileParts, opening, parts_of}
+use Rattle.rustsec_texts.specs.PatternCuts.{after_prefix}
 use Rattle.rustsec_advisory.specs.Affected.{IsAffected}
 use Rattle.rustsec_advisory.specs.declared.advisory.Advisory.{Advisory}
 use Rattle.rustsec_advisory.specs.declared.affected.Affected.{Affected}
-use Rattle.rustsec_toml.specs.Fields.{defaulted, required}
+use Rattle.rustsec_toml.specs.Fields.{defaulted, required, unmarked}
+use Rattle.rustsec_toml.specs.Places.{IsLineOf, place_past}
 use Rattle.rustsec_advisory.specs.Requirements.{requirements_of}
 use Rattle.rustsec_advisory.specs.Metadata.{IsMetadata}
 
@@ -52,3 +55,14 @@ pub record IsAdvisoryWith (text : List ℕ) (document : Members) (a : Advisory) 
 -- the text is this advisory's
 abbrev pub IsAdvisory : List ℕ → Advisory → Type 0
 IsAdvisory text a = (document : Members) × IsAdvisoryWith text document a
+
+-- ---- lines
+
+-- the line of a text in which its front matter begins: after the opening, and after white space
+abbrev pub IsFrontLine : List ℕ → ℕ → Type 0
+IsFrontLine text line = (body before : List ℕ) → after_prefix opening text ≡ Some body → text ≡ before ++ trim_start body
+    → line ≡ (place_past before).line
+
+-- a line of a text that its front matter has
+abbrev pub IsKeyLine : List ℕ → ℕ → Type 0
+IsKeyLine text line = (p : FileParts) × ((parts_of text ≡ Some p) × ((start : ℕ) × (IsFrontLine text start × IsLineOf start (unmarked start p.front_matter) line)))

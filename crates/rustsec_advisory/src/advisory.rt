@@ -1,15 +1,16 @@
 //! Advisories, and the reader of their files.
 
-ghost use Rattle.std.specs.Prelude.{◌≡◌, ◌⊎◌, ℕ, IfErr, IfOk, List, MatchResult, None, Some, is_some, nat_eq, option_and_then, string_bytes};
+ghost use Rattle.std.specs.Prelude.{◌≡◌, ◌⊎◌, [], ℕ, IfErr, IfOk, List, MatchResult, None, Some, is_some, nat_eq, option_and_then, string_bytes};
 ghost use Rattle.std.specs.List.{starts_with};
 ghost use Rattle.rustsec_lock.specs.Cvss.{cvss_severity};
 ghost use Rattle.toml.specs.Parse.{parse_document};
 ghost use Rattle.toml.specs.View.{table_view};
 ghost use Rattle.rustsec_files.specs.Allowed.{AllowSame, read_from, real_files, real_folders};
-ghost use Rattle.rustsec_advisory.specs.Advisory.{IsAdvisory, IsAdvisoryWith, IsOfDocument, document_text, header};
+ghost use Rattle.rustsec_advisory.specs.Advisory.{IsAdvisory, IsAdvisoryWith, IsFrontLine, IsOfDocument, document_text, header};
 ghost use Rattle.rustsec_advisory.specs.FileRefusals.{IsAdvisoryAt, IsAdvisoryRefusal, IsOfFile, IsTextRefusal, NamesFile};
 ghost use Rattle.rustsec_files.specs.Paths.{is_draft};
-ghost use Rattle.rustsec_texts.specs.Parts.{parts_of};
+ghost use Rattle.rustsec_texts.specs.Parts.{opening, parts_of};
+ghost use Rattle.rustsec_texts.specs.PatternCuts.{after_prefix};
 ghost use Rattle.rustsec_advisory.specs.declared.advisory.Advisory as given;
 ghost use Rattle.rustsec_values.specs.Failure.{IsMemory, IsOfKind, IsRefusal, out_of_memory};
 
@@ -20,8 +21,8 @@ use rustsec_files::path::FilePath;
 use rustsec_files::{Folders, RealFolders};
 use rustsec_lock::Severity;
 use rustsec_texts::{Date, Id, Parts};
-use rustsec_toml::{Section, TablePlace, document, key_at};
-use rustsec_values::{Error, ErrorKind, ExactClone, ExactEq, Result, beginning_of, file_error};
+use rustsec_toml::{Place, Section, TablePlace, document, key_at};
+use rustsec_values::{Error, ErrorKind, ExactClone, ExactEq, Result, file_error};
 use rustsec_versions::Versions;
 use std::alloc::{AllocError, Global};
 use std::rt::Files;
@@ -78,12 +79,21 @@ pub(crate) fn header_keys(front: &str) -> &'static [&'static str] {
     }
 }
 
-/// Returns the line of the file in which the front matter begins, from 1 on. No contract says which one.
-pub fn first_line(text: &str) -> usize {
-    let body = text.strip_prefix("```toml").unwrap_or(text);
-    let blank = body.len().saturating_sub(body.trim_start().len());
-    let line_feeds = beginning_of(body, blank).matches('\n').count();
-    line_feeds.saturating_add(1)
+/// Returns the text after the opening of an advisory's file, or the whole text if it has none.
+fn after_opening(text: &str) -> &str
+    ensures { (body : List ℕ) → after_prefix opening text.now ≡ Some body → result.now ≡ body }
+{
+    match text.strip_prefix("```toml") {
+        Some(body) => body,
+        None => text,
+    }
+}
+
+/// Returns the line of the file in which the front matter begins, from 1 on: after the opening, and after white space.
+pub fn first_line(text: &str) -> usize
+    ensures { IsFrontLine text.now result }
+{
+    Place::of_end(text, after_opening(text).trim_start()).line
 }
 
 /// Returns what is wrong with a front matter whose first line is not its header.
@@ -115,7 +125,13 @@ fn late_header_error(alloc: Global, front: TablePlace<'_>, error: Error) -> Erro
 }
 
 /// Returns the place of a front matter that begins in this line of a file.
-pub(crate) fn front_place(front: &str, line: usize) -> TablePlace<'_> {
+pub(crate) fn front_place(front: &str, line: usize) -> TablePlace<'_>
+    ensures text { result.text.now ≡ front.now }
+    ensures path { result.path.now ≡ [] }
+    ensures index { result.index ≡ None }
+    ensures element { result.element ≡ None }
+    ensures line { result.line ≡ line }
+{
     TablePlace {
         text: front,
         path: &[],

@@ -1,7 +1,8 @@
 //! Where the keys of lint errors are in the file of an advisory, for messages.
 
-ghost use Rattle.std.specs.Prelude.{◌≢◌, None, OnErr};
-ghost use Rattle.rustsec_texts.specs.Parts.{parts_of};
+ghost use Rattle.std.specs.Prelude.{◌≡◌, ◌≢◌, ◌<◌, ◌/◌, [], IfOk, IfSome, None, OnErr, Some, length, max};
+ghost use Rattle.rustsec_texts.specs.Parts.{FileParts, parts_of};
+ghost use Rattle.rustsec_advisory.specs.Advisory.{IsKeyLine};
 
 use crate::advisory::{first_line, front_place, header_keys};
 use crate::linter::{Error, ErrorKind};
@@ -62,6 +63,8 @@ pub fn lint_error_line(
 ) -> Result<Option<usize>, AllocError>
     // A text without a front matter takes no memory.
     ensures none { OnErr result (parts_of text.now ≢ None) }
+    ensures known { IfOk result (λ line. (p : FileParts) → parts_of text.now ≡ Some p → p.front_matter ≢ [] → line ≢ None) }
+    ensures line { IfOk result (λ line. IfSome line (IsKeyLine text.now)) }
 {
     let Ok(parts) = Parts::parse(alloc, text) else {
         return Ok(None);
@@ -78,7 +81,10 @@ pub fn lint_error_line(
 
 /// Returns how many of a text's lint errors a note names with their lines. Each look-up may read the whole text, and all
 /// of them together read at most a mebibyte; ten are looked up in any text.
-pub fn placed_errors(text: &str) -> usize {
+pub fn placed_errors(text: &str) -> usize
+    ensures empty { length text.now ≡ 0 → result ≡ 1048576 }
+    ensures shared { 0 < length text.now → result ≡ max 10 (1048576 / length text.now) }
+{
     MOST_READ
         .checked_div(text.len())
         .unwrap_or(MOST_READ)
