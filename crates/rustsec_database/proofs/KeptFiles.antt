@@ -10,8 +10,9 @@ use Rattle.rustsec_values.specs.Failure.{Failure, IsMemory}
 use Rattle.rustsec_texts.specs.IdOrder.{id_decides, id_eq}
 use Rattle.rustsec_texts.specs.Ids.{IdValue}
 use Rattle.rustsec_advisory.specs.declared.advisory.Advisory.{Advisory}
-use Rattle.rustsec_files.specs.Allowed.{Allowed, AllowSame, read_from}
+use Rattle.rustsec_files.specs.Allowed.{Allowed, AllowSame}
 use Rattle.rustsec_files.specs.Listed.{IsFile, Pairwise, Paths}
+use Rattle.rustsec_files.specs.Seen.{seen_by}
 use Rattle.rustsec_files.specs.declared.source_file.SourceFile.{SourceFile}
 use Rattle.rustsec_database.specs.Placement.{IsFiled, IsMisfiled}
 use Rattle.rustsec_database.specs.Kept.{AreOpenedFor, HaveIdsAmong, IsKept, IsKeptLoadOf, IsKeptWith, KeptValue}
@@ -163,6 +164,6 @@ pub kept-opened : (test : Advisory → Bool) (a b : Allowed) (root : List ℕ) (
     → Paths a root (Some paths) → items ≡ paths → (all : List Advisory) × (AreRead b items all × IsKept test all k) → AreOpenedFor a root test k
 kept-opened test a b root paths items k same found is (all, (read, kept)) = (all, (opened a b root paths items all same found is read, kept))
 
-pub kept-weaker : (o : List ℕ → Type 0) (test : Advisory → Bool) (a : Allowed) (root : List ℕ) (k : KeptValue)
-    → AreOpenedFor (read_from o a) root test k → AreOpenedFor a root test k
-kept-weaker o test a root k (all, (load, kept)) = (all, (opened-weaker o a root all load, kept))
+pub kept-weaker : (l : List (List ℕ) → Type 0) (o : List ℕ → Type 0) (test : Advisory → Bool) (a : Allowed) (root : List ℕ) (k : KeptValue)
+    → AreOpenedFor (seen_by l o a) root test k → AreOpenedFor a root test k
+kept-weaker l o test a root k (all, (load, kept)) = (all, (opened-weaker l o a root all load, kept))

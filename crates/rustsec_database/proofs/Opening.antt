@@ -1,14 +1,15 @@
 -- The result of loading one file after another: it keeps the error of the first file at fault.
-use Rattle.std.proofs.Common.{◌≡◌, ◌∙◌, ◌⊎◌, ◌++◌, ℕ, List, [], ◌∷◌, Option, Some, None, inl, inr, refl, subst, sym, ap}
+use Rattle.std.proofs.Common.{◌≡◌, ◌∙◌, ◌⊎◌, ◌++◌, ℕ, List, [], ◌∷◌, Some, None, inl, inr, refl, subst, sym, ap}
 use Rattle.std.proofs.lemmas.List.{append_assoc}
 use Rattle.std.specs.Prelude.{Contains, Result}
 use Rattle.rustsec_values.specs.Failure.{Failure, IsMemory}
 use Rattle.rustsec_advisory.specs.declared.advisory.Advisory.{Advisory}
 use Rattle.rustsec_files.specs.Allowed.{Allowed, AllowSame, read_from}
-use Rattle.rustsec_files.specs.Listed.{FailsAtFile, IsFile, Listed, Pairwise, Paths}
+use Rattle.rustsec_files.specs.Listed.{FailsAtFile, IsFile, Pairwise, Paths}
+use Rattle.rustsec_files.specs.Seen.{seen_by}
 use Rattle.rustsec_files.specs.declared.source_file.SourceFile.{SourceFile}
-use Rattle.rustsec_files.proofs.Lists.{pairwise-push, pairwise-weaker}
-use Rattle.rustsec_files.proofs.Same.{listed-fails, listed-found}
+use Rattle.rustsec_files.proofs.Lists.{pairwise-push}
+use Rattle.rustsec_files.proofs.Same.{AllowsAll, listed-before, listed-fails, listed-found, listed-same}
 use Rattle.rustsec_values.proofs.Refusals.{refused_by}
 use Rattle.rustsec_values.specs.declared.error.ErrorKind.TheVariants as kind
 use Rattle.rustsec_database.specs.Loaded.{AreLoaded, IsFault, IsFirstFault}
@@ -50,7 +51,7 @@ last-fault files f loaded e h (inl fault) =
       names = fault.1;
     })
 
--- ---- folders, and the texts that opened files had
+-- ---- folders, and what opened listings and files had
 
 pub read-same : (o : List ℕ → Type 0) (a b : Allowed) → AllowSame a b → AllowSame (read_from o a) (read_from o b)
 read-same o a b same = record {
@@ -58,20 +59,23 @@ read-same o a b same = record {
   reads = λ path answer. (λ h. ((same.reads path answer).0 h.0, h.1), λ h. ((same.reads path answer).1 h.0, h.1));
 }
 
-listed-weaker : (o : List ℕ → Type 0) (a : Allowed) (root : List ℕ) (answer : Option (List SourceFile)) → Listed (read_from o a) root answer
-    → Listed a root answer
-listed-weaker o a root (Some files) (paths, found, read) =
-    (paths, found, pairwise-weaker (IsFile (read_from o a)) (IsFile a) (λ path file h. (h.0, h.1.0)) paths files read)
-listed-weaker o a root None (inl unlisted) = inl unlisted
-listed-weaker o a root None (inr (paths, found, fails)) = inr (paths, found, (fails.0, fails.1, fails.2.0))
+pub seen-same : (l : List (List ℕ) → Type 0) (o : List ℕ → Type 0) (a b : Allowed) → AllowSame a b → AllowSame (seen_by l o a) (seen_by l o b)
+seen-same l o a b same = listed-same l (read_from o a) (read_from o b) (read-same o a b same)
 
-pub opened-weaker : (o : List ℕ → Type 0) (a : Allowed) (root : List ℕ) (loaded : List Advisory) → AreOpened (read_from o a) root loaded
-    → AreOpened a root loaded
-opened-weaker o a root loaded (files, (listed, load)) = (files, (listed-weaker o a root (Some files) listed, load))
+all-unseen : (l : List (List ℕ) → Type 0) (o : List ℕ → Type 0) (a : Allowed) → AllowsAll a (seen_by l o a)
+all-unseen l o a = record { lists = λ path answer h. h.0; reads = λ path answer h. h.0 }
 
-pub refused-weaker : (o : List ℕ → Type 0) (a : Allowed) (root : List ℕ) (e : Failure) → IsOpenRefusal (read_from o a) root e → IsOpenRefusal a root e
-refused-weaker o a root e (inl refusal) = inl (refused_by kind.Io e (listed-weaker o a root None) refusal)
-refused-weaker o a root e (inr (files, (listed, fault))) = inr (files, (listed-weaker o a root (Some files) listed, fault))
+pub opened-weaker : (l : List (List ℕ) → Type 0) (o : List ℕ → Type 0) (a : Allowed) (root : List ℕ) (loaded : List Advisory)
+    → AreOpened (seen_by l o a) root loaded → AreOpened a root loaded
+opened-weaker l o a root loaded (files, (listed, load)) =
+    (files, (listed-before a (seen_by l o a) root (Some files) (all-unseen l o a) listed, load))
+
+pub refused-weaker : (l : List (List ℕ) → Type 0) (o : List ℕ → Type 0) (a : Allowed) (root : List ℕ) (e : Failure)
+    → IsOpenRefusal (seen_by l o a) root e → IsOpenRefusal a root e
+refused-weaker l o a root e (inl refusal) =
+    inl (refused_by kind.Io e (λ h. listed-before a (seen_by l o a) root None (all-unseen l o a) h) refusal)
+refused-weaker l o a root e (inr (files, (listed, fault))) =
+    inr (files, (listed-before a (seen_by l o a) root (Some files) (all-unseen l o a) listed, fault))
 
 -- ---- a loop over paths
 

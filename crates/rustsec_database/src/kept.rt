@@ -3,7 +3,8 @@
 ghost use Rattle.std.specs.Prelude.{◌≡◌, IfErr, IfOk, MatchResult, length, option_map};
 ghost use Rattle.std.specs.List.{list_any};
 ghost use Rattle.rustsec_values.specs.Failure.{IsMemory};
-ghost use Rattle.rustsec_files.specs.Allowed.{AllowSame, read_from};
+ghost use Rattle.rustsec_files.specs.Allowed.{AllowSame};
+ghost use Rattle.rustsec_files.specs.Seen.{seen_by};
 ghost use Rattle.rustsec_texts.specs.IdOrder.{id_eq};
 ghost use Rattle.rustsec_database.specs.Kept.{AreOpenedFor};
 ghost use Rattle.rustsec_database.specs.Opened.{IsOpenRefusal};
@@ -112,8 +113,8 @@ impl KeptDatabase {
         ensures err { IfErr result (IsOpenRefusal (F.allowed folders.old) root.now) }
         ensures same { AllowSame (F.allowed folders.old) (F.allowed folders.new) }
         ensures opened { MatchResult result
-            (AreOpenedFor (read_from F.opened (F.allowed folders.old)) root.now (T.holds test.now))
-            (IsOpenRefusal (read_from F.opened (F.allowed folders.old)) root.now) }
+            (AreOpenedFor (seen_by F.listed F.opened (F.allowed folders.old)) root.now (T.holds test.now))
+            (IsOpenRefusal (seen_by F.listed F.opened (F.allowed folders.old)) root.now) }
     {
         let paths = source_paths(alloc, folders, root)?;
         let keeping = keep_paths(alloc, folders, paths, test)?;

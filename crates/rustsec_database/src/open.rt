@@ -1,7 +1,8 @@
 //! Opens the database of the files under a root.
 
 ghost use Rattle.std.specs.Prelude.{IfErr, IfOk, MatchResult};
-ghost use Rattle.rustsec_files.specs.Allowed.{AllowSame, read_from, real_files, real_folders};
+ghost use Rattle.rustsec_files.specs.Allowed.{AllowSame, real_folders};
+ghost use Rattle.rustsec_files.specs.Seen.{seen_by, seen_on_disk};
 ghost use Rattle.rustsec_database.specs.Opened.{AreOpened, IsOpenRefusal};
 
 use crate::database::Database;
@@ -40,8 +41,8 @@ impl Database {
         ensures err { IfErr result (IsOpenRefusal (F.allowed folders.old) root.now) }
         ensures same { AllowSame (F.allowed folders.old) (F.allowed folders.new) }
         ensures opened { MatchResult result
-            (AreOpened (read_from F.opened (F.allowed folders.old)) root.now)
-            (IsOpenRefusal (read_from F.opened (F.allowed folders.old)) root.now) }
+            (AreOpened (seen_by F.listed F.opened (F.allowed folders.old)) root.now)
+            (IsOpenRefusal (seen_by F.listed F.opened (F.allowed folders.old)) root.now) }
     {
         let kept = KeptDatabase::open_with(alloc, folders, root, &Every)?;
         Ok(kept.into_database())
@@ -59,8 +60,8 @@ impl Database {
         ensures ok { IfOk result (AreOpened real_folders root.now) }
         ensures err { IfErr result (IsOpenRefusal real_folders root.now) }
         ensures opened { MatchResult result
-            (AreOpened (real_files R.File.remaining) root.now)
-            (IsOpenRefusal (real_files R.File.remaining) root.now) }
+            (AreOpened (seen_on_disk R.Dir.remaining R.File.remaining) root.now)
+            (IsOpenRefusal (seen_on_disk R.Dir.remaining R.File.remaining) root.now) }
     {
         let mut folders = RealFolders::new(rt);
         Database::open_with(alloc, &mut folders, root)

@@ -15,6 +15,7 @@ pub use crate::affected::{
     OsvPackage,
 };
 pub use crate::document::{MainOsvDatabaseSpecific, OsvAdvisory};
+pub use crate::export::members::noon;
 pub use crate::ranges::OsvJsonRange;
 pub use crate::reference::{OsvReference, OsvReferenceKind};
 pub use crate::severity::OsvSeverity;

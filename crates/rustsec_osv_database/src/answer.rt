@@ -5,7 +5,6 @@ ghost use Rattle.semver.specs.Identifiers.{parts_of};
 ghost use Rattle.serde_json.specs.View.{view};
 ghost use Rattle.rustsec_advisory.specs.declared.advisory.Advisory as given;
 ghost use Rattle.rustsec_json.specs.Trees.{list_tree};
-ghost use Rattle.rustsec_osv.specs.Export.{noon};
 ghost use Rattle.rustsec_osv.specs.DocumentCodec.{document_tree};
 ghost use Rattle.rustsec_report.specs.Trees.{object_of};
 ghost use Rattle.rustsec_values.specs.Failure.{IsRefusal};
@@ -18,9 +17,9 @@ use rustsec_advisory::Advisory;
 use rustsec_database::{Database, Query};
 use rustsec_json::tree_line;
 use rustsec_lock::package::Name;
-use rustsec_osv::OsvAdvisory;
-use rustsec_texts::{Collection, Date};
-use rustsec_values::{Error, ErrorKind, Items, Result, Text};
+use rustsec_osv::{OsvAdvisory, noon};
+use rustsec_texts::Collection;
+use rustsec_values::{Error, ErrorKind, Items, Result};
 use semver::Version;
 use serde_json::{Map, Value};
 use std::alloc::{AllocError, Global};
@@ -48,15 +47,6 @@ fn document_error(alloc: Global, advisory: &Advisory, why: &Error) -> Error
         Ok(message) => Error::with_cause(alloc, ErrorKind::BadParam, &message, why.cause()),
         Err(refused) => Error::from(refused),
     }
-}
-
-/// Returns noon of a day.
-fn noon(alloc: Global, date: &Date) -> std::result::Result<Text, AllocError>
-    ensures { IfOk result (λ t. t ≡ noon date.now) }
-{
-    let date = date.as_str();
-    let text = format!(in alloc; "{date}T12:00:00Z")?;
-    Ok(Text::from(text))
 }
 
 /// Returns the document of an advisory, as of noon of its day.

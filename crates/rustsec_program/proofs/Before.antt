@@ -4,9 +4,7 @@ use Rattle.rustsec_values.specs.Failure.{Failure}
 use Rattle.rustsec_values.specs.declared.error.ErrorKind.TheVariants as kind
 use Rattle.rustsec_values.proofs.Refusals.{refused_by}
 use Rattle.rustsec_files.specs.Allowed.{Allowed, AllowSame}
-use Rattle.rustsec_files.specs.Listed.{Listed, Paths, crates_of, rust_of}
-use Rattle.rustsec_files.proofs.Same.{collection-before, fails-at-file-before, fails-below-before, files-before, there-before}
-use Rattle.rustsec_files.specs.declared.source_file.SourceFile.{SourceFile}
+use Rattle.rustsec_files.proofs.Same.{all-of-same, listed-before}
 use Rattle.rustsec_lock.specs.Lockfile.{IsLockfileAt, IsLockfileRefusal}
 use Rattle.rustsec_lock.specs.Package.{PackageValue}
 use Rattle.rustsec_advisory.specs.declared.advisory.Advisory.{Advisory}
@@ -74,21 +72,9 @@ module _ (a b : Allowed) (same : AllowSame a b) where
 
   -- ---- databases
 
-  paths-before : (root : List ℕ) (paths : Option (List (List ℕ))) → Paths b root paths → Paths a root paths
-  paths-before root (Some paths) (crates, rust, in_crates, in_rust, is) =
-      (crates, rust, collection-before a b (crates_of root) crates same in_crates, there-before a b (rust_of root) rust same in_rust, is)
-  paths-before root None (inl h) = inl ((same.lists (crates_of root) None).1 h)
-  paths-before root None (inr (inl h)) = inr (inl (fails-below-before a b (crates_of root) same h))
-  paths-before root None (inr (inr h)) = inr (inr (fails-below-before a b (rust_of root) same h))
-
-  listed-before : (root : List ℕ) (files : Option (List SourceFile)) → Listed b root files → Listed a root files
-  listed-before root (Some files) (paths, found, read) = (paths, paths-before root (Some paths) found, files-before a b paths files same read)
-  listed-before root None (inl h) = inl (paths-before root None h)
-  listed-before root None (inr (paths, found, h)) = inr (paths, paths-before root (Some paths) found, fails-at-file-before a b paths same h)
-
   pub opened-before : (root : List ℕ) (advisories : List Advisory) → AreOpened b root advisories → AreOpened a root advisories
-  opened-before root advisories (files, (listed, loaded)) = (files, (listed-before root (Some files) listed, loaded))
+  opened-before root advisories (files, (listed, loaded)) = (files, (listed-before a b root (Some files) (all-of-same a b same) listed, loaded))
 
   pub open-refused-before : (root : List ℕ) (e : Failure) → IsOpenRefusal b root e → IsOpenRefusal a root e
-  open-refused-before root e (inl h) = inl (refused_by kind.Io e (λ fails. listed-before root None fails) h)
-  open-refused-before root e (inr (files, (listed, h))) = inr (files, (listed-before root (Some files) listed, h))
+  open-refused-before root e (inl h) = inl (refused_by kind.Io e (λ fails. listed-before a b root None (all-of-same a b same) fails) h)
+  open-refused-before root e (inr (files, (listed, h))) = inr (files, (listed-before a b root (Some files) (all-of-same a b same) listed, h))

@@ -24,7 +24,11 @@ use std::collections::BTreeMap;
 pub(crate) const ECOSYSTEM: &str = "crates.io";
 
 /// Returns noon of a day (RFC 3339, `date-time`).
-pub(crate) fn noon(alloc: Global, date: &Date) -> Result<Text, AllocError>
+///
+/// # Errors
+///
+/// Out of memory alone.
+pub fn noon(alloc: Global, date: &Date) -> Result<Text, AllocError>
     ensures { IfOk result (λ t. t ≡ noon date.now) }
 {
     let date = date.as_str();

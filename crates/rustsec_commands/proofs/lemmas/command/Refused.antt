@@ -6,9 +6,7 @@ use Rattle.rustsec_values.specs.Failure.{Failure, IsRefusal}
 use Rattle.rustsec_values.specs.declared.error.ErrorKind.TheVariants as kind
 use Rattle.rustsec_values.proofs.Refusals.{refused_by}
 use Rattle.rustsec_files.specs.Allowed.{Allowed, AllowSame}
-use Rattle.rustsec_files.specs.Listed.{Listed, Paths, crates_of, rust_of}
-use Rattle.rustsec_files.specs.declared.source_file.SourceFile.{SourceFile}
-use Rattle.rustsec_files.proofs.Same.{collection-before, fails-at-file-before, fails-below-before, files-before, there-before}
+use Rattle.rustsec_files.proofs.Same.{all-of-same, listed-before}
 use Rattle.rustsec_lock.specs.Lockfile.{IsLockfileAt, IsLockfileRefusal}
 use Rattle.rustsec_lock.specs.Package.{PackageValue}
 use Rattle.rustsec_texts.specs.Ids.{id_of}
@@ -31,25 +29,9 @@ misread-by allowed root lock words o p e known (inr memory) other is = absurd (o
 
 -- ---- what is listed under a root after the lockfile was read, by what was allowed before
 
-paths-before : (a b : Allowed) (root : List ℕ) (paths : List (List ℕ)) → AllowSame a b → Paths b root (Some paths) → Paths a root (Some paths)
-paths-before a b root paths same h =
-    (h.0, h.1, collection-before a b (crates_of root) h.0 same h.2, there-before a b (rust_of root) h.1 same h.3, h.4)
-
-listed-before : (a b : Allowed) (root : List ℕ) (files : List SourceFile) → AllowSame a b → Listed b root (Some files) → Listed a root (Some files)
-listed-before a b root files same h = (h.0, paths-before a b root h.0 same h.1, files-before a b h.0 files same h.2)
-
-no-paths-before : (a b : Allowed) (root : List ℕ) → AllowSame a b → Paths b root None → Paths a root None
-no-paths-before a b root same (inl h) = inl ((same.lists (crates_of root) None).1 h)
-no-paths-before a b root same (inr (inl h)) = inr (inl (fails-below-before a b (crates_of root) same h))
-no-paths-before a b root same (inr (inr h)) = inr (inr (fails-below-before a b (rust_of root) same h))
-
-fails-before : (a b : Allowed) (root : List ℕ) → AllowSame a b → Listed b root None → Listed a root None
-fails-before a b root same (inl h) = inl (no-paths-before a b root same h)
-fails-before a b root same (inr h) = inr (h.0, paths-before a b root h.0 same h.1, fails-at-file-before a b h.0 same h.2)
-
 pub refused-before : (a b : Allowed) (root : List ℕ) (e : Failure) → AllowSame a b → IsOpenRefusal b root e → IsOpenRefusal a root e
-refused-before a b root e same (inl refusal) = inl (refused_by kind.Io e (fails-before a b root same) refusal)
-refused-before a b root e same (inr (files, (listed, fault))) = inr (files, (listed-before a b root files same listed, fault))
+refused-before a b root e same (inl refusal) = inl (refused_by kind.Io e (λ h. listed-before a b root None (all-of-same a b same) h) refusal)
+refused-before a b root e same (inr (files, (listed, fault))) = inr (files, (listed-before a b root (Some files) (all-of-same a b same) listed, fault))
 
 -- ---- the report on a lockfile that was read before the database was opened
 
@@ -58,7 +40,7 @@ pub read-from : (a b : Allowed) (root lock : List ℕ) (read packages : List Pac
     → AllowSame a b → AreOpenedFor b root (touches_any read) k → advisories ≡ k.advisories → read ≡ packages → IsLockfileAt a lock packages
     → AreReadFrom a root lock (record { advisories = advisories; packages = packages })
 read-from a b root lock read packages k advisories same (all, ((files, (listed, load)), kept)) are is there = (
-  (all, ((files, (listed-before a b root files same listed, load)), are ∙ (kept.advisories ∙ ap (λ (ps : List PackageValue). filter (touches_any ps) all) is))),
+  (all, ((files, (listed-before a b root (Some files) (all-of-same a b same) listed, load)), are ∙ (kept.advisories ∙ ap (λ (ps : List PackageValue). filter (touches_any ps) all) is))),
   there,
 )
 
@@ -82,4 +64,4 @@ report-of-paths allowed root lock s i r ((all, ((files, (listed, load)), affecti
 pub lockfile-refused : (a b : Allowed) (root lock : List ℕ) (test : Advisory → Bool) (k : KeptValue) (e : Failure) → AllowSame a b
     → AreOpenedFor b root test k → IsLockfileRefusal a lock e → IsReportRefusal a root lock e
 lockfile-refused a b root lock test k e same (all, ((files, (listed, load)), kept)) h =
-    inr ((all, (files, (listed-before a b root files same listed, load))), h)
+    inr ((all, (files, (listed-before a b root (Some files) (all-of-same a b same) listed, load))), h)

@@ -1,4 +1,4 @@
-use Rattle.rustsec_files.specs.Allowed.{read_from}
+use Rattle.rustsec_files.specs.Seen.{seen_by}
 use Rattle.rustsec_database.proofs.EachKept.{each_opened}
 use Rattle.rustsec_database.proofs.database.Database.open_with.Goals as goal
 
@@ -8,4 +8,4 @@ returns-clause-ok g c =
 
 pub returns-clause-opened : goal.returns-clause-opened
 returns-clause-opened g c =
-    each_opened (read_from g.F.Folders.opened (g.F.Folders.allowed c.args.folders.now)) c.args.root.now c.in_ok-kept.kept _ c.into_database.ensures c.in_ok-kept.ensures.opened
+    each_opened (seen_by g.F.Folders.listed g.F.Folders.opened (g.F.Folders.allowed c.args.folders.now)) c.args.root.now c.in_ok-kept.kept _ c.into_database.ensures c.in_ok-kept.ensures.opened
