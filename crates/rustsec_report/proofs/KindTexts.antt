@@ -10,7 +10,7 @@ use Rattle.rustsec_json.specs.Trees.{list_tree}
 use Rattle.rustsec_texts.specs.WarningKinds.{warning_kind_name, warning_kinds}
 use Rattle.rustsec_texts.specs.declared.warning_kind.WarningKind.{WarningKind}
 use Rattle.rustsec_texts.specs.declared.warning_kind.WarningKind.TheVariants as kind
-use Rattle.rustsec_report.specs.ReportText.{kind_key, kinds_text, last_list, later_texts, list_text, rows_text}
+use Rattle.rustsec_report.specs.ReportText.{kinds_text, last_list, later_texts, list_text, rows_text}
 use Rattle.rustsec_report.specs.Trees.{kinds_of_warnings, object_of, warning_tree, with_members}
 use Rattle.rustsec_report.specs.declared.warning.Warning.{Warning}
 
@@ -41,8 +41,8 @@ abbrev rows : Option (List Warning) → Option (List Warning) → Option (List W
 rows a b c d = (kind.Notice, a) ∷ (kind.Unmaintained, b) ∷ (kind.Unsound, c) ∷ (kind.Yanked, d) ∷ []
 
 row-is : (later : Bool) (k : WarningKind) (xs : List Warning) (ms : Members)
-    → members_text later (member (warning_kind_name k) (list_tree warning_tree xs) ms) ≡ comma_if later ++ (kind_key k ++ (compact_text (list_tree warning_tree xs) ++ members_text true ms))
-unfolding kind_key serde_json_on_literals
+    → members_text later (member (warning_kind_name k) (list_tree warning_tree xs) ms) ≡ comma_if later ++ (codes "\"" ++ (warning_kind_name k ++ (codes "\":" ++ (compact_text (list_tree warning_tree xs) ++ members_text true ms))))
+unfolding serde_json_on_literals
 row-is later kind.Notice xs ms = refl
 row-is later kind.Unmaintained xs ms = refl
 row-is later kind.Unsound xs ms = refl
@@ -52,7 +52,7 @@ rows-are : (later : Bool) (rs : List (WarningKind × Option (List Warning))) →
 rows-are later [] = refl
 rows-are later ((k, None) ∷ rs) = rows-are later rs
 rows-are later ((k, Some xs) ∷ rs) =
-    row-is later k xs (members_of rs) ∙ (λ i. comma_if later ++ (kind_key k ++ (list-is warning_tree xs i ++ rows-are true rs i)))
+    row-is later k xs (members_of rs) ∙ (λ i. comma_if later ++ (codes "\"" ++ (warning_kind_name k ++ (codes "\":" ++ (list-is warning_tree xs i ++ rows-are true rs i)))))
 
 put-yanked : (d : Option (List Warning)) (xs : List Warning) → put (codes "yanked") (list_tree warning_tree xs) (members_of ((kind.Yanked, d) ∷ [])) ≡ members_of ((kind.Yanked, Some xs) ∷ [])
 unfolding serde_json_on_literals

@@ -3,14 +3,12 @@ use Rattle.std.specs.Prelude.{ℕ, Bool, true, if◌then◌else◌, List, [], �
 use denote.Enum.Bare.{sameb}
 use Rattle.serde_json.specs.Data.{Data, boolean, number, unsigned}
 use Rattle.serde_json.specs.Written.{comma_if, compact_text}
+use Rattle.rustsec_texts.specs.WarningKinds.{warning_kind_name}
 use Rattle.rustsec_texts.specs.contracts.warning_kind.WarningKind.{the_type as warning_kind}
 use Rattle.rustsec_texts.specs.declared.warning_kind.WarningKind.{WarningKind}
-use Rattle.rustsec_texts.specs.declared.warning_kind.WarningKind.TheVariants as kind
 use Rattle.rustsec_report.specs.Trees.{kinds_of_warnings, lockfile_tree, object_of, settings_tree, vulnerability_tree, warning_tree}
 use Rattle.rustsec_report.specs.declared.info.VulnerabilityInfo.{VulnerabilityInfo}
 use Rattle.rustsec_report.specs.declared.report.Report.{Report}
-use Rattle.rustsec_report.specs.declared.report_json.Key.{Key}
-use Rattle.rustsec_report.specs.declared.report_json.Key.TheVariants as key
 use Rattle.rustsec_report.specs.declared.warning.Warning.{Warning}
 
 -- the texts of parts, each after a comma
@@ -34,35 +32,22 @@ abbrev pub last_list : WarningKind → Option (List Warning) → List (WarningKi
 last_list k last [] = last
 last_list k last (e ∷ es) = last_list k (if sameb warning_kind e.0 k then Some e.1 else last) es
 
--- the key of a kind of warnings, with the colon
-unfoldable pub kind_key : WarningKind → List ℕ
-kind_key kind.Notice = codes "\"notice\":"
-kind_key kind.Unmaintained = codes "\"unmaintained\":"
-kind_key kind.Unsound = codes "\"unsound\":"
-kind_key kind.Yanked = codes "\"yanked\":"
-
 -- the keys and the lists of these kinds, without those that have none, up to the closing brace
 abbrev pub rows_text : Bool → List (WarningKind × Option (List Warning)) → List ℕ
 rows_text later [] = codes "}"
 rows_text later ((k, None) ∷ rs) = rows_text later rs
-rows_text later ((k, Some ws) ∷ rs) = comma_if later ++ (kind_key k ++ (list_text warning_tree ws ++ rows_text true rs))
+rows_text later ((k, Some ws) ∷ rs) =
+    comma_if later ++ (codes "\"" ++ (warning_kind_name k ++ (codes "\":" ++ (list_text warning_tree ws ++ rows_text true rs))))
 
 abbrev pub kinds_text : Bool → List (WarningKind × List Warning) → List WarningKind → List ℕ
 kinds_text later ws ks = rows_text later (map (λ k. (k, last_list k None ws)) ks)
 
--- a key of a report, with what is before it
-unfoldable pub key_text : Key → List ℕ
-key_text key.Lockfile = codes "{\"lockfile\":"
-key_text key.Settings = codes ",\"settings\":"
-key_text key.Vulnerabilities = codes ",\"vulnerabilities\":"
-key_text key.Warnings = codes ",\"warnings\":"
-
 -- what a report begins with: its lockfile and its settings
 unfoldable pub beginning_text : Report → List ℕ
-beginning_text r = key_text key.Lockfile ++ (compact_text (lockfile_tree r.lockfile) ++ (key_text key.Settings ++ compact_text (settings_tree r.settings)))
+beginning_text r = codes "{\"lockfile\":" ++ (compact_text (lockfile_tree r.lockfile) ++ (codes ",\"settings\":" ++ compact_text (settings_tree r.settings)))
 
 -- what it ends with: its vulnerabilities and its warnings
 unfoldable pub ending_text : Report → List ℕ
 ending_text r =
-    key_text key.Vulnerabilities ++ (vulnerabilities_text r.vulnerabilities
-    ++ (key_text key.Warnings ++ (compact_text (object_of (kinds_of_warnings r.warnings)) ++ codes "}")))
+    codes ",\"vulnerabilities\":" ++ (vulnerabilities_text r.vulnerabilities
+    ++ (codes ",\"warnings\":" ++ (compact_text (object_of (kinds_of_warnings r.warnings)) ++ codes "}")))

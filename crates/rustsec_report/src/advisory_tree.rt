@@ -3,7 +3,7 @@
 ghost use Rattle.std.specs.Prelude.{◌≡◌, IfOk, OnOk, option_map};
 ghost use Rattle.serde_json.specs.View.{members_view, view};
 ghost use Rattle.rustsec_json.specs.Trees.{optional_tree};
-ghost use Rattle.rustsec_report.specs.Trees.{affected_entries, affected_tree, functions, kinds, metadata_entries, metadata_tree, object_of, origin, package_entries, package_tree, subject, terms, versions_entries, versions_tree, with_members};
+ghost use Rattle.rustsec_report.specs.Trees.{affected_tree, functions, kinds, metadata_tree, object_of, origin, package_tree, subject, terms, versions_tree, with_members};
 
 use crate::object::{Members, put_tree, put_value, requirements_tree};
 use rustsec_advisory::{Affected, Metadata};
@@ -43,19 +43,8 @@ fn functions_tree(
     Ok(Value::from(members))
 }
 
-/// Sets the keys of the table `affected`.
-#[tactic(auto, unfolding(crate::specs::Trees::with_members))]
-fn put_affected(alloc: Global, members: &mut Members, affected: &Affected) -> Result<(), AllocError>
-    ensures { OnOk result (members_view members.new.entries
-        ≡ with_members (members_view members.old.entries) (affected_entries affected.now)) }
-{
-    put_value(alloc, members, "arch", &affected.arch)?;
-    let tree = functions_tree(alloc, &affected.functions)?;
-    put_tree(alloc, members, "functions", tree)?;
-    put_value(alloc, members, "os", &affected.os)
-}
-
 /// Builds the tree of the table `affected`, null if the table is missing.
+#[tactic(auto, unfolding(crate::specs::Trees::with_members))]
 pub(crate) fn affected_tree(alloc: Global, affected: Option<&Affected>) -> Result<Value, AllocError>
     ensures { IfOk result (λ v. view v ≡ optional_tree affected_tree (option_map (λ a. a.now) affected.entry)) }
 {
@@ -63,28 +52,23 @@ pub(crate) fn affected_tree(alloc: Global, affected: Option<&Affected>) -> Resul
         return Ok(Value::Null);
     };
     let mut members = Members::new(alloc);
-    put_affected(alloc, &mut members, affected)?;
+    put_value(alloc, &mut members, "arch", &affected.arch)?;
+    let functions = functions_tree(alloc, &affected.functions)?;
+    put_tree(alloc, &mut members, "functions", functions)?;
+    put_value(alloc, &mut members, "os", &affected.os)?;
     Ok(Value::from(members))
 }
 
-/// Sets the keys of two lists of requirements.
-#[tactic(auto, unfolding(crate::specs::Trees::with_members))]
-fn put_versions(alloc: Global, members: &mut Members, versions: &Versions) -> Result<(), AllocError>
-    ensures { OnOk result (members_view members.new.entries
-        ≡ with_members (members_view members.old.entries) (versions_entries versions.now)) }
-{
-    let patched = requirements_tree(alloc, versions.patched())?;
-    put_tree(alloc, members, "patched", patched)?;
-    let unaffected = requirements_tree(alloc, versions.unaffected())?;
-    put_tree(alloc, members, "unaffected", unaffected)
-}
-
 /// Builds the tree of two lists of requirements.
+#[tactic(auto, unfolding(crate::specs::Trees::with_members))]
 pub(crate) fn versions_tree(alloc: Global, versions: &Versions) -> Result<Value, AllocError>
     ensures { IfOk result (λ v. view v ≡ versions_tree versions.now) }
 {
     let mut members = Members::new(alloc);
-    put_versions(alloc, &mut members, versions)?;
+    let patched = requirements_tree(alloc, versions.patched())?;
+    put_tree(alloc, &mut members, "patched", patched)?;
+    let unaffected = requirements_tree(alloc, versions.unaffected())?;
+    put_tree(alloc, &mut members, "unaffected", unaffected)?;
     Ok(Value::from(members))
 }
 
@@ -143,46 +127,29 @@ fn put_terms(alloc: Global, members: &mut Members, metadata: &Metadata) -> Resul
     put_value(alloc, members, "withdrawn", &metadata.withdrawn)
 }
 
-/// Sets all keys of an advisory's metadata.
-#[tactic(auto, unfolding(crate::specs::Trees::with_members, crate::specs::Trees::metadata_entries))]
-fn put_metadata(alloc: Global, members: &mut Members, metadata: &Metadata) -> Result<(), AllocError>
-    ensures { OnOk result (members_view members.new.entries
-        ≡ with_members (members_view members.old.entries) (metadata_entries metadata.now)) }
-{
-    put_subject(alloc, members, metadata)?;
-    put_kinds(alloc, members, metadata)?;
-    put_origin(alloc, members, metadata)?;
-    put_terms(alloc, members, metadata)
-}
-
 /// Builds the tree of an advisory's metadata.
-#[tactic(auto, unfolding(crate::specs::Trees::metadata_tree))]
+#[tactic(auto, unfolding(crate::specs::Trees::with_members, crate::specs::Trees::metadata_entries, crate::specs::Trees::metadata_tree))]
 pub(crate) fn metadata_tree(alloc: Global, metadata: &Metadata) -> Result<Value, AllocError>
     ensures { IfOk result (λ v. view v ≡ metadata_tree metadata.now) }
 {
     let mut members = Members::new(alloc);
-    put_metadata(alloc, &mut members, metadata)?;
+    put_subject(alloc, &mut members, metadata)?;
+    put_kinds(alloc, &mut members, metadata)?;
+    put_origin(alloc, &mut members, metadata)?;
+    put_terms(alloc, &mut members, metadata)?;
     Ok(Value::from(members))
 }
 
-/// Sets the keys of a package.
-#[tactic(auto, unfolding(crate::specs::Trees::with_members))]
-fn put_package(alloc: Global, members: &mut Members, package: &Package) -> Result<(), AllocError>
-    ensures { OnOk result (members_view members.new.entries
-        ≡ with_members (members_view members.old.entries) (package_entries «package».now)) }
-{
-    put_value(alloc, members, "checksum", &package.checksum)?;
-    put_value(alloc, members, "name", &package.name)?;
-    put_value(alloc, members, "source", &package.source)?;
-    let version = package.version.to_string(alloc)?;
-    put_tree(alloc, members, "version", Value::from(version))
-}
-
 /// Builds the tree of a package.
+#[tactic(auto, unfolding(crate::specs::Trees::with_members))]
 pub(crate) fn package_tree(alloc: Global, package: &Package) -> Result<Value, AllocError>
     ensures { IfOk result (λ v. view v ≡ package_tree «package».now) }
 {
     let mut members = Members::new(alloc);
-    put_package(alloc, &mut members, package)?;
+    put_value(alloc, &mut members, "checksum", &package.checksum)?;
+    put_value(alloc, &mut members, "name", &package.name)?;
+    put_value(alloc, &mut members, "source", &package.source)?;
+    let version = package.version.to_string(alloc)?;
+    put_tree(alloc, &mut members, "version", Value::from(version))?;
     Ok(Value::from(members))
 }

@@ -6,11 +6,10 @@ ghost use Rattle.serde_json.specs.View.{view};
 ghost use Rattle.serde_json.specs.Written.{has_float};
 
 use crate::info::LockfileInfo;
-use crate::report_tree::{lockfile_tree, settings_tree, vulnerability_tree};
+use crate::report_tree::{lockfile_tree, settings_tree, vulnerability_tree, warning_tree};
 use crate::settings::Settings;
 use crate::warning_ref::WarningRef;
 use rustsec_database::VulnerabilityRef;
-use rustsec_json::ToTree;
 use serde_json::Value;
 use std::alloc::{AllocError, Global};
 
@@ -40,7 +39,7 @@ impl<'a> Part for WarningRef<'a> {
     ghost tree = { warning_tree };
 
     fn build_tree(&self, alloc: Global) -> Result<Value, AllocError> {
-        self.to_tree(alloc)
+        warning_tree(alloc, self)
     }
 }
 

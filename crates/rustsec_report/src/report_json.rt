@@ -5,7 +5,7 @@ ghost use Rattle.serde_json.specs.View.{view};
 ghost use Rattle.serde_json.specs.Written.{comma_if, compact_text, has_float};
 ghost use Rattle.rustsec_values.specs.Failure.{IsMemory};
 ghost use Rattle.rustsec_texts.specs.declared.warning_kind.WarningKind.{WarningKind};
-ghost use Rattle.rustsec_report.specs.ReportText.{beginning_text, ending_text, key_text, kind_key, kinds_text, last_list, later_texts, list_text, vulnerabilities_text};
+ghost use Rattle.rustsec_report.specs.ReportText.{beginning_text, ending_text, kinds_text, last_list, later_texts, list_text, vulnerabilities_text};
 ghost use Rattle.rustsec_report.specs.Trees.{kinds_of_warnings, object_of, report_tree};
 
 use crate::part::Part;
@@ -15,42 +15,6 @@ use rustsec_texts::WarningKind;
 use rustsec_values::{ClosedEnum, Result};
 use serde_json::Value;
 use std::alloc::{AllocError, Global};
-
-/// A key of a report, with what is before it.
-#[derive(Clone, Copy)]
-pub(crate) enum Key {
-    /// Begins the report with the key `lockfile`.
-    Lockfile,
-    /// Continues it with the key `settings`.
-    Settings,
-    /// Continues it with the key `vulnerabilities`.
-    Vulnerabilities,
-    /// Continues it with the key `warnings`.
-    Warnings,
-}
-
-impl Key {
-    /// Returns the text up to the key's value.
-    #[tactic(auto, unfolding(crate::specs::ReportText::key_text))]
-    fn text(self) -> &'static str
-        ensures { result.now ≡ key_text self }
-    {
-        match self {
-            Key::Lockfile => "{\"lockfile\":",
-            Key::Settings => ",\"settings\":",
-            Key::Vulnerabilities => ",\"vulnerabilities\":",
-            Key::Warnings => ",\"warnings\":",
-        }
-    }
-}
-
-/// Appends a key of a report.
-fn push_key(json: &mut String, key: Key) -> std::result::Result<(), AllocError>
-    ensures { OnOk result (string_bytes json.new ≡ string_bytes json.old ++ key_text key) }
-{
-    json.push_str(key.text())?;
-    Ok(())
-}
 
 /// Appends the text of a tree.
 fn push_tree(alloc: Global, json: &mut String, tree: &Value) -> std::result::Result<(), AllocError>
@@ -126,19 +90,6 @@ fn push_vulnerabilities(
     Ok(())
 }
 
-/// Returns the key of a kind of warnings, with the colon.
-#[tactic(auto, unfolding(crate::specs::ReportText::kind_key))]
-fn kind_key(kind: WarningKind) -> &'static str
-    ensures { result.now ≡ kind_key kind }
-{
-    match kind {
-        WarningKind::Notice => "\"notice\":",
-        WarningKind::Unmaintained => "\"unmaintained\":",
-        WarningKind::Unsound => "\"unsound\":",
-        WarningKind::Yanked => "\"yanked\":",
-    }
-}
-
 /// Returns the last list of a kind, if any: an object has one value for a key.
 fn last_list<'a, 'b>(
     warnings: &'a [WarningsOfKind<'b>],
@@ -180,7 +131,9 @@ fn push_kind(
         return Ok(later);
     };
     push_comma(json, later)?;
-    json.push_str(kind_key(kind))?;
+    json.push_str("\"")?;
+    json.push_str(kind.as_str())?;
+    json.push_str("\":")?;
     push_list(alloc, json, list)?;
     Ok(true)
 }
@@ -211,9 +164,9 @@ fn push_beginning(
 ) -> std::result::Result<(), AllocError>
     ensures { OnOk result (string_bytes json.new ≡ string_bytes json.old ++ beginning_text report.now) }
 {
-    push_key(json, Key::Lockfile)?;
+    json.push_str("{\"lockfile\":")?;
     push_part(alloc, json, &report.lockfile)?;
-    push_key(json, Key::Settings)?;
+    json.push_str(",\"settings\":")?;
     push_part(alloc, json, report.settings)?;
     Ok(())
 }
@@ -227,9 +180,9 @@ fn push_ending(
 ) -> std::result::Result<(), AllocError>
     ensures { OnOk result (string_bytes json.new ≡ string_bytes json.old ++ ending_text report.now) }
 {
-    push_key(json, Key::Vulnerabilities)?;
+    json.push_str(",\"vulnerabilities\":")?;
     push_vulnerabilities(alloc, json, report)?;
-    push_key(json, Key::Warnings)?;
+    json.push_str(",\"warnings\":")?;
     push_warnings(alloc, json, report.warnings.as_slice())?;
     json.push_str("}")?;
     Ok(())

@@ -4,47 +4,26 @@ ghost use Rattle.std.specs.Prelude.{◌≡◌, [], ◌∷◌, IfErr, IfOk, OnOk,
 ghost use Rattle.serde_json.specs.View.{members_view, view};
 ghost use Rattle.rustsec_json.specs.Trees.{list_tree, optional_tree};
 ghost use Rattle.rustsec_values.specs.Failure.{IsMemory};
-ghost use Rattle.rustsec_report.specs.Trees.{info_entries, kinds_of_warnings, lockfile_tree, metadata_tree, object_of, report_entries, report_tree, settings_entries, settings_tree, severity_tree, versions_tree, vulnerabilities_tree, vulnerability_entries, vulnerability_tree, warning_entries, warning_tree, with_members};
+ghost use Rattle.rustsec_report.specs.Trees.{kinds_of_warnings, lockfile_tree, metadata_tree, object_of, report_entries, report_tree, settings_tree, severity_tree, versions_tree, vulnerabilities_tree, vulnerability_tree, warning_tree, with_members};
 
 use crate::advisory_tree::{affected_tree, metadata_tree, package_tree, versions_tree};
 use crate::info::LockfileInfo;
 use crate::object::{Members, put_tree, put_value};
+use crate::part::Part;
 use crate::report::Report;
 use crate::report_ref::ReportRef;
 use crate::settings::Settings;
-use crate::warning::Warning;
 use crate::warning_ref::{WarningRef, WarningsOfKind};
 use rustsec_advisory::Metadata;
 use rustsec_database::VulnerabilityRef;
-use rustsec_json::ToTree;
 use rustsec_lock::Severity;
 use rustsec_values::Result;
 use rustsec_versions::Versions;
 use serde_json::Value;
 use std::alloc::{AllocError, Global};
 
-/// Sets the keys of a vulnerability.
-#[tactic(auto, unfolding(crate::specs::Trees::with_members))]
-fn put_vulnerability(
-    alloc: Global,
-    members: &mut Members,
-    vulnerability: &VulnerabilityRef<'_>,
-) -> std::result::Result<(), AllocError>
-    ensures { OnOk result (members_view members.new.entries
-        ≡ with_members (members_view members.old.entries) (vulnerability_entries vulnerability.now)) }
-{
-    let advisory = metadata_tree(alloc, vulnerability.advisory)?;
-    put_tree(alloc, members, "advisory", advisory)?;
-    let affected = affected_tree(alloc, vulnerability.affected)?;
-    put_tree(alloc, members, "affected", affected)?;
-    let package = package_tree(alloc, vulnerability.package)?;
-    put_tree(alloc, members, "package", package)?;
-    let versions = versions_tree(alloc, vulnerability.versions)?;
-    put_tree(alloc, members, "versions", versions)
-}
-
 /// Builds the tree of a vulnerability.
-#[tactic(auto, unfolding(crate::specs::Trees::vulnerability_tree))]
+#[tactic(auto, unfolding(crate::specs::Trees::with_members, crate::specs::Trees::vulnerability_tree))]
 pub(crate) fn vulnerability_tree(
     alloc: Global,
     vulnerability: &VulnerabilityRef<'_>,
@@ -52,17 +31,24 @@ pub(crate) fn vulnerability_tree(
     ensures { IfOk result (λ v. view v ≡ vulnerability_tree vulnerability.now) }
 {
     let mut members = Members::new(alloc);
-    put_vulnerability(alloc, &mut members, vulnerability)?;
+    let advisory = metadata_tree(alloc, vulnerability.advisory)?;
+    put_tree(alloc, &mut members, "advisory", advisory)?;
+    let affected = affected_tree(alloc, vulnerability.affected)?;
+    put_tree(alloc, &mut members, "affected", affected)?;
+    let package = package_tree(alloc, vulnerability.package)?;
+    put_tree(alloc, &mut members, "package", package)?;
+    let versions = versions_tree(alloc, vulnerability.versions)?;
+    put_tree(alloc, &mut members, "versions", versions)?;
     Ok(Value::from(members))
 }
 
-/// Builds the tree of a list of vulnerabilities.
-fn list_tree(alloc: Global, list: &[VulnerabilityRef<'_>]) -> std::result::Result<Value, AllocError>
-    ensures { IfOk result (λ v. view v ≡ list_tree vulnerability_tree list.now) }
+/// Builds the tree of a list of parts.
+fn list_tree<T: Part>(alloc: Global, parts: &[T]) -> std::result::Result<Value, AllocError>
+    ensures { IfOk result (λ v. view v ≡ list_tree T.tree parts.now) }
 {
     let mut trees = Vec::new(alloc);
-    for vulnerability in list {
-        trees.push(vulnerability_tree(alloc, vulnerability)?)?;
+    for part in parts {
+        trees.push(part.build_tree(alloc)?)?;
     }
     Ok(Value::from(trees))
 }
@@ -93,49 +79,26 @@ fn optional_versions_tree(
     }
 }
 
-/// Sets the keys of a warning.
-#[tactic(auto, unfolding(crate::specs::Trees::with_members))]
-fn put_warning(
+/// Builds the tree of a warning.
+#[tactic(auto, unfolding(crate::specs::Trees::with_members, crate::specs::Trees::warning_tree))]
+pub(crate) fn warning_tree(
     alloc: Global,
-    members: &mut Members,
     warning: &WarningRef<'_>,
-) -> std::result::Result<(), AllocError>
-    ensures { OnOk result (members_view members.new.entries
-        ≡ with_members (members_view members.old.entries) (warning_entries warning.now)) }
+) -> std::result::Result<Value, AllocError>
+    ensures { IfOk result (λ v. view v ≡ warning_tree warning.now) }
 {
+    let mut members = Members::new(alloc);
     let advisory = optional_metadata_tree(alloc, warning.advisory)?;
-    put_tree(alloc, members, "advisory", advisory)?;
+    put_tree(alloc, &mut members, "advisory", advisory)?;
     let affected = affected_tree(alloc, warning.affected)?;
-    put_tree(alloc, members, "affected", affected)?;
+    put_tree(alloc, &mut members, "affected", affected)?;
     let kind = Value::try_from_str(alloc, warning.kind.as_str())?;
-    put_tree(alloc, members, "kind", kind)?;
+    put_tree(alloc, &mut members, "kind", kind)?;
     let package = package_tree(alloc, warning.package)?;
-    put_tree(alloc, members, "package", package)?;
+    put_tree(alloc, &mut members, "package", package)?;
     let versions = optional_versions_tree(alloc, warning.versions)?;
-    put_tree(alloc, members, "versions", versions)
-}
-
-impl<'a> ToTree for WarningRef<'a> {
-    ghost use Rattle.rustsec_report.specs.Trees.{warning_tree};
-
-    ghost tree = { warning_tree };
-
-    #[tactic(auto, unfolding(crate::specs::Trees::warning_tree))]
-    fn to_tree(&self, alloc: Global) -> std::result::Result<Value, AllocError> {
-        let mut members = Members::new(alloc);
-        put_warning(alloc, &mut members, self)?;
-        Ok(Value::from(members))
-    }
-}
-
-impl ToTree for Warning {
-    ghost use Rattle.rustsec_report.specs.Trees.{warning_tree};
-
-    ghost tree = { warning_tree };
-
-    fn to_tree(&self, alloc: Global) -> std::result::Result<Value, AllocError> {
-        WarningRef::new(self).to_tree(alloc)
-    }
+    put_tree(alloc, &mut members, "versions", versions)?;
+    Ok(Value::from(members))
 }
 
 /// Sets a key for each kind of warnings, with the list of its warnings.
@@ -149,7 +112,8 @@ fn put_warnings(
         ≡ with_members (members_view members.old.entries) (kinds_of_warnings warnings.now)) }
 {
     for of_kind in warnings {
-        put_value(alloc, members, of_kind.kind.as_str(), &of_kind.list)?;
+        let list = list_tree(alloc, of_kind.list.as_slice())?;
+        put_tree(alloc, members, of_kind.kind.as_str(), list)?;
     }
     Ok(())
 }
@@ -179,26 +143,8 @@ fn severity_tree(
     }
 }
 
-/// Sets the keys of settings.
-#[tactic(auto, unfolding(crate::specs::Trees::with_members))]
-fn put_settings(
-    alloc: Global,
-    members: &mut Members,
-    settings: &Settings,
-) -> std::result::Result<(), AllocError>
-    ensures { OnOk result (members_view members.new.entries
-        ≡ with_members (members_view members.old.entries) (settings_entries settings.now)) }
-{
-    put_value(alloc, members, "ignore", &settings.ignore)?;
-    let kinds = &settings.informational_warnings;
-    put_value(alloc, members, "informational_warnings", kinds)?;
-    let severity = severity_tree(alloc, settings.severity)?;
-    put_tree(alloc, members, "severity", severity)?;
-    put_value(alloc, members, "target_arch", &settings.target_arch)?;
-    put_value(alloc, members, "target_os", &settings.target_os)
-}
-
 /// Builds the tree of settings.
+#[tactic(auto, unfolding(crate::specs::Trees::with_members))]
 pub(crate) fn settings_tree(
     alloc: Global,
     settings: &Settings,
@@ -206,7 +152,13 @@ pub(crate) fn settings_tree(
     ensures { IfOk result (λ v. view v ≡ settings_tree settings.now) }
 {
     let mut members = Members::new(alloc);
-    put_settings(alloc, &mut members, settings)?;
+    put_value(alloc, &mut members, "ignore", &settings.ignore)?;
+    let kinds = &settings.informational_warnings;
+    put_value(alloc, &mut members, "informational_warnings", kinds)?;
+    let severity = severity_tree(alloc, settings.severity)?;
+    put_tree(alloc, &mut members, "severity", severity)?;
+    put_value(alloc, &mut members, "target_arch", &settings.target_arch)?;
+    put_value(alloc, &mut members, "target_os", &settings.target_os)?;
     Ok(Value::from(members))
 }
 
@@ -224,23 +176,8 @@ pub(crate) fn lockfile_tree(
     Ok(Value::from(members))
 }
 
-/// Sets the keys of the vulnerabilities of a report.
-#[tactic(auto, unfolding(crate::specs::Trees::with_members))]
-fn put_info(
-    alloc: Global,
-    members: &mut Members,
-    report: &ReportRef<'_>,
-) -> std::result::Result<(), AllocError>
-    ensures { OnOk result (members_view members.new.entries
-        ≡ with_members (members_view members.old.entries) (info_entries report.now.vulnerabilities)) }
-{
-    put_tree(alloc, members, "count", Value::from(report.count))?;
-    put_tree(alloc, members, "found", Value::from(report.found))?;
-    let list = list_tree(alloc, report.vulnerabilities.as_slice())?;
-    put_tree(alloc, members, "list", list)
-}
-
 /// Builds the tree of the vulnerabilities of a report.
+#[tactic(auto, unfolding(crate::specs::Trees::with_members))]
 fn vulnerabilities_tree(
     alloc: Global,
     report: &ReportRef<'_>,
@@ -248,7 +185,10 @@ fn vulnerabilities_tree(
     ensures { IfOk result (λ v. view v ≡ vulnerabilities_tree report.now.vulnerabilities) }
 {
     let mut members = Members::new(alloc);
-    put_info(alloc, &mut members, report)?;
+    put_tree(alloc, &mut members, "count", Value::from(report.count))?;
+    put_tree(alloc, &mut members, "found", Value::from(report.found))?;
+    let list = list_tree(alloc, report.vulnerabilities.as_slice())?;
+    put_tree(alloc, &mut members, "list", list)?;
     Ok(Value::from(members))
 }
 
