@@ -9,6 +9,8 @@ use Rattle.rustsec_texts.specs.declared.warning_kind.WarningKind.{WarningKind}
 use Rattle.rustsec_report.specs.Trees.{kinds_of_warnings, lockfile_tree, object_of, settings_tree, vulnerability_tree, warning_tree}
 use Rattle.rustsec_report.specs.declared.info.VulnerabilityInfo.{VulnerabilityInfo}
 use Rattle.rustsec_report.specs.declared.report.Report.{Report}
+use Rattle.rustsec_report.specs.declared.report_json.Key.{Key}
+use Rattle.rustsec_report.specs.declared.report_json.Key.TheVariants as key
 use Rattle.rustsec_report.specs.declared.warning.Warning.{Warning}
 
 -- the texts of parts, each after a comma
@@ -42,12 +44,19 @@ rows_text later ((k, Some ws) ∷ rs) =
 abbrev pub kinds_text : Bool → List (WarningKind × List Warning) → List WarningKind → List ℕ
 kinds_text later ws ks = rows_text later (map (λ k. (k, last_list k None ws)) ks)
 
+-- a key of a report, with what is before it
+unfoldable pub key_text : Key → List ℕ
+key_text key.Lockfile = codes "{\"lockfile\":"
+key_text key.Settings = codes ",\"settings\":"
+key_text key.Vulnerabilities = codes ",\"vulnerabilities\":"
+key_text key.Warnings = codes ",\"warnings\":"
+
 -- what a report begins with: its lockfile and its settings
 unfoldable pub beginning_text : Report → List ℕ
-beginning_text r = codes "{\"lockfile\":" ++ (compact_text (lockfile_tree r.lockfile) ++ (codes ",\"settings\":" ++ compact_text (settings_tree r.settings)))
+beginning_text r = key_text key.Lockfile ++ (compact_text (lockfile_tree r.lockfile) ++ (key_text key.Settings ++ compact_text (settings_tree r.settings)))
 
 -- what it ends with: its vulnerabilities and its warnings
 unfoldable pub ending_text : Report → List ℕ
 ending_text r =
-    codes ",\"vulnerabilities\":" ++ (vulnerabilities_text r.vulnerabilities
-    ++ (codes ",\"warnings\":" ++ (compact_text (object_of (kinds_of_warnings r.warnings)) ++ codes "}")))
+    key_text key.Vulnerabilities ++ (vulnerabilities_text r.vulnerabilities
+    ++ (key_text key.Warnings ++ (compact_text (object_of (kinds_of_warnings r.warnings)) ++ codes "}")))

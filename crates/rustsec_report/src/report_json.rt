@@ -5,7 +5,7 @@ ghost use Rattle.serde_json.specs.View.{view};
 ghost use Rattle.serde_json.specs.Written.{comma_if, compact_text, has_float};
 ghost use Rattle.rustsec_values.specs.Failure.{IsMemory};
 ghost use Rattle.rustsec_texts.specs.declared.warning_kind.WarningKind.{WarningKind};
-ghost use Rattle.rustsec_report.specs.ReportText.{beginning_text, ending_text, kinds_text, last_list, later_texts, list_text, vulnerabilities_text};
+ghost use Rattle.rustsec_report.specs.ReportText.{beginning_text, ending_text, key_text, kinds_text, last_list, later_texts, list_text, vulnerabilities_text};
 ghost use Rattle.rustsec_report.specs.Trees.{kinds_of_warnings, object_of, report_tree};
 
 use crate::part::Part;
@@ -90,6 +90,42 @@ fn push_vulnerabilities(
     Ok(())
 }
 
+/// A key of a report, with what is before it.
+#[derive(Clone, Copy)]
+pub(crate) enum Key {
+    /// Begins the report with the key `lockfile`.
+    Lockfile,
+    /// Continues it with the key `settings`.
+    Settings,
+    /// Continues it with the key `vulnerabilities`.
+    Vulnerabilities,
+    /// Continues it with the key `warnings`.
+    Warnings,
+}
+
+impl Key {
+    /// Returns the text up to the key's value.
+    #[tactic(auto, unfolding(crate::specs::ReportText::key_text))]
+    fn text(self) -> &'static str
+        ensures { result.now ≡ key_text self }
+    {
+        match self {
+            Key::Lockfile => "{\"lockfile\":",
+            Key::Settings => ",\"settings\":",
+            Key::Vulnerabilities => ",\"vulnerabilities\":",
+            Key::Warnings => ",\"warnings\":",
+        }
+    }
+}
+
+/// Appends a key of a report.
+fn push_key(json: &mut String, key: Key) -> std::result::Result<(), AllocError>
+    ensures { OnOk result (string_bytes json.new ≡ string_bytes json.old ++ key_text key) }
+{
+    json.push_str(key.text())?;
+    Ok(())
+}
+
 /// Returns the last list of a kind, if any: an object has one value for a key.
 fn last_list<'a, 'b>(
     warnings: &'a [WarningsOfKind<'b>],
@@ -164,9 +200,9 @@ fn push_beginning(
 ) -> std::result::Result<(), AllocError>
     ensures { OnOk result (string_bytes json.new ≡ string_bytes json.old ++ beginning_text report.now) }
 {
-    json.push_str("{\"lockfile\":")?;
+    push_key(json, Key::Lockfile)?;
     push_part(alloc, json, &report.lockfile)?;
-    json.push_str(",\"settings\":")?;
+    push_key(json, Key::Settings)?;
     push_part(alloc, json, report.settings)?;
     Ok(())
 }
@@ -180,9 +216,9 @@ fn push_ending(
 ) -> std::result::Result<(), AllocError>
     ensures { OnOk result (string_bytes json.new ≡ string_bytes json.old ++ ending_text report.now) }
 {
-    json.push_str(",\"vulnerabilities\":")?;
+    push_key(json, Key::Vulnerabilities)?;
     push_vulnerabilities(alloc, json, report)?;
-    json.push_str(",\"warnings\":")?;
+    push_key(json, Key::Warnings)?;
     push_warnings(alloc, json, report.warnings.as_slice())?;
     json.push_str("}")?;
     Ok(())
