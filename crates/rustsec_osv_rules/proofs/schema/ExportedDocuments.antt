@@ -28,14 +28,13 @@ use Rattle.rustsec_advisory.specs.Advisory.{IsAdvisory}
 use Rattle.rustsec_osv.proofs.TablesRoundTrip.{optional-read, text-read, through}
 use Rattle.rustsec_osv_rules.specs.schema.Exports.{HasDays, HasNoon, IsForSchema}
 use Rattle.rustsec_osv_rules.specs.schema.Names.{document_keys, ecosystems_a}
-use Rattle.rustsec_osv_rules.specs.schema.Groups.{KeepsEach, are_severities, is_affected}
+use Rattle.rustsec_osv_rules.specs.schema.Groups.{are_severities, is_affected}
 use Rattle.rustsec_osv_rules.specs.schema.Schema.{IsOsvSchema, has_no_severity, is_range}
 use Rattle.rustsec_osv_rules.specs.schema.Texts.{is_ecosystem, is_id, is_one_line}
-use Rattle.rustsec_osv_rules.specs.schema.TimeScan.{is_time}
+use Rattle.rustsec_osv_rules.specs.schema.Times.{IsTime}
 use Rattle.rustsec_osv_rules.specs.schema.Values.{list_of}
 use Rattle.rustsec_osv_rules.proofs.schema.NoonTimes.{parsed-noon}
-use Rattle.rustsec_osv_rules.proofs.schema.Rules.{schema_from}
-use Rattle.rustsec_osv_rules.proofs.schema.TimeForms.{time-complete, time-sound}
+use Rattle.rustsec_osv_rules.proofs.schema.Rules.{members-at, severities-at}
 use Rattle.rustsec_osv_rules.proofs.schema.ExportedLists.{ids-kept, range-kept, references-kept, severities-kept}
 
 -- there is a range
@@ -59,15 +58,15 @@ member-kept name db a range h =
 -- what a document without a version of the schema needs
 record IsKept (d : Document) (w : Option (List ℕ)) : Type 0 where
   id : is_id d.id.text ≡ true
-  modified : is_time d.modified ≡ true
-  published : is_time d.published ≡ true
-  withdrawn : IfThere (λ day. is_time day ≡ true) w
+  modified : IsTime d.modified
+  published : IsTime d.published
+  withdrawn : IfThere IsTime w
   summary : is_one_line d.summary ≡ true
   severity : are_severities (list_tree severity_tree d.severity) ≡ true
   affected : list_of is_affected (list_tree affected_codec.tree d.affected) ≡ true
   no_severity : list_of has_no_severity (list_tree affected_codec.tree d.affected) ≡ true
 
-document-kept : (d : Document) (w : Option (List ℕ)) → IsKept d w → KeepsEach (document_tree (keyed d None w))
+document-kept : (d : Document) (w : Option (List ℕ)) → IsKept d w → IsOsvSchema (document_tree (keyed d None w))
 unfolding document_keys
 document-kept d None h = record {
   keys = refl;
@@ -75,14 +74,14 @@ document-kept d None h = record {
   id = h.id;
   modified = h.modified;
   published = h.published;
-  withdrawn = refl;
+  withdrawn = tt;
   aliases = ids-kept d.aliases;
   related = ids-kept d.related;
   upstream = refl;
   summary = h.summary;
   details = refl;
-  severity = h.severity;
-  affected = h.affected;
+  severity = (severities-at (document_tree (keyed d None None))).0 h.severity;
+  affected = (members-at (document_tree (keyed d None None))).0 h.affected;
   one_severity = h.no_severity;
   references = references-kept d.references;
   credits = refl;
@@ -100,41 +99,37 @@ document-kept d (Some day) h = record {
   upstream = refl;
   summary = h.summary;
   details = refl;
-  severity = h.severity;
-  affected = h.affected;
+  severity = (severities-at (document_tree (keyed d None (Some day)))).0 h.severity;
+  affected = (members-at (document_tree (keyed d None (Some day)))).0 h.affected;
   one_severity = h.no_severity;
   references = references-kept d.references;
   credits = refl;
   database_specific = refl;
 }
 
-noons : (o : Option (List ℕ)) → IfThere HasNoon o → IfThere (λ day. is_time day ≡ true) (option_map noon o)
+noons : (o : Option (List ℕ)) → IfThere HasNoon o → IfThere IsTime (option_map noon o)
 noons None h = tt
-noons (Some day) h = time-complete (noon day) h
+noons (Some day) h = h
 
 made-kept : (m : Metadata) (a : Option Affected) (modified : List ℕ) (references : List OsvReference) (range : JsonRange) → HasDays m → IsForSchema m modified
     → is_range (range_tree range) ≡ true → IsOsvSchema (document_tree (document_with m a modified references range))
 made-kept m a modified references range days s h =
     let member = member_of (package_of m.«package») (database_of (kinds_of m)) a range in
-    schema_from _ (document-kept (document_with m a modified references range) (option_map noon m.withdrawn) (record {
+    document-kept (document_with m a modified references range) (option_map noon m.withdrawn) (record {
       id = s.id;
-      modified = time-complete modified s.changed;
-      published = time-complete (noon m.date) days.date;
+      modified = s.changed;
+      published = days.date;
       withdrawn = noons m.withdrawn days.withdrawn;
       summary = s.title;
       severity = severities-kept m.cvss s.cvss;
       affected = and_from (is_affected (affected_codec.tree member)) true (member-kept m.«package» (database_of (kinds_of m)) a range h) refl;
       no_severity = refl;
-    }))
+    })
 
 one-kept : (a : Advisory) (modified : List ℕ) (d : Document) → IsDocument a modified d → HasDays a.metadata → IsForSchema a.metadata modified → IsOsvSchema (document_tree d)
 one-kept a modified d h days s =
     subst (λ (x : Document). IsOsvSchema (document_tree x)) (sym h.is)
     (made-kept a.metadata a.affected modified h.references h.range days s (one-range-kept a.versions h.range h.is_range))
-
--- noon of a day that was read
-noon-read : (t date : List ℕ) → date_of t ≡ Some date → HasNoon date
-noon-read t date e = time-sound (noon date) (parsed-noon t date e)
 
 -- the days of an advisory that was read from a text
 pub read-days : (t : List ℕ) (a : Advisory) → IsAdvisory t a → HasDays a.metadata
@@ -142,8 +137,8 @@ read-days t a h =
     let of_table = h.1.is_of.metadata in
     let table = h.1.is_of.advisory_table in
     record {
-      date = through (get_member (codes "date") table) (text date_of) HasNoon (text-read date_of HasNoon noon-read) a.metadata.date of_table.subject.date;
-      withdrawn = optional-read (text date_of) HasNoon (text-read date_of HasNoon noon-read) (get_member (codes "withdrawn") table) a.metadata.withdrawn of_table.terms.withdrawn;
+      date = through (get_member (codes "date") table) (text date_of) HasNoon (text-read date_of HasNoon parsed-noon) a.metadata.date of_table.subject.date;
+      withdrawn = optional-read (text date_of) HasNoon (text-read date_of HasNoon parsed-noon) (get_member (codes "withdrawn") table) a.metadata.withdrawn of_table.terms.withdrawn;
     }
 
 -- the tree of a document

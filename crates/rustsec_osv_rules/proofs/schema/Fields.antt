@@ -6,20 +6,11 @@ use Rattle.std.specs.Cmp.Lexicographic.{bytes_decides}
 use Rattle.std.specs.Str.{bytes_eq}
 use Rattle.std.proofs.lemmas.Bool.{and_parts, or_left, or_right}
 use Rattle.std.proofs.lemmas.List.Folds.{list_any-append}
+use Rattle.rustsec_versions.proofs.lemmas.lists.Contained.{contains-cases, contains-here, contains-there}
 use Rattle.rustsec_osv_rules.specs.schema.Metrics.{Metric}
 use Rattle.rustsec_osv_rules.specs.schema.Vectors.{IsField}
 
 -- ---- members of lists
-
-pub contains-here : {X : Type 0} (x : X) (xs : List X) → Contains (x ∷ xs) x
-contains-here x xs = (0, omega arith, refl)
-
-pub contains-later : {X : Type 0} (x y : X) (xs : List X) → Contains xs y → Contains (x ∷ xs) y
-contains-later x y xs (k, l, e) = (suc k, omega (arith, l), e)
-
-pub contains-cases : {X : Type 0} (x y : X) (xs : List X) → Contains (x ∷ xs) y → (x ≡ y) ⊎ Contains xs y
-contains-cases x y xs (zero, l, e) = inl e
-contains-cases x y xs (suc k, l, e) = inr (k, omega (arith, l), e)
 
 any-here : {X : Type 0} (P : X → Type 0) (x : X) (xs : List X) → P x → Any P (x ∷ xs)
 any-here P x xs p = (0, x, omega arith, refl, p)
@@ -75,7 +66,7 @@ written metrics = flat_map fields_of metrics
 -- a list of texts made of values
 pub made-has : (make : List ℕ → List ℕ) (values : List (List ℕ)) (v : List ℕ) → Contains values v → has (map make values) (make v) ≡ true
 made-has make [] v (k, l, e) = absurd (omega (arith, l))
-made-has make (x ∷ values) v c = elim (contains-cases x v values c) [
+made-has make (x ∷ values) v c = elim (contains-cases v x values c) [
   | inl e ↦ or_left (bytes_eq (make v) (make x)) _ (subst (λ (y : List ℕ). bytes_eq (make v) (make y) ≡ true) (sym e) (same-self (make v)))
   | inr later ↦ or_right (bytes_eq (make v) (make x)) _ (made-has make values v later)
 ]
@@ -85,7 +76,7 @@ pub made-from : (make : List ℕ → List ℕ) (values : List (List ℕ)) (t : L
 made-from make [] t h = cc h
 made-from make (x ∷ values) t h = elim (or-cases (bytes_eq t (make x)) (has (map make values) t) h) [
   | inl e ↦ (x, contains-here x values, (bytes_decides t (make x)).0 e)
-  | inr e ↦ let later = made-from make values t e in (later.0, contains-later x later.0 values later.1, later.2)
+  | inr e ↦ let later = made-from make values t e in (later.0, contains-there later.0 x values later.1, later.2)
 ]
 
 pub field-has : (m : Metric) (t : List ℕ) → IsField m t → has (fields_of m) t ≡ true

@@ -8,7 +8,8 @@ use Rattle.std.proofs.lemmas.Option.{cond_some, same_Some}
 use Rattle.rustsec_osv_rules.specs.schema.Metrics.{Metric}
 use Rattle.rustsec_osv_rules.specs.schema.VectorScan.{Row, after_each, after_letter, after_metric, after_optionals, after_prefix}
 use Rattle.rustsec_osv_rules.specs.schema.Vectors.{IsField, IsFieldIfAny, joined}
-use Rattle.rustsec_osv_rules.proofs.schema.Fields.{contains-cases, contains-here, contains-later, or-cases}
+use Rattle.rustsec_versions.proofs.lemmas.lists.Contained.{contains-cases, contains-here, contains-there}
+use Rattle.rustsec_osv_rules.proofs.schema.Fields.{or-cases}
 
 -- ---- a prefix
 
@@ -42,7 +43,7 @@ letter-listed [] l b h = cc h
 letter-listed ([] ∷ values) l b h = cc l
 letter-listed ((c ∷ []) ∷ values) l b h = elim (or-cases (nat_eq b c) (list_any (nat_eq b) (concat values)) h) [
   | inl e ↦ subst (λ (x : ℕ). Contains ((x ∷ []) ∷ values) (b ∷ [])) (eqb-true b c e) (contains-here (b ∷ []) values)
-  | inr e ↦ contains-later (c ∷ []) (b ∷ []) values (letter-listed values l b e)
+  | inr e ↦ contains-there (b ∷ []) (c ∷ []) values (letter-listed values l b e)
 ]
 letter-listed ((c ∷ d ∷ tail) ∷ values) l b h =
     let one = eqb-true (length (c ∷ d ∷ tail)) 1 (and_parts (length (c ∷ d ∷ tail) == 1) _ l).0 in absurd (omega (arith, one))
@@ -52,7 +53,7 @@ letter-from : (values : List (List ℕ)) → list_all (λ v. length v == 1) valu
     → (b : ℕ) × (v ≡ b ∷ []) × (list_any (nat_eq b) (concat values) ≡ true)
 letter-from [] l v (k, lt, e) = absurd (omega (arith, lt))
 letter-from ([] ∷ values) l v c = cc l
-letter-from ((x ∷ []) ∷ values) l v c = elim (contains-cases (x ∷ []) v values c) [
+letter-from ((x ∷ []) ∷ values) l v c = elim (contains-cases v (x ∷ []) values c) [
   | inl e ↦ (x, sym e, or_left (nat_eq x x) _ (eq-eqb x x refl))
   | inr later ↦ let of = letter-from values l v later in (of.0, of.1, or_right (nat_eq of.0 x) _ of.2)
 ]

@@ -7,7 +7,7 @@ use Rattle.std.proofs.lemmas.Bool.{and_from, and_parts, or_left, or_right}
 use Rattle.serde_json.specs.Data.{Data, Items, item, no_items}
 use Rattle.serde_json.specs.Find.{as_array, as_str, get}
 use Rattle.rustsec_json.specs.Codecs.{IfThere}
-use Rattle.rustsec_osv_rules.specs.schema.Groups.{KeepsEach, are_scored, are_severities, is_affected, is_severity, keeps_all, keeps_lists, keeps_texts}
+use Rattle.rustsec_osv_rules.specs.schema.Groups.{are_scored, are_severities, is_affected, is_severity, keeps_all, keeps_lists, keeps_texts}
 use Rattle.rustsec_osv_rules.specs.schema.Names.{priorities}
 use Rattle.rustsec_osv_rules.specs.schema.Schema.{AreSeverities, IsAffected, IsOsvSchema, IsSeverity, text_at}
 use Rattle.rustsec_osv_rules.specs.schema.Texts.{is_one_of}
@@ -17,62 +17,10 @@ use Rattle.rustsec_osv_rules.specs.schema.Values.{Every, IsThere, ListOf, Option
 use Rattle.rustsec_osv_rules.specs.schema.VectorScan.{is_score, is_vector_2, is_vector_3, is_vector_4}
 use Rattle.rustsec_osv_rules.specs.schema.Vectors.{IsScore}
 use Rattle.rustsec_osv_rules.proofs.schema.FieldLists.{vector-2, vector-2-kept}
-use Rattle.rustsec_osv_rules.proofs.schema.Fields.{contains-cases, contains-here, contains-later, or-cases}
+use Rattle.rustsec_versions.proofs.lemmas.lists.Contained.{contains-cases, contains-here, contains-there}
+use Rattle.rustsec_osv_rules.proofs.schema.Fields.{or-cases}
 use Rattle.rustsec_osv_rules.proofs.schema.TimeForms.{time-complete, time-sound}
 use Rattle.rustsec_osv_rules.proofs.schema.VectorForms.{vector-3, vector-3-kept, vector-4, vector-4-kept}
-
--- from the rules to the groups
-texts_from : (d : Data) → KeepsEach d → keeps_texts d ≡ true
-texts_from d s =
-    and_from _ _ s.schema_version (and_from _ _ s.id (and_from _ _ s.modified (and_from _ _ s.published
-    (and_from _ _ s.withdrawn (and_from _ _ s.summary s.details)))))
-
-lists_from : (d : Data) → KeepsEach d → keeps_lists d ≡ true
-lists_from d s =
-    and_from _ _ s.aliases (and_from _ _ s.related (and_from _ _ s.upstream (and_from _ _ s.severity (and_from _ _ s.affected
-    (and_from _ _ s.one_severity (and_from _ _ s.references (and_from _ _ s.credits s.database_specific)))))))
-
-pub all_from : (d : Data) → KeepsEach d → keeps_all d ≡ true
-all_from d s = and_from _ _ s.keys (and_from _ _ (texts_from d s) (lists_from d s))
-
--- and back
-pub rules_from : (d : Data) → keeps_all d ≡ true → KeepsEach d
-rules_from d h =
-    let all = and_parts _ _ h in
-    let groups = and_parts _ _ all.1 in
-    let t0 = and_parts _ _ groups.0 in
-    let t1 = and_parts _ _ t0.1 in
-    let t2 = and_parts _ _ t1.1 in
-    let t3 = and_parts _ _ t2.1 in
-    let t4 = and_parts _ _ t3.1 in
-    let t5 = and_parts _ _ t4.1 in
-    let l0 = and_parts _ _ groups.1 in
-    let l1 = and_parts _ _ l0.1 in
-    let l2 = and_parts _ _ l1.1 in
-    let l3 = and_parts _ _ l2.1 in
-    let l4 = and_parts _ _ l3.1 in
-    let l5 = and_parts _ _ l4.1 in
-    let l6 = and_parts _ _ l5.1 in
-    let l7 = and_parts _ _ l6.1 in
-    record {
-      keys = all.0;
-      schema_version = t0.0;
-      id = t1.0;
-      modified = t2.0;
-      published = t3.0;
-      withdrawn = t4.0;
-      aliases = l0.0;
-      related = l1.0;
-      upstream = l2.0;
-      summary = t5.0;
-      details = t5.1;
-      severity = l3.0;
-      affected = l4.0;
-      one_severity = l5.0;
-      references = l6.0;
-      credits = l7.0;
-      database_specific = l7.1;
-    }
 
 -- ---- scans and forms
 
@@ -138,9 +86,9 @@ one-of [] t = (λ h. cc h, λ c. absurd (omega (arith, c.1)))
 one-of (name ∷ names) t = (
   λ h. elim (or-cases (bytes_eq t name) (is_one_of names t) h) [
     | inl e ↦ subst (λ (x : List ℕ). Contains (x ∷ names) t) ((bytes_decides t name).0 e) (contains-here t names)
-    | inr e ↦ contains-later name t names ((one-of names t).0 e)
+    | inr e ↦ contains-there t name names ((one-of names t).0 e)
   ],
-  λ c. elim (contains-cases name t names c) [
+  λ c. elim (contains-cases t name names c) [
     | inl e ↦ or_left (bytes_eq t name) (is_one_of names t) ((bytes_decides t name).1 (sym e))
     | inr later ↦ or_right (bytes_eq t name) (is_one_of names t) ((one-of names t).1 later)
   ],
@@ -169,7 +117,7 @@ severity-rule d = (
 severities-rule : (d : Data) → (are_severities d ≡ true) ↔ AreSeverities d
 severities-rule d = or-null (list_of is_severity) (ListOf IsSeverity) (list-rule is_severity IsSeverity severity-rule) d
 
-severities-at : (d : Data) → (optional (codes "severity") are_severities d ≡ true) ↔ Optional (codes "severity") AreSeverities d
+pub severities-at : (d : Data) → (optional (codes "severity") are_severities d ≡ true) ↔ Optional (codes "severity") AreSeverities d
 severities-at d = if-there are_severities AreSeverities severities-rule (get (codes "severity") d)
 
 affected-sound : (d : Data) → is_affected d ≡ true → IsAffected d
@@ -207,53 +155,62 @@ modified-at d = there (text_of is_time) (TextOf IsTime) time-rule (get (codes "m
 time-at : (key : List ℕ) (d : Data) → (optional key (text_of is_time) d ≡ true) ↔ Optional key (TextOf IsTime) d
 time-at key d = if-there (text_of is_time) (TextOf IsTime) time-rule (get key d)
 
-members-at : (d : Data) → (optional (codes "affected") (or_null (list_of is_affected)) d ≡ true) ↔ Optional (codes "affected") (OrNull (ListOf IsAffected)) d
+pub members-at : (d : Data) → (optional (codes "affected") (or_null (list_of is_affected)) d ≡ true) ↔ Optional (codes "affected") (OrNull (ListOf IsAffected)) d
 members-at d = if-there (or_null (list_of is_affected)) (OrNull (ListOf IsAffected)) members-rule (get (codes "affected") d)
 
--- a document that keeps the tests keeps the schema
-pub schema_from : (d : Data) → KeepsEach d → IsOsvSchema d
-schema_from d s = record {
-  keys = s.keys;
-  schema_version = s.schema_version;
-  id = s.id;
-  modified = (modified-at d).0 s.modified;
-  published = (time-at (codes "published") d).0 s.published;
-  withdrawn = (time-at (codes "withdrawn") d).0 s.withdrawn;
-  aliases = s.aliases;
-  related = s.related;
-  upstream = s.upstream;
-  summary = s.summary;
-  details = s.details;
-  severity = (severities-at d).0 s.severity;
-  affected = (members-at d).0 s.affected;
-  one_severity = s.one_severity;
-  references = s.references;
-  credits = s.credits;
-  database_specific = s.database_specific;
-}
+-- a document that keeps the groups keeps the schema
+schema_from : (d : Data) → keeps_all d ≡ true → IsOsvSchema d
+schema_from d h =
+    let all = and_parts _ _ h in
+    let groups = and_parts _ _ all.1 in
+    let t0 = and_parts _ _ groups.0 in
+    let t1 = and_parts _ _ t0.1 in
+    let t2 = and_parts _ _ t1.1 in
+    let t3 = and_parts _ _ t2.1 in
+    let t4 = and_parts _ _ t3.1 in
+    let t5 = and_parts _ _ t4.1 in
+    let l0 = and_parts _ _ groups.1 in
+    let l1 = and_parts _ _ l0.1 in
+    let l2 = and_parts _ _ l1.1 in
+    let l3 = and_parts _ _ l2.1 in
+    let l4 = and_parts _ _ l3.1 in
+    let l5 = and_parts _ _ l4.1 in
+    let l6 = and_parts _ _ l5.1 in
+    let l7 = and_parts _ _ l6.1 in
+    record {
+      keys = all.0;
+      schema_version = t0.0;
+      id = t1.0;
+      modified = (modified-at d).0 t2.0;
+      published = (time-at (codes "published") d).0 t3.0;
+      withdrawn = (time-at (codes "withdrawn") d).0 t4.0;
+      aliases = l0.0;
+      related = l1.0;
+      upstream = l2.0;
+      summary = t5.0;
+      details = t5.1;
+      severity = (severities-at d).0 l3.0;
+      affected = (members-at d).0 l4.0;
+      one_severity = l5.0;
+      references = l6.0;
+      credits = l7.0;
+      database_specific = l7.1;
+    }
 
 -- and back
-pub tests_from : (d : Data) → IsOsvSchema d → KeepsEach d
-tests_from d s = record {
-  keys = s.keys;
-  schema_version = s.schema_version;
-  id = s.id;
-  modified = (modified-at d).1 s.modified;
-  published = (time-at (codes "published") d).1 s.published;
-  withdrawn = (time-at (codes "withdrawn") d).1 s.withdrawn;
-  aliases = s.aliases;
-  related = s.related;
-  upstream = s.upstream;
-  summary = s.summary;
-  details = s.details;
-  severity = (severities-at d).1 s.severity;
-  affected = (members-at d).1 s.affected;
-  one_severity = s.one_severity;
-  references = s.references;
-  credits = s.credits;
-  database_specific = s.database_specific;
-}
+texts_from : (d : Data) → IsOsvSchema d → keeps_texts d ≡ true
+texts_from d s =
+    and_from _ _ s.schema_version (and_from _ _ s.id (and_from _ _ ((modified-at d).1 s.modified) (and_from _ _ ((time-at (codes "published") d).1 s.published)
+    (and_from _ _ ((time-at (codes "withdrawn") d).1 s.withdrawn) (and_from _ _ s.summary s.details)))))
+
+lists_from : (d : Data) → IsOsvSchema d → keeps_lists d ≡ true
+lists_from d s =
+    and_from _ _ s.aliases (and_from _ _ s.related (and_from _ _ s.upstream (and_from _ _ ((severities-at d).1 s.severity)
+    (and_from _ _ ((members-at d).1 s.affected) (and_from _ _ s.one_severity (and_from _ _ s.references (and_from _ _ s.credits s.database_specific)))))))
 
 -- an answer that is whether a document keeps the groups decides whether it keeps the schema
 pub decided : (d : Data) (answer : Bool) → answer ≡ keeps_all d → (answer ≡ true) ↔ IsOsvSchema d
-decided d answer e = (λ yes. schema_from d (rules_from d (rw (← e) yes)), λ s. rw e (all_from d (tests_from d s)))
+decided d answer e = (
+  λ yes. schema_from d (rw (← e) yes),
+  λ s. rw e (and_from _ _ s.keys (and_from _ _ (texts_from d s) (lists_from d s))),
+)

@@ -22,10 +22,10 @@ digit c h =
     let high : c ≤ 57 = leb-true c 57 parts.1 in
     rw (le-ltb c 48 low, lt-ltb c 58 (omega arith)) refl
 
-pub two : (a b : ℕ) → is_ascii_digit a ≡ true → is_ascii_digit b ≡ true → 10 * (a - 48) + (b - 48) ≡ digits_value 10 (a ∷ b ∷ [])
+two : (a b : ℕ) → is_ascii_digit a ≡ true → is_ascii_digit b ≡ true → 10 * (a - 48) + (b - 48) ≡ digits_value 10 (a ∷ b ∷ [])
 two a b p q = rw (digit a p, digit b q) (omega arith)
 
-pub four : (a b c d : ℕ) → is_ascii_digit a ≡ true → is_ascii_digit b ≡ true → is_ascii_digit c ≡ true → is_ascii_digit d ≡ true
+four : (a b c d : ℕ) → is_ascii_digit a ≡ true → is_ascii_digit b ≡ true → is_ascii_digit c ≡ true → is_ascii_digit d ≡ true
     → 100 * (10 * (a - 48) + (b - 48)) + (10 * (c - 48) + (d - 48)) ≡ digits_value 10 (a ∷ b ∷ c ∷ d ∷ [])
 four a b c d p q r s = rw (digit a p, digit b q, digit c r, digit d s) (omega arith)
 

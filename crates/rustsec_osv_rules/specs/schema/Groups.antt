@@ -1,5 +1,5 @@
 -- The rules of a document as the decision asks them: times and scores by their scans, and all rules in two groups.
-use Rattle.std.specs.Prelude.{◌≡◌, ◌&&◌, ℕ, Bool, false, true, List, Option, Some, None, codes}
+use Rattle.std.specs.Prelude.{◌&&◌, ℕ, Bool, false, List, Option, Some, None, codes}
 use Rattle.serde_json.specs.Data.{Data}
 use Rattle.rustsec_osv_rules.specs.schema.Names.{document_keys}
 use Rattle.rustsec_osv_rules.specs.schema.Schema.{are_texts, has_one_place_of_severity, is_credit, is_package, is_range, is_reference, text_at}
@@ -45,23 +45,3 @@ keeps_lists d = optional (codes "aliases") are_texts d && (optional (codes "rela
 
 abbrev pub keeps_all : Data → Bool
 keeps_all d = object_of document_keys d && (keeps_texts d && keeps_lists d)
-
--- the fields of `IsOsvSchema`, by these tests
-pub record KeepsEach (d : Data) : Type 0 where
-  pub keys : object_of document_keys d ≡ true
-  pub schema_version : optional (codes "schema_version") is_text d ≡ true
-  pub id : required (codes "id") (text_of is_id) d ≡ true
-  pub modified : required (codes "modified") (text_of is_time) d ≡ true
-  pub published : optional (codes "published") (text_of is_time) d ≡ true
-  pub withdrawn : optional (codes "withdrawn") (text_of is_time) d ≡ true
-  pub aliases : optional (codes "aliases") are_texts d ≡ true
-  pub related : optional (codes "related") are_texts d ≡ true
-  pub upstream : optional (codes "upstream") are_texts d ≡ true
-  pub summary : optional (codes "summary") (text_of is_one_line) d ≡ true
-  pub details : optional (codes "details") is_text d ≡ true
-  pub severity : optional (codes "severity") are_severities d ≡ true
-  pub affected : optional (codes "affected") (or_null (list_of is_affected)) d ≡ true
-  pub one_severity : has_one_place_of_severity d ≡ true
-  pub references : optional (codes "references") (or_null (list_of is_reference)) d ≡ true
-  pub credits : optional (codes "credits") (list_of is_credit) d ≡ true
-  pub database_specific : optional (codes "database_specific") is_object d ≡ true

@@ -3,11 +3,11 @@
 ghost use Rattle.std.specs.Prelude.{◌≡◌, map, option_map};
 ghost use Rattle.std.specs.List.{list_all};
 ghost use Rattle.rustsec_osv.specs.DocumentEvents.{event_of};
-ghost use Rattle.rustsec_osv_rules.specs.evaluation.Order.{at, follows, has_ordered_events, is_ordered_member, is_ordered_range, rise};
+ghost use Rattle.rustsec_osv_rules.specs.evaluation.Order.{at, follows, has_ordered_events, is_ordered_range, rise};
 ghost use Rattle.semver.specs.Identifiers.{parts_of};
 
 use crate::evaluation::affected::ranges_of;
-use rustsec_osv::{OsvAdvisory, OsvAffected, OsvJsonRange, OsvTimelineEvent};
+use rustsec_osv::{OsvAdvisory, OsvJsonRange, OsvTimelineEvent};
 use semver::Version;
 
 /// Returns the version of an event.
@@ -59,23 +59,17 @@ fn are_ordered(ranges: &[OsvJsonRange]) -> bool
     true
 }
 
-/// Returns whether the events of each range of each member rise.
+/// Returns whether the versions of the events of each range rise, in precedence. The OSV schema does not require this
+/// order. It takes no memory.
 #[tactic(auto, using(crate::proofs::evaluation::Ordered::all_more, crate::proofs::evaluation::Ordered::all_stop, crate::proofs::evaluation::Ordered::all_end))]
-fn are_ordered_members(members: &[OsvAffected]) -> bool
-    ensures { result ≡ list_all is_ordered_member members.now }
+pub fn has_ordered_events(document: &OsvAdvisory) -> bool
+    ensures { result ≡ has_ordered_events document.now }
 {
+    let members = document.affected.as_slice();
     for member in members {
         if !are_ordered(ranges_of(member)) {
             return false;
         }
     }
     true
-}
-
-/// Returns whether the versions of the events of each range rise, in precedence. The OSV schema does not require this
-/// order. It takes no memory.
-pub fn has_ordered_events(document: &OsvAdvisory) -> bool
-    ensures { result ≡ has_ordered_events document.now }
-{
-    are_ordered_members(document.affected.as_slice())
 }

@@ -4,9 +4,10 @@ ghost use Rattle.std.specs.Prelude.{◌≡◌, ◌≤◌, cond, option_map};
 ghost use Rattle.serde_json.specs.View.{view};
 ghost use Rattle.rustsec_osv_rules.specs.schema.Schema.{are_ends_alike, has_repository, is_at_one_key, text_at};
 
-use crate::schema::forms::{CommitType, EcosystemForm, RangeType};
+use crate::schema::forms::{CommitType, RangeType};
+use crate::schema::names::EcosystemForm;
 use crate::schema::rule::{
-    AnyObject, AnyText, ListOf, Null, OrNull, Rule, TextOf, has, list_with, optional, required,
+    AnyObject, AnyText, ListOf, OrNull, Rule, TextOf, has, list_with, optional, required,
 };
 use crate::schema::vectors::is_score;
 use serde_json::Value;
@@ -205,6 +206,9 @@ impl Rule for NoSeverity {
     ghost rule = { has_no_severity };
 
     fn holds(value: &Value) -> bool {
-        optional::<Null>(value, "severity")
+        match value.get("severity") {
+            Some(severity) => severity.is_null(),
+            None => true,
+        }
     }
 }

@@ -2,11 +2,9 @@
 
 ghost use Rattle.std.specs.Prelude.{◌≡◌};
 ghost use Rattle.std.specs.List.{list_any};
-ghost use Rattle.rustsec_osv_rules.specs.schema.Texts.{is_line_end, is_one_line};
+ghost use Rattle.rustsec_osv_rules.specs.schema.Texts.{is_line_end};
 
-use crate::schema::names::{
-    credit_types, is_ecosystem, is_id, is_one_of, range_types, reference_types,
-};
+use crate::schema::names::{credit_types, is_one_of, range_types, reference_types};
 use crate::schema::rule::Form;
 use crate::schema::time::is_time;
 
@@ -22,26 +20,6 @@ fn has_line_end(text: &[u8]) -> bool
     ensures { result ≡ list_any is_line_end text.now }
 {
     text.iter().any(|b| is_line_end(*b))
-}
-
-/// Returns whether a text has no end of a line.
-fn is_one_line(text: &str) -> bool
-    ensures { result ≡ is_one_line text.now }
-{
-    !has_line_end(text.as_bytes())
-}
-
-/// An ID.
-pub(crate) struct IdForm;
-
-impl Form for IdForm {
-    ghost use Rattle.rustsec_osv_rules.specs.schema.Texts.{is_id};
-
-    ghost form = { is_id };
-
-    fn fits(text: &str) -> bool {
-        is_id(text)
-    }
 }
 
 /// A time in UTC.
@@ -66,20 +44,7 @@ impl Form for LineForm {
     ghost form = { is_one_line };
 
     fn fits(text: &str) -> bool {
-        is_one_line(text)
-    }
-}
-
-/// An ecosystem.
-pub(crate) struct EcosystemForm;
-
-impl Form for EcosystemForm {
-    ghost use Rattle.rustsec_osv_rules.specs.schema.Texts.{is_ecosystem};
-
-    ghost form = { is_ecosystem };
-
-    fn fits(text: &str) -> bool {
-        is_ecosystem(text)
+        !has_line_end(text.as_bytes())
     }
 }
 

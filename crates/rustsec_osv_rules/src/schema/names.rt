@@ -2,7 +2,9 @@
 
 ghost use Rattle.std.specs.Prelude.{◌≡◌, map};
 ghost use Rattle.rustsec_osv_rules.specs.schema.Names.{credit_types, ecosystems_a, ecosystems_b, ecosystems_c, id_prefixes_a, id_prefixes_b, id_prefixes_c, id_prefixes_d, priorities, range_types, reference_types};
-ghost use Rattle.rustsec_osv_rules.specs.schema.Texts.{begins_with_one_of, has_suffix_of, is_ecosystem, is_id, is_one_of, is_suffix, is_suffixed};
+ghost use Rattle.rustsec_osv_rules.specs.schema.Texts.{begins_with_one_of, has_suffix_of, is_one_of, is_suffix, is_suffixed};
+
+use crate::schema::rule::Form;
 
 /// Returns whether a text is one of some names.
 #[tactic(auto, using(crate::proofs::schema::Folds::any_more, crate::proofs::schema::Folds::any_stop, crate::proofs::schema::Folds::any_end))]
@@ -230,24 +232,36 @@ pub(crate) fn priorities() -> &'static [&'static str]
     &["negligible", "low", "medium", "high", "critical"]
 }
 
-/// Returns whether a text begins as an ID.
-pub(crate) fn is_id(text: &str) -> bool
-    ensures { result ≡ is_id text.now }
-{
-    let text = text.as_bytes();
-    begins_with_one_of(id_prefixes_a(), text)
-        || begins_with_one_of(id_prefixes_b(), text)
-        || begins_with_one_of(id_prefixes_c(), text)
-        || begins_with_one_of(id_prefixes_d(), text)
+/// An ID.
+pub(crate) struct IdForm;
+
+impl Form for IdForm {
+    ghost use Rattle.rustsec_osv_rules.specs.schema.Texts.{is_id};
+
+    ghost form = { is_id };
+
+    fn fits(text: &str) -> bool {
+        let text = text.as_bytes();
+        begins_with_one_of(id_prefixes_a(), text)
+            || begins_with_one_of(id_prefixes_b(), text)
+            || begins_with_one_of(id_prefixes_c(), text)
+            || begins_with_one_of(id_prefixes_d(), text)
+    }
 }
 
-/// Returns whether a text is an ecosystem, with or without a suffix.
-pub(crate) fn is_ecosystem(text: &str) -> bool
-    ensures { result ≡ is_ecosystem text.now }
-{
-    let text = text.as_bytes();
-    if has_suffix_of(ecosystems_a(), text) || has_suffix_of(ecosystems_b(), text) {
-        return true;
+/// An ecosystem, with or without a suffix.
+pub(crate) struct EcosystemForm;
+
+impl Form for EcosystemForm {
+    ghost use Rattle.rustsec_osv_rules.specs.schema.Texts.{is_ecosystem};
+
+    ghost form = { is_ecosystem };
+
+    fn fits(text: &str) -> bool {
+        let text = text.as_bytes();
+        if has_suffix_of(ecosystems_a(), text) || has_suffix_of(ecosystems_b(), text) {
+            return true;
+        }
+        has_suffix_of(ecosystems_c(), text)
     }
-    has_suffix_of(ecosystems_c(), text)
 }

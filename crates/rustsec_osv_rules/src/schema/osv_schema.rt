@@ -8,8 +8,9 @@ ghost use Rattle.rustsec_osv_rules.specs.schema.Schema.{IsOsvSchema, has_one_pla
 ghost use Rattle.rustsec_osv_rules.specs.schema.Values.{object_of};
 
 use crate::schema::affected::{Affected, NoSeverity, Severities};
-use crate::schema::forms::{CreditType, IdForm, LineForm, ReferenceType, TimeForm};
+use crate::schema::forms::{CreditType, LineForm, ReferenceType, TimeForm};
 use crate::schema::keys::has_only;
+use crate::schema::names::IdForm;
 use crate::schema::rule::{
     AnyObject, AnyText, ListOf, OrNull, Rule, TextOf, has, optional, required,
 };

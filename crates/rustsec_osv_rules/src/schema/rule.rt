@@ -115,19 +115,6 @@ impl Rule for AnyObject {
     }
 }
 
-/// Null.
-pub(crate) struct Null;
-
-impl Rule for Null {
-    ghost use Rattle.rustsec_osv_rules.specs.schema.Values.{is_null};
-
-    ghost rule = { is_null };
-
-    fn holds(value: &Value) -> bool {
-        value.is_null()
-    }
-}
-
 /// A text of a form.
 pub(crate) struct TextOf<F: Form>(PhantomData<F>);
 

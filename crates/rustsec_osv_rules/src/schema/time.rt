@@ -5,7 +5,7 @@ ghost use Rattle.std.specs.Char.{is_ascii_digit};
 ghost use Rattle.std.specs.Cmp.Lexicographic.{pointwise};
 ghost use Rattle.std.specs.List.{list_all};
 ghost use Rattle.std.specs.Str.{bytes_eq};
-ghost use Rattle.rustsec_osv_rules.specs.schema.TimeScan.{fits, has_leap_second, has_moment, has_real_day, has_time_of_day, has_usual_time, is_fraction, is_time, is_zone, two_digits, year_of};
+ghost use Rattle.rustsec_osv_rules.specs.schema.TimeScan.{fits, has_leap_second, has_moment, has_real_day, has_usual_time, is_fraction, is_time, is_zone, two_digits, year_of};
 ghost use Rattle.rustsec_texts.specs.Dates.{days_in_month, is_leap_year, is_real_day};
 
 /// The shape of a time before its zone; 0 is any digit.
@@ -112,14 +112,6 @@ fn has_leap_second(text: &[u8]) -> bool
         && two_digits(text, 8) == days_in_month(year_of(text), two_digits(text, 5))
 }
 
-/// Returns whether a time has an hour, a minute and a second of a day, or is a leap second.
-fn has_time_of_day(text: &[u8]) -> bool
-    requires { 18 < length text.now }
-    ensures { result ≡ has_time_of_day text.now }
-{
-    has_usual_time(text) || has_leap_second(text)
-}
-
 /// Returns whether a text is a point, digits and Z.
 fn is_fraction(rest: &[u8]) -> bool
     ensures { result ≡ is_fraction rest.now }
@@ -140,7 +132,7 @@ fn has_moment(text: &[u8]) -> bool
     requires { 18 < length text.now }
     ensures { result ≡ has_moment text.now }
 {
-    has_real_day(text) && has_time_of_day(text)
+    has_real_day(text) && (has_usual_time(text) || has_leap_second(text))
 }
 
 /// Returns whether a text has a day, a time of it and the zone.
